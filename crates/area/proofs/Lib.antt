@@ -1,0 +1,4 @@
+pub mod Lists
+pub mod Clearing
+pub mod Parts
+pub mod Laying
