@@ -1,0 +1,4 @@
+pub mod Values
+pub mod Ascii
+pub mod Numbers
+pub mod Printing

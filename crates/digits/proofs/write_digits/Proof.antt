@@ -1,0 +1,44 @@
+use mathlib.Core.Path.{sym, ap, _∙_}
+use borrow.Author.Needs.{needs}
+use lib.Seq.{length-take-le}
+use lib.ListN.{length}
+use Rattle.area.specs.Area.{placing, laid}
+use Rattle.digits.proofs.Printing.{spelt}
+use Rattle.digits.proofs.write_digits.Statement.{statement}
+use Rattle.digits.proofs.write_digits.Tie as tie
+
+at-most-twenty-requires : tie.Need-at-most-twenty-requires
+at-most-twenty-requires c κs = search needs
+
+spell-requires : tie.Need-spell-requires
+spell-requires c κs = search needs
+
+array-share-prefix-bytes : tie.Need-array-share-prefix-bytes
+array-share-prefix-bytes c = search needs
+
+slice-aggregate-copy-into : tie.Need-slice-aggregate-copy-into
+slice-aggregate-copy-into c = sym (length-take-le _ _ (array-share-prefix-bytes (c .before)))
+
+copy-into-requires : tie.Need-copy-into-requires
+copy-into-requires c κs = search needs
+
+same-length : tie.Need-same-length
+same-length c = search needs
+
+returns : tie.Need-returns
+returns c = let o = c .before .before .before .before .before .before .before .before .args .out .now in
+    let e = c .before .before .copy-into .ensures in
+    let f = spelt _ _ _ _ (c .before .before .before .before .before .before .at-most-twenty .ensures) (c .before .before .before .before .before .spell .ensures) in
+    (e .0 ∙ ap (placing 16 (length o)) f, e .1 ∙ ap (laid o) f)
+
+pub write-digits-spec : {M : Type 1} → statement M
+write-digits-spec =
+    tie.close
+    (tie.spec
+    at-most-twenty-requires
+    spell-requires
+    array-share-prefix-bytes
+    slice-aggregate-copy-into
+    copy-into-requires
+    same-length
+    returns)

@@ -1,0 +1,3 @@
+mod Comparing
+mod Searching
+pub mod NameLaws

@@ -1,0 +1,2 @@
+pub mod DigitText
+pub mod Integers

@@ -1,0 +1,8 @@
+pub mod Answers
+mod Naming
+pub mod Letters
+pub mod Behind
+pub mod Decoding
+mod Checking
+pub mod Keeping
+mod Examples

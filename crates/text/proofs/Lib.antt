@@ -1,0 +1,10 @@
+pub mod Filtering
+pub mod Putting
+mod Cleaning
+mod Pieces
+mod Writing
+mod Keys
+pub mod Checking
+pub mod Values
+pub mod Gathering
+mod Examples

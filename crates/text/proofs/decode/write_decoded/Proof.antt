@@ -1,0 +1,106 @@
+use Prim.Native.Nat.{_-_}
+use mathlib.Core.Path.{sym, ap, _∙_}
+use native.Mathlib.Omega.{arith}
+use borrow.Author.Needs.{needs}
+use lib.ListN.{length}
+use Rattle.area.proofs.Laying.{laying-start, laying-on, laying-done}
+use Rattle.area.specs.Area.{storedAnswer}
+use Rattle.text.proofs.Writing.{Writing, writing-more, writing-full}
+use Rattle.text.proofs.Pieces.{piece-moves, piece-end, part-some}
+use Rattle.text.proofs.decode.write_decoded.Statement.{statement}
+use Rattle.text.proofs.decode.write_decoded.Tie as tie
+
+abbrev Inv-loop : tie.InvT-loop
+Inv-loop out₀ s clean i₀ k₀ out i k = Writing clean out₀ s out i k
+
+abbrev μ-loop : tie.MeasureT-loop
+μ-loop out₀ s clean i₀ k₀ out i k = length s - i
+
+loop-holds : tie.Need-loop-holds Inv-loop μ-loop
+loop-holds c = record { within = omega arith; laying = laying-start _ _ }
+
+sub-piece-of : tie.Need-sub-piece-of Inv-loop μ-loop
+sub-piece-of c = omega arith
+
+part-piece-of-start : tie.Need-part-piece-of-start Inv-loop μ-loop
+part-piece-of-start c = omega arith
+
+part-piece-of-end : tie.Need-part-piece-of-end Inv-loop μ-loop
+part-piece-of-end c = omega arith
+
+piece-of-requires : tie.Need-piece-of-requires Inv-loop μ-loop
+piece-of-requires c κs = part-some (c .before .before .before .before .before .args .s .now) (c .before .before .loop .i) (c .before .loop-test .taken)
+
+put-piece-requires : tie.Need-put-piece-requires Inv-loop μ-loop
+put-piece-requires c κs = (c .before .before .before .before .loop .inv .laying .fits, c .before .piece-of .ensures .fits)
+
+enum-known-put : tie.Need-enum-known-put Inv-loop μ-loop
+enum-known-put c = search needs
+
+enum-told : tie.Need-enum-told Inv-loop μ-loop
+enum-told c = search needs
+
+same-length : tie.Need-same-length Inv-loop μ-loop
+same-length c = c .before .before .before .before .put-piece .kept .0 ∙ c .before .before .before .before .before .before .before .before .before .loop .inv .laying .same
+
+returns : tie.Need-returns Inv-loop μ-loop
+returns c =
+    let p = c .before .before .before .before .before .before .piece-of in
+    let q = c .before .before .before .before .put-piece in
+    writing-full (c .before .before .before .before .before .before .before .before .before .loop .inv) (c .before .before .before .before .before .before .before .before .loop-test .taken) (p .result) (p .ensures) (q .last .0) (q .ensures .1) (sym (ap (storedAnswer 16) (c .enum-told .given .1)) ∙ q .ensures .0)
+
+add-k : tie.Need-add-k Inv-loop μ-loop
+add-k c =
+    let p = c .before .before .before .before .before .before .before .piece-of in
+    let q = c .before .before .before .before .before .put-piece in
+    let g = c .before .put .given in
+    let w = writing-more (c .before .before .before .before .before .before .before .before .before .before .loop .inv) (c .before .before .before .before .before .before .before .before .before .loop-test .taken) (p .result) (p .ensures) (q .last .0) (q .ensures .1) (g .0 .0) (sym (ap (storedAnswer 16) (g .1)) ∙ q .ensures .0) in
+    omega (arith, w .laying .fits, w .laying .same, c .before .before .before .before .before .before .before .before .before .before .before .before .before .good)
+
+loop-again : tie.Need-loop-again Inv-loop μ-loop
+loop-again c =
+    let p = c .before .before .before .before .before .before .before .before .piece-of in
+    let q = c .before .before .before .before .before .before .put-piece in
+    let g = c .before .before .put .given in
+    writing-more (c .before .before .before .before .before .before .before .before .before .before .before .loop .inv) (c .before .before .before .before .before .before .before .before .before .before .loop-test .taken) (p .result) (p .ensures) (q .last .0) (q .ensures .1) (g .0 .0) (sym (ap (storedAnswer 16) (g .1)) ∙ q .ensures .0)
+
+add-i : tie.Need-add-i Inv-loop μ-loop
+add-i c = omega (arith, loop-again c .within, c .before .before .before .before .before .before .before .before .before .before .before .before .before .before .good)
+
+loop-less : tie.Need-loop-less Inv-loop μ-loop
+loop-less c =
+    let a = c .before .before .before .before .before .before .before .before .before .before .before .before .before .before .args in
+    let p = c .before .before .before .before .before .before .before .before .piece-of in
+    let l = c .before .before .before .before .before .before .before .before .before .before .before .loop in
+    omega (arith, piece-moves (a .clean) (a .s .now) (l .i) (c .before .before .before .before .before .before .before .before .before .before .loop-test .taken) (p .result) (p .ensures), c .before .before .before .before .before .before .before .before .before .before .loop-test .taken)
+
+same-length-2 : tie.Need-same-length-2 Inv-loop μ-loop
+same-length-2 c = c .before .loop .inv .laying .same
+
+returns-2 : tie.Need-returns-2 Inv-loop μ-loop
+returns-2 c =
+    let a = c .before .before .before .before .args in
+    let l = c .before .loop in laying-done 13 (laying-on (l .inv .laying) (piece-end (a .clean) (a .s .now) (l .i) (c .loop-test .left)))
+
+pub write-decoded-spec : {M : Type 1} → statement M
+write-decoded-spec =
+    tie.close
+    (tie.spec
+    Inv-loop
+    μ-loop
+    loop-holds
+    sub-piece-of
+    part-piece-of-start
+    part-piece-of-end
+    piece-of-requires
+    put-piece-requires
+    enum-known-put
+    enum-told
+    same-length
+    returns
+    add-k
+    add-i
+    loop-less
+    loop-again
+    same-length-2
+    returns-2)

@@ -1,0 +1,5 @@
+pub mod Filter
+pub mod Kept
+pub mod Decode
+pub mod Value
+pub mod Gather

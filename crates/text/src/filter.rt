@@ -1,0 +1,33 @@
+// The filter of control characters, into the text area from its fill mark on.
+use area::Stored;
+ghost use mathlib.Core.Path.{_≡_};
+ghost use lib.ListN.{length};
+ghost use Rattle.area.specs.Area.{storedAnswer, placing, laid};
+ghost use Rattle.text.specs.Filter.{dropped, filtered};
+
+pub fn is_dropped(b: u8) -> bool
+    ensures { λ r. ⌜ r ≡ dropped b ⌝ }
+{
+    (b <= 0x08) | (b == 0x0b) | (b == 0x0c) | ((0x0e <= b) & (b <= 0x1f))
+}
+
+// Puts s without the dropped bytes at the front of out.
+pub fn store(out: &mut [u8], s: &[u8]) -> Stored
+    ensures { λ r. ⌜ storedAnswer 13 r ≡ placing 13 (length (now (out .entry))) (filtered (now (s .entry))) ⌝ }
+    ensures { λ r. ⌜ now (out .exit) ≡ laid (now (out .entry)) (filtered (now (s .entry))) ⌝ }
+{
+    let mut i = 0;
+    let mut k = 0;
+    while i < s.len() {
+        let b = s[i];
+        i += 1;
+        if !is_dropped(b) {
+            if out.len() <= k {
+                return Stored::Full;
+            }
+            out[k] = b;
+            k += 1;
+        }
+    }
+    Stored::Put(k)
+}

@@ -1,0 +1,3 @@
+pub mod Trimming
+pub mod Ends
+pub mod Examples

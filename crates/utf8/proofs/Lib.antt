@@ -1,0 +1,8 @@
+pub mod Runs
+pub mod Scalars
+pub mod Forms
+pub mod Rules
+pub mod Encoding
+pub mod Splitting
+pub mod Boundaries
+pub mod Examples
