@@ -14,6 +14,7 @@ use Rattle.utf8.specs.Utf8.{utf8}
 use Rattle.utf8.proofs.Rules.{ascii-on}
 use Rattle.digits.specs.Digits.{isDigit, allDigits}
 use Rattle.digits.proofs.Ascii.{digit-decimal, digit-ascii}
+use Rattle.digits.proofs.Texts.{digits-utf8}
 use Rattle.clock.specs.Time.{point, whole, fraction}
 
 -- i bytes are passed, and none is a point
@@ -79,18 +80,12 @@ module _ (w f : List ℕ) (d : allDigits 10 w ≡ true) where
       ap (λ (n : ℕ). drop n (w ++ (0x2E ∷ f))) (ap suc (point-between w f d) ∙ sym (add-one (length w)))
       ∙ drop-more (w ++ (0x2E ∷ f)) f 0x2E (length w) (drop-at w (0x2E ∷ f) (length w) refl)
 
--- digits and a point are ASCII
-digits-utf8 : (s : List ℕ) → allDigits 10 s ≡ true → utf8 s ≡ true
-digits-utf8 [] d = refl
-digits-utf8 (b ∷ s) d =
-    let k = and-eq-true-iff (isDigit 10 b) (allDigits 10 s) .0 d in
-    ascii-on b s (digit-ascii 10 b (k .0)) ∙ digits-utf8 s (k .1)
-
+-- digits and a point are UTF-8
 pub parts-utf8 : (s : List ℕ) → allDigits 10 (whole s) ≡ true → allDigits 10 (fraction s) ≡ true → utf8 s ≡ true
 parts-utf8 [] v d = refl
 parts-utf8 (b ∷ s) v d = go (eqb b 0x2E) refl v d (λ (v : allDigits 10 (whole s) ≡ true) (d : allDigits 10 (fraction s) ≡ true). parts-utf8 s v d)
   where
     go : (t : Bool) → eqb b 0x2E ≡ t → allDigits 10 (take (cond t 0 (suc (point s))) (b ∷ s)) ≡ true → allDigits 10 (drop (suc (cond t 0 (suc (point s)))) (b ∷ s)) ≡ true
         → (allDigits 10 (whole s) ≡ true → allDigits 10 (fraction s) ≡ true → utf8 s ≡ true) → utf8 (b ∷ s) ≡ true
-    go true q v d r = let h = eqb-true b 0x2E q in ascii-on b s (omega arith) ∙ digits-utf8 s d
+    go true q v d r = let h = eqb-true b 0x2E q in ascii-on b s (omega arith) ∙ digits-utf8 10 s d
     go false q v d r = let k = and-eq-true-iff (isDigit 10 b) (allDigits 10 (whole s)) .0 v in ascii-on b s (digit-ascii 10 b (k .0)) ∙ r (k .1) d

@@ -1,4 +1,5 @@
 pub mod Values
 pub mod Ascii
+pub mod Texts
 pub mod Numbers
 pub mod Printing

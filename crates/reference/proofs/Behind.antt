@@ -14,7 +14,7 @@ use Rattle.area.proofs.Lists.{drop-next}
 use Rattle.reference.specs.Reference.{xmlChar, isNamed, charOf, named, semicolon, refAt, bytesOf}
 use Rattle.reference.specs.declared.Ref.{Ref}
 use Rattle.reference.specs.declared.Ref.the-variants.{Is, Not}
-use Rattle.reference.proofs.Answers.{given, refused}
+use Rattle.area.proofs.Answers.{given, refused}
 use Rattle.reference.proofs.Naming.{char-code}
 use Rattle.reference.proofs.Letters.{named-length, named-xml, named-semicolon}
 

@@ -1,4 +1,3 @@
-pub mod Answers
 mod Naming
 pub mod Letters
 pub mod Behind

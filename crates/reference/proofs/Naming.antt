@@ -15,7 +15,7 @@ use Rattle.digits.proofs.Numbers.{is-number, not-number, number-empty}
 use Rattle.names.specs.Names.{codeIn, cut}
 use Rattle.names.proofs.NameLaws.{code-most}
 use Rattle.reference.specs.Reference.{xmlChar, entities, entityChars, isEntity, entityChar, entityOf, base, digitsIn, number, isCharRef, named}
-use Rattle.reference.proofs.Answers.{given, refused}
+use Rattle.area.proofs.Answers.{given, refused}
 
 -- the names as the code has them, one behind the other, with their lengths
 abbrev letters : List ℕ

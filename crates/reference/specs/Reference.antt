@@ -7,6 +7,7 @@ use lib.Dec.{ltb, leb, eqb}
 use Rattle.area.specs.Answer.{Answer, gives, refuses}
 use Rattle.utf8.specs.Characters.{encode}
 use Rattle.digits.specs.Digits.{value, isNumber}
+use Rattle.names.specs.Bytes.{bytes}
 use Rattle.names.specs.Names.{codeIn}
 use Rattle.reference.specs.declared.Entity.{Entity}
 use Rattle.reference.specs.declared.Entity.the-variants as of-entity
@@ -20,15 +21,9 @@ unfoldable pub xmlChar : ℕ → Bool
 xmlChar c =
     eqb c 0x9 || eqb c 0xA || eqb c 0xD || (leb 0x20 c && leb c 0xD7FF) || (leb 0xE000 c && leb c 0xFFFD) || (leb 0x10000 c && leb c 0x10FFFF)
 
--- section 4.6: amp, lt, gt, apos, quot
+-- section 4.6
 unfoldable pub entities : List (List ℕ)
-entities =
-    (0x61 ∷ 0x6D ∷ 0x70 ∷ [])
-    ∷ (0x6C ∷ 0x74 ∷ [])
-    ∷ (0x67 ∷ 0x74 ∷ [])
-    ∷ (0x61 ∷ 0x70 ∷ 0x6F ∷ 0x73 ∷ [])
-    ∷ (0x71 ∷ 0x75 ∷ 0x6F ∷ 0x74 ∷ [])
-    ∷ []
+entities = bytes "amp" ∷ bytes "lt" ∷ bytes "gt" ∷ bytes "apos" ∷ bytes "quot" ∷ []
 
 -- & < > ' "
 unfoldable pub entityChars : List ℕ

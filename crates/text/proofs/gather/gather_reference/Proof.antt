@@ -7,7 +7,7 @@ use lib.ListN.{length}
 use Rattle.area.specs.Area.{placing, laid}
 use Rattle.area.specs.Answer.{refuses}
 use Rattle.utf8.specs.Utf8.{utf8}
-use Rattle.reference.proofs.Answers.{given, refused}
+use Rattle.area.proofs.Answers.{given, refused}
 use Rattle.reference.specs.Reference.{entityAnswer, isEntity, entityChar}
 use Rattle.text.proofs.Putting.{first-fails, second-fails, kept-both}
 use Rattle.text.proofs.gather.gather_reference.Statement.{statement}

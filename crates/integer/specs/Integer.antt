@@ -1,0 +1,28 @@
+-- Document 01: "Integer: optional `+`, digits, at most 18446744073709551615". Definitions only.
+use Prim.Native.Nat.{ℕ}
+use mathlib.Core.List.{List, [], _∷_}
+use mathlib.Core.Bool.{Bool, cond}
+use lib.Dec.{eqb}
+use Rattle.area.specs.Answer.{Answer, gives, refuses}
+use Rattle.utf8.specs.Utf8.{utf8}
+use Rattle.digits.specs.Digits.{isNumber, value}
+use Rattle.integer.specs.declared.Integer.{Integer}
+use Rattle.integer.specs.declared.Integer.the-variants.{Is, NotUtf8, Bad}
+
+-- the value, or 2 for "not UTF-8", 3 for "integer"
+abbrev pub integerAnswer : Integer → Answer ℕ
+integerAnswer (Is n) = gives n
+integerAnswer NotUtf8 = refuses 2
+integerAnswer Bad = refuses 3
+
+-- "optional `+`"
+unfoldable pub unsigned : List ℕ → List ℕ
+unsigned [] = []
+unsigned (b ∷ s) = cond (eqb b 0x2B) s (b ∷ s)
+
+-- "digits, at most 18446744073709551615"
+abbrev pub isInteger : List ℕ → Bool
+isInteger s = isNumber 10 18446744073709551615 (unsigned s)
+
+abbrev pub integerOf : List ℕ → Answer ℕ
+integerOf s = cond (utf8 s) (cond (isInteger s) (gives (value 10 (unsigned s))) (refuses 3)) (refuses 2)

@@ -1,2 +1,0 @@
-pub mod DigitText
-pub mod Integers

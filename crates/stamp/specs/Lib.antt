@@ -1,0 +1,3 @@
+pub mod Calendar
+pub mod Timestamp
+pub mod Leaves
