@@ -1,0 +1,5 @@
+pub mod Clean
+pub mod Filling
+pub mod Opening
+pub mod Walking
+pub mod Whole

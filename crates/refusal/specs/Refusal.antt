@@ -1,0 +1,65 @@
+-- Document 01, "Seventeen refusals": the number of each cause, the path, event and attribute that a refusal carries. Definitions only.
+use Prim.Native.Nat.{ℕ, _+_}
+use mathlib.Core.List.{List}
+use mathlib.Core.Bool.{cond}
+use lib.ListN.{take, set, replicate}
+use lib.Dec.{ltb}
+use Rattle.refusal.specs.declared.Cause.{Cause}
+use Rattle.refusal.specs.declared.Cause.the-variants.{XmlFault, EofInSkip, NotUtf8, BadInteger, BadTimestamp, BadTime, BadUuid, MissingAttribute, MissingReport, EofInElement, StatusRule, UnknownEntity, FaultyAttribute, RepeatedKey, BadReference, BadTable, RecordsSpent, TextFull, ScratchFull, NotLayout, OutputFull, CountLimit}
+use Rattle.refusal.specs.declared.PathElement.{PathElement}
+use Rattle.refusal.specs.declared.Path.{Path}
+use Rattle.refusal.specs.declared.Refusal.{Refusal}
+
+-- "4294967295 stands where none is concerned"
+abbrev pub nowhere : ℕ
+nowhere = 4294967295
+
+abbrev pub number : Cause → ℕ
+number XmlFault = 1
+number EofInSkip = 1
+number NotUtf8 = 2
+number BadInteger = 3
+number BadTimestamp = 4
+number BadTime = 5
+number BadUuid = 6
+number MissingAttribute = 7
+number MissingReport = 8
+number EofInElement = 8
+number StatusRule = 8
+number UnknownEntity = 8
+number FaultyAttribute = 9
+number RepeatedKey = 9
+number BadReference = 10
+number BadTable = 11
+number RecordsSpent = 12
+number TextFull = 13
+number ScratchFull = 14
+number NotLayout = 15
+number OutputFull = 16
+number CountLimit = 17
+
+-- "a path of at most six elements"
+abbrev pub elementsOf : Path → List PathElement
+elementsOf p = take (p .len) (p .elements)
+
+abbrev pub emptyPath : Path
+emptyPath = record { elements = replicate 6 (record { kind = 0; index = 0; event = 0 }); len = 0 }
+
+-- the path with one element more, where there is room
+abbrev pub longer : Path → PathElement → Path
+longer p e = cond (ltb (p .len) 6) (record { elements = set (p .elements) (p .len) e; len = p .len + 1 }) p
+
+-- "Each returns its number, a path of at most six elements, the event and attribute number"
+pub record Refused : Type 0 where
+  pub number : ℕ
+  pub path : List PathElement
+  pub event : ℕ
+  pub attribute : ℕ
+
+-- what a call that may refuse comes to
+pub data Outcome (A : Type 0) : Type 0 where
+  accepted : A → Outcome A
+  refused : Refused → Outcome A
+
+abbrev pub refusalOf : Refusal → Refused
+refusalOf r = record { number = number (r .cause); path = elementsOf (r .path); event = r .event; attribute = r .attribute }

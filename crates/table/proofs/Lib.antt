@@ -1,0 +1,5 @@
+pub mod Words
+pub mod Scanning
+pub mod ValidTables
+pub mod Walking
+pub mod Resolving

@@ -1,0 +1,78 @@
+-- A resolved event: what all later definitions read. Definitions only.
+use Prim.Native.Nat.{ℕ, zero, suc, _+_}
+use mathlib.Core.List.{List, [], _∷_}
+use mathlib.Core.Bool.{Bool, cond}
+use lib.ListN.{take, drop}
+use lib.Dec.{eqb}
+use Rattle.table.specs.Table.{word, countOf}
+
+-- an attribute: whether its mark is good, and the bytes of its key and value
+pub record Attribute : Type 0 where
+  pub good : Bool
+  pub key : List ℕ
+  pub value : List ℕ
+
+pub data TagKind : Type 0 where
+  Start Empty End : TagKind
+
+pub data PieceKind : Type 0 where
+  Text CData Ref Other Indent : PieceKind
+
+-- a tag has its name, the number of its first attribute in the table, and its attributes
+pub data Event : Type 0 where
+  Tag : TagKind → List ℕ → ℕ → List Attribute → Event
+  Piece : PieceKind → List ℕ → Event
+  Eof Fault : Event
+
+-- "the bytes from the event's start for its length"
+abbrev pub part : List ℕ → ℕ → ℕ → List ℕ
+part source start len = take len (drop start source)
+
+abbrev pub kindAt : List ℕ → ℕ → ℕ
+kindAt events i = word events i 0
+
+abbrev pub bytesAt : List ℕ → List ℕ → ℕ → List ℕ
+bytesAt events source i = part source (word events i 1) (word events i 2)
+
+-- "mark (0 good, 1 faulty)"
+abbrev pub markAt : List ℕ → ℕ → Bool
+markAt attributes j = eqb (word attributes j 0) 0
+
+abbrev pub keyAt : List ℕ → List ℕ → ℕ → List ℕ
+keyAt attributes source j = part source (word attributes j 1) (word attributes j 2)
+
+abbrev pub valueAt : List ℕ → List ℕ → ℕ → List ℕ
+valueAt attributes source j = part source (word attributes j 3) (word attributes j 4)
+
+abbrev pub attributeAt : List ℕ → List ℕ → ℕ → Attribute
+attributeAt attributes source j = record { good = markAt attributes j; key = keyAt attributes source j; value = valueAt attributes source j }
+
+-- n attributes from number j on
+unfoldable pub attributesFrom : List ℕ → List ℕ → ℕ → ℕ → List Attribute
+attributesFrom attributes source zero j = []
+attributesFrom attributes source (suc n) j = attributeAt attributes source j ∷ attributesFrom attributes source n (j + 1)
+
+-- "Kinds: 0 Start, 1 Empty, 2 End, 3 Text, 4 CData, 5 Ref, 6 Other, 7 Eof, 8 Fault, 9 Indent (read as a Text of one newline)"
+unfoldable pub eventOf : ℕ → List ℕ → ℕ → List Attribute → Event
+eventOf kind bytes first attributes =
+    cond (eqb kind 0) (Tag Start bytes first attributes)
+    (cond (eqb kind 1) (Tag Empty bytes first attributes)
+    (cond (eqb kind 2) (Tag End bytes 0 [])
+    (cond (eqb kind 3) (Piece Text bytes)
+    (cond (eqb kind 4) (Piece CData bytes)
+    (cond (eqb kind 5) (Piece Ref bytes)
+    (cond (eqb kind 6) (Piece Other bytes)
+    (cond (eqb kind 7) Eof
+    (cond (eqb kind 8) Fault (Piece Indent (10 ∷ []))))))))))
+
+unfoldable pub eventAt : List ℕ → List ℕ → List ℕ → ℕ → Event
+eventAt events attributes source i =
+    eventOf (kindAt events i) (bytesAt events source i) (word events i 3) (attributesFrom attributes source (word events i 4) (word events i 3))
+
+-- n events from number i on
+unfoldable pub resolveFrom : List ℕ → List ℕ → List ℕ → ℕ → ℕ → List Event
+resolveFrom events attributes source zero i = []
+resolveFrom events attributes source (suc n) i = eventAt events attributes source i ∷ resolveFrom events attributes source n (i + 1)
+
+unfoldable pub resolve : List ℕ → List ℕ → List ℕ → List Event
+resolve events attributes source = resolveFrom events attributes source (countOf events) 0

@@ -1,0 +1,10 @@
+pub mod EncodeLists
+pub mod EncodeText
+pub mod EncodeAreas
+pub mod EncodeCells
+pub mod EncodeRecords
+pub mod EncodeKinds
+pub mod EncodeOrder
+pub mod EncodeReading
+pub mod Encode
+pub mod EncodeExamples
