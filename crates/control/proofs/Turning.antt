@@ -1,13 +1,14 @@
 -- The control behind an act, and how many status elements a case then has. Assumes nothing.
-use Prim.Native.Nat.{ℕ, suc}
-use mathlib.Core.Bool.{Bool, true, false, cond}
+use Prim.Native.Nat.{ℕ, zero, suc, _+_}
+use mathlib.Core.Bool.{Bool, true, false, cond, _||_}
 use mathlib.Core.List.{List}
 use mathlib.Core.Path.{_≡_, refl, sym, ap, _∙_}
 use native.Mathlib.Omega.{arith}
-use lib.Dec.{leb}
+use borrow.Author.Tests.{lt-ltb, ne-eqb}
+use lib.Dec.{leb, ltb}
 use Rattle.tree.specs.Status.{Tally, noStatus, tallied}
 use Rattle.control.specs.Control.{Level, Output, at, Control, control, Act, pass, openReport, openSuite, openCase, openStatus, closeSuite, closeCase, closeStatus, openText, closeText, openList, readProperty, stop, missing, broken, turn}
-use Rattle.control.specs.Coded.{modeAt, levelIn, closing, tallyOf, controlOf, actOf, isStep, turned, Few}
+use Rattle.control.specs.Coded.{modeAt, levelIn, opening, closing, tallyOf, controlOf, actOf, isStep, turned, Few}
 use Rattle.control.specs.declared.Act.{Act as CodedAct}
 use Rattle.control.specs.declared.Control.{Control as CodedControl}
 use Rattle.control.specs.declared.Mode.{Mode as CodedMode}
@@ -66,3 +67,15 @@ few-turned {n} a name c f = by-cases (isStep a)
     by-cases : (b : Bool) → Few (suc n) (cond b (turn (actOf c name a) (controlOf c)) (controlOf c) .tally)
     by-cases true = few-turn (actOf c name a) (controlOf c) f
     by-cases false = more f
+
+-- the kinds of records but those of reports, suites and cases
+pub opening-other : (k : ℕ) (e : Bool) → (k ≡ 1 → ⊥) → (k ≡ 2 → ⊥) → (k ≡ 3 → ⊥) → opening k e ≡ openStatus k e
+opening-other k e a b c = rw (ne-eqb k 1 a, ne-eqb k 2 b, ne-eqb k 3 c) refl
+
+-- one of two numbers is not zero
+pub sum-positive : (a b : ℕ) → ltb 0 (a + b) ≡ (ltb 0 a || ltb 0 b)
+sum-positive zero b = simp zero-plus
+  where
+    zero-plus : (n : ℕ) → 0 + n ≡ n
+    zero-plus n = omega arith
+sum-positive (suc a) b = rw (lt-ltb 0 (suc a + b) (omega arith), lt-ltb 0 (suc a) (omega arith)) refl

@@ -1,5 +1,5 @@
 -- Steps that may refuse, the place that a refusal names, and the room that areas have. Definitions only.
-use Prim.Native.Nat.{ℕ, _/_, min}
+use Prim.Native.Nat.{ℕ, zero, suc, _/_, min}
 use mathlib.Core.List.{List, [], _∷_, _++_}
 use mathlib.Core.Bool.{Bool, true, false}
 use mathlib.Core.Option.{Option, none, some}
@@ -43,6 +43,11 @@ attributeElement key = element 16 key nowhere
 -- the place of an attribute's value: "carry the element's path" with the Attribute
 abbrev pub within : Place → ℕ → Place
 within p key = record { path = p .path ++ (attributeElement key ∷ []); event = p .event; attribute = p .attribute }
+
+-- the path with the Attribute of a key, where its code isn't 0
+abbrev pub pathTo : List PathElement → ℕ → List PathElement
+pathTo path zero = path
+pathTo path (suc k) = path ++ (attributeElement (suc k) ∷ [])
 
 -- how many records, bytes of text and bytes of scratch may be used; none is no limit
 pub record Rooms : Type 0 where

@@ -1,1 +1,4 @@
-// An element's record, extras and texts from its attributes (the attribute loops of deserialize.rs): the definitions.
+// One attribute of an element: its value read into the record, an extra put behind it, a key that is repeated.
+pub mod extra;
+pub mod repeat;
+pub mod value;

@@ -7,7 +7,7 @@ use native.Mathlib.Omega.{arith}
 use lib.ListN.{length, drop, getD}
 use Rattle.area.proofs.Lists.{drop-next}
 use Rattle.text.specs.Filter.{dropped, unfiltered}
-use Rattle.shape.proofs.Passing.{Passing}
+use Rattle.slots.proofs.Passing.{Passing}
 
 clean-next : {s : List ℕ} {i : ℕ} → Passing unfiltered s i → i < length s → unfiltered s ≡ (not (dropped (getD s i 0)) && unfiltered (drop (i + 1) s))
 clean-next {s} {i} m h = m .left ∙ ap unfiltered (drop-next s i h)

@@ -66,7 +66,7 @@ fn good_records(texts: &[u8], words: &[u32], limit: usize) -> bool
             return false;
         }
     }
-    order::may_stop(state) & shape::is_zero(&words[at..limit])
+    order::may_stop(state) & slots::is_zero(&words[at..limit])
 }
 
 pub fn is_layout(records: &[u32], text: &[u8]) -> bool

@@ -1,2 +1,2 @@
-pub mod Machine
-pub mod Reading
+pub mod Answer
+pub mod Ran

@@ -1,1 +1,209 @@
-// Reading: an event table in, a report's tree out (deserialize.rs of the crate): the definitions, and what is true of them.
+// Reading: an event table in, a report's tree out (deserialize.rs of the crate).
+use area::clear;
+use area::clear_words;
+use marks::NOWHERE;
+use marks::path_of;
+use marks::within;
+use refusal::Cause;
+use refusal::Path;
+use refusal::Refusal;
+use steps::Halt;
+use steps::State;
+use steps::Step;
+use steps::begin;
+use steps::step_event;
+use table::Checked;
+use table::check_table;
+ghost use mathlib.Core.Path.{_≡_};
+ghost use mathlib.Core.List.{List};
+ghost use Prim.Native.Nat.{ℕ, min};
+ghost use lib.ListN.{length};
+ghost use Rattle.area.specs.Area.{zeros};
+ghost use Rattle.refusal.specs.Refusal as why;
+ghost use Rattle.table.specs.Table.{tableOf};
+ghost use Rattle.table.specs.Event.{resolve};
+ghost use Rattle.element.specs.Outcome.{roomsOf};
+ghost use Rattle.machine.specs.Machine as machine;
+ghost use Rattle.machine.specs.Reading as result;
+ghost use Rattle.steps.specs.Standing.{Lent, Placed, refusalAt};
+ghost use Rattle.reader.specs.Answer.{readingAnswer, readOf};
+ghost use Rattle.reader.specs.Ran.{Ran};
+
+const MOST_RECORDS: usize = 65536;
+
+const MOST_BYTES: usize = 16777216;
+
+pub enum Verdict {
+    Accepted,
+    Refused,
+}
+
+// The answer. Of an accepted table the refusal is a filler that means nothing.
+pub struct Reading {
+    pub verdict: Verdict,
+    pub refusal: Refusal,
+}
+
+enum Run {
+    Done,
+    Halted(State, Halt),
+}
+
+fn run_events(
+    events: &[u32],
+    attributes: &[u32],
+    source: &[u8],
+    records: &mut [u32],
+    text: &mut [u8],
+    scratch: &mut [u8],
+) -> Run
+    requires { ⌜ tableOf (now events) (now attributes) (now source) ≡ why.accepted tt ⌝ }
+    requires { ⌜ Lent (length (now records)) (length (now text)) (length (now scratch)) ⌝ }
+    requires { ⌜ now records ≡ zeros (length (now records)) ⌝ }
+    requires { ⌜ now text ≡ zeros (length (now text)) ⌝ }
+    ensures { λ r. ⌜ Ran (now (records .exit)) (now (text .exit)) (machine.run (roomsOf (length (now (records .entry))) (length (now (text .entry))) (length (now (scratch .entry)))) (resolve (now (events .entry)) (now (attributes .entry)) (now (source .entry))) machine.begin) r ⌝ }
+{
+    let mut st = begin();
+    loop {
+        let next = step_event(st, events, attributes, source, records, text, scratch);
+        match next {
+            Step::Go(s) => st = s,
+            Step::Stop => break Run::Done,
+            Step::Halt(h) => break Run::Halted(st, h),
+        }
+    }
+}
+
+fn refusing(cause: Cause, path: Path, event: u32, attribute: u32) -> Reading
+    ensures { λ r. ⌜ readingAnswer r ≡ why.refused (record { number = why.number cause; path = why.elementsOf path; event = event; attribute = attribute }) ⌝ }
+{
+    Reading {
+        verdict: Verdict::Refused,
+        refusal: Refusal {
+            cause,
+            path,
+            event,
+            attribute,
+        },
+    }
+}
+
+fn accepting() -> Reading
+    ensures { λ r. ⌜ readingAnswer r ≡ why.accepted tt ⌝ }
+{
+    Reading {
+        verdict: Verdict::Accepted,
+        refusal: Refusal {
+            cause: Cause::BadTable,
+            path: Path::new(),
+            event: NOWHERE,
+            attribute: NOWHERE,
+        },
+    }
+}
+
+// The one place where a path is made.
+fn halted(st: State, h: Halt) -> Reading
+    requires { ⌜ Placed st h ⌝ }
+    ensures { λ r. ⌜ ((name : List ℕ) → readingAnswer r ≡ why.refused (refusalAt st h name)) ⌝ }
+{
+    let control = st.control;
+    let marks = st.marks;
+    let act = h.act;
+    let fault = h.fault;
+    let cause = fault.cause;
+    let path = within(path_of(act, control, marks), fault.key);
+    refusing(cause, path, h.event as u32, fault.attribute)
+}
+
+fn least(a: usize, b: usize) -> usize
+    ensures { λ r. ⌜ r ≡ min a b ⌝ }
+{
+    if a < b { a } else { b }
+}
+
+// "of longer areas only that much is used"
+fn run_within(
+    events: &[u32],
+    attributes: &[u32],
+    source: &[u8],
+    records: &mut [u32],
+    text: &mut [u8],
+    scratch: &mut [u8],
+) -> Run
+    requires { ⌜ tableOf (now events) (now attributes) (now source) ≡ why.accepted tt ⌝ }
+    requires { ⌜ now records ≡ zeros (length (now records)) ⌝ }
+    requires { ⌜ now text ≡ zeros (length (now text)) ⌝ }
+    ensures { λ r. ⌜ Ran (now (records .exit)) (now (text .exit)) (machine.run (roomsOf (length (now (records .entry))) (length (now (text .entry))) (length (now (scratch .entry)))) (resolve (now (events .entry)) (now (attributes .entry)) (now (source .entry))) machine.begin) r ⌝ }
+{
+    let words = least(records.len() / 32, MOST_RECORDS) * 32;
+    let bytes = least(text.len(), MOST_BYTES);
+    let room = least(scratch.len(), MOST_BYTES);
+    run_events(
+        events,
+        attributes,
+        source,
+        &mut records[..words],
+        &mut text[..bytes],
+        &mut scratch[..room],
+    )
+}
+
+fn clear_all(records: &mut [u32], text: &mut [u8], scratch: &mut [u8])
+    ensures { λ _. ⌜ now (records .exit) ≡ zeros (length (now (records .entry))) ⌝ }
+    ensures { λ _. ⌜ now (text .exit) ≡ zeros (length (now (text .entry))) ⌝ }
+    ensures { λ _. ⌜ now (scratch .exit) ≡ zeros (length (now (scratch .entry))) ⌝ }
+{
+    clear_words(records);
+    clear(text);
+    clear(scratch);
+}
+
+// A good table, into areas that are zero. "Result areas and scratch become zero" on a refusal.
+fn read_good(
+    events: &[u32],
+    attributes: &[u32],
+    source: &[u8],
+    records: &mut [u32],
+    text: &mut [u8],
+    scratch: &mut [u8],
+) -> Reading
+    requires { ⌜ tableOf (now events) (now attributes) (now source) ≡ why.accepted tt ⌝ }
+    requires { ⌜ now records ≡ zeros (length (now records)) ⌝ }
+    requires { ⌜ now text ≡ zeros (length (now text)) ⌝ }
+    ensures { λ r. ⌜ readOf r (now (records .exit)) (now (text .exit)) (now (scratch .exit)) ≡ result.reading (now (events .entry)) (now (attributes .entry)) (now (source .entry)) (length (now (records .entry))) (length (now (text .entry))) (length (now (scratch .entry))) ⌝ }
+{
+    let ran = run_within(events, attributes, source, records, text, scratch);
+    match ran {
+        Run::Done => {
+            clear(scratch);
+            accepting()
+        }
+        Run::Halted(st, h) => {
+            clear_all(records, text, scratch);
+            halted(st, h)
+        }
+    }
+}
+
+// Reads a table into lent areas. "Refusal 11 comes first."
+pub fn read(
+    events: &[u32],
+    attributes: &[u32],
+    source: &[u8],
+    records: &mut [u32],
+    text: &mut [u8],
+    scratch: &mut [u8],
+) -> Reading
+    ensures answer { λ r. ⌜ readingAnswer r ≡ result.reading (now (events .entry)) (now (attributes .entry)) (now (source .entry)) (length (now (records .entry))) (length (now (text .entry))) (length (now (scratch .entry))) .outcome ⌝ }
+    ensures records { λ _. ⌜ now (records .exit) ≡ result.reading (now (events .entry)) (now (attributes .entry)) (now (source .entry)) (length (now (records .entry))) (length (now (text .entry))) (length (now (scratch .entry))) .words ⌝ }
+    ensures text { λ _. ⌜ now (text .exit) ≡ result.reading (now (events .entry)) (now (attributes .entry)) (now (source .entry)) (length (now (records .entry))) (length (now (text .entry))) (length (now (scratch .entry))) .text ⌝ }
+    ensures scratch { λ _. ⌜ now (scratch .exit) ≡ result.reading (now (events .entry)) (now (attributes .entry)) (now (source .entry)) (length (now (records .entry))) (length (now (text .entry))) (length (now (scratch .entry))) .scratch ⌝ }
+{
+    clear_all(records, text, scratch);
+    let checked = check_table(events, attributes, source);
+    match checked {
+        Checked::Good => read_good(events, attributes, source, records, text, scratch),
+        Checked::Bad(event, attribute) => refusing(Cause::BadTable, Path::new(), event, attribute),
+    }
+}

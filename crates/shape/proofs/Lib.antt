@@ -1,5 +1,2 @@
-pub mod Passing
-pub mod Ends
 pub mod Bits
 pub mod Presence
-pub mod Moments

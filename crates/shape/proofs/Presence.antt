@@ -1,25 +1,15 @@
--- Slots and kinds of a record, in the terms of the code. Assumes nothing.
-use Prim.Native.Nat.{ℕ, _+_, _-_, _≤_, _<_}
-use mathlib.Core.Bool.{Bool, true, false, _&&_}
+-- Kinds of a record, in the terms of the code. Assumes nothing.
+use Prim.Native.Nat.{ℕ, _≤_, _<_}
+use mathlib.Core.Bool.{_&&_}
 use mathlib.Core.List.{List}
-use mathlib.Core.Path.{_≡_, refl, sym, ap, _∙_}
+use mathlib.Core.Path.{_≡_, refl}
 use native.Mathlib.Nat.{le-of-eq}
-use native.Mathlib.Omega.{arith}
 use borrow.Author.Tests.{lt-ltb, le-ltb, ne-eqb}
 use lib.Dec.{leb}
-use lib.ListN.{length, getD, take, drop}
+use lib.ListN.{length, getD}
 use lib.Seq.{take-all}
-use Rattle.tree.specs.Layout.{allZero, zeroAt, slot, goodReport, goodSuite, goodCase, goodOther, goodRecord}
+use Rattle.tree.specs.Layout.{goodReport, goodSuite, goodCase, goodOther, goodRecord}
 use Rattle.shape.specs.Records.{isRecord}
-
-pub slot-present : {b p x y : Bool} (z : Bool) → b ≡ p → b ≡ true → x ≡ y → x ≡ slot p y z
-slot-present z e t q = rw (sym e ∙ t) q
-
-pub slot-absent : {b p x : Bool} (y : Bool) {z : Bool} → b ≡ p → b ≡ false → x ≡ z → x ≡ slot p y z
-slot-absent y e t q = rw (sym e ∙ t) q
-
-pub zero-part : (r : List ℕ) (o n : ℕ) → allZero (take (o + n - o) (drop o r)) ≡ zeroAt r o n
-zero-part r o n = let z : o + n - o ≡ n = omega arith in ap (λ (k : ℕ). allZero (take k (drop o r))) z
 
 -- a record by its kind
 module _ (texts r : List ℕ) where

@@ -1,8 +1,7 @@
 // Whether a record is good by itself: docs/TREE.md.
-mod slots;
-
 use slots::free_slot;
 use slots::has;
+use slots::is_zero;
 use slots::moment_slot;
 use slots::text_slot;
 use slots::time_slot;
@@ -10,21 +9,8 @@ ghost use mathlib.Core.Path.{_≡_};
 ghost use Prim.Native.Nat.{_≤_};
 ghost use lib.ListN.{length};
 ghost use Rattle.tree.specs.Fields.{kindOf};
-ghost use Rattle.tree.specs.Layout.{allZero, onlyBits, bitsFor, goodCommon, goodOutputs, goodCounts, goodReport, goodSuite, goodCase, goodOther, goodRecord};
+ghost use Rattle.tree.specs.Layout.{onlyBits, bitsFor, goodCommon, goodOutputs, goodCounts, goodReport, goodSuite, goodCase, goodOther, goodRecord};
 ghost use Rattle.shape.specs.Records.{isRecord};
-
-pub fn is_zero(words: &[u32]) -> bool
-    ensures { λ r. ⌜ r ≡ allZero (now (words .entry)) ⌝ }
-{
-    let mut i = 0;
-    while i < words.len() {
-        if words[i] != 0 {
-            return false;
-        }
-        i += 1;
-    }
-    true
-}
 
 fn good_common(texts: &[u8], r: &[u32]) -> bool
     requires { ⌜ 32 ≤ length (now r) ⌝ }

@@ -7,7 +7,7 @@ use native.Mathlib.Omega.{arith}
 use native.Mathlib.Decide.{decLt}
 use borrow.Author.Tests.{eq-eqb, ne-eqb}
 use lib.Dec.{eqb}
-use lib.ListN.{length, take, drop, length-take, length-drop, drop-of-length-le}
+use lib.ListN.{length, take, drop, length-take, length-drop, drop-of-length-le, length-append}
 use lib.Seq.{drop-drop, length-take-le}
 use Rattle.area.proofs.Lists.{drop-next}
 use Rattle.names.specs.Names.{sameBytes}
@@ -16,6 +16,7 @@ use Rattle.text.specs.Decode.{cleaned, pieceOf, pieceWidth, Pieced}
 use Rattle.text.specs.Value.{valueText}
 use Rattle.text.specs.declared.decode.Piece.{Piece}
 use Rattle.text.proofs.Pieces.{piece-length, piece-fits, piece-next, piece-end}
+use Rattle.text.proofs.Values.{length-value}
 
 -- the same as one text behind another: the same as the one, and behind it as the other
 same-append : (f a g : List ℕ) → sameBytes a (f ++ g) ≡ (sameBytes (take (length f) a) f && sameBytes (drop (length f) a) g)
@@ -85,3 +86,35 @@ module _ {stored raw : List ℕ} {i k : ℕ} (m : Matching stored raw i k) (h : 
     fits = stands r;
     left = turn ∙ ap (λ (b : Bool). b && sameBytes (drop (k + p .n) stored) (valueText (drop (i + p .width) raw))) r;
   }
+
+-- what raw stands for up to i takes k bytes
+pub record Counting (raw : List ℕ) (i k : ℕ) : Type 0 where
+  pub within : i ≤ length raw
+  pub left : k + length (valueText (drop i raw)) ≡ length (valueText raw)
+
+pub counting-start : (raw : List ℕ) → Counting raw 0 0
+counting-start raw = record { within = omega arith; left = omega arith }
+
+pub counting-done : {raw : List ℕ} {i k : ℕ} → Counting raw i k → length raw ≤ i → k ≡ length (valueText raw)
+counting-done {raw} {i} {k} m h =
+    let e : length (valueText (drop i raw)) ≡ 0 = ap length (piece-end true raw i h) in
+    let l = m .left in
+    omega arith
+
+module _ {raw : List ℕ} {i k : ℕ} (m : Counting raw i k) (h : i < length raw) (p : Piece) (e : Pieced (cleaned true (pieceOf (take (length raw - i) (drop i raw)))) (pieceWidth (take (length raw - i) (drop i raw))) p) where
+  pub counting-more : Counting raw (i + p .width) (k + p .n)
+  counting-more = record {
+    within = piece-fits true raw i h p e;
+    left =
+        let a : length (valueText (drop i raw)) ≡ length (take (p .n) (p .bytes)) + length (valueText (drop (i + p .width) raw)) =
+        ap length (piece-next true raw i h p e) ∙ length-append (take (p .n) (p .bytes)) (valueText (drop (i + p .width) raw)) in
+        let b = piece-length true raw i h p e in
+        let l = m .left in
+        omega arith;
+  }
+
+  pub counting-within : k + p .n ≤ length raw
+  counting-within =
+      let l = counting-more .left in
+      let n = length-value raw in
+      omega arith

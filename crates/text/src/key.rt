@@ -39,3 +39,17 @@ pub fn is_cleaned(stored: &[u8], raw: &[u8]) -> bool
     }
     k == stored.len()
 }
+
+// How many bytes would be stored for a key.
+pub fn cleaned_length(key: &[u8]) -> usize
+    ensures { λ r. ⌜ r ≡ length (valueText (now (key .entry))) ⌝ }
+{
+    let mut i = 0;
+    let mut k = 0;
+    while i < key.len() {
+        let p = piece_of(&key[i..], true);
+        k += p.n;
+        i += p.width;
+    }
+    k
+}

@@ -1,4 +1,4 @@
-use Rattle.control.proofs.Planning.{sum-positive}
+use Rattle.control.proofs.Turning.{sum-positive}
 use Rattle.tree.specs.Status.{ruled}
 use mathlib.Core.Path.{refl}
 use Rattle.control.proofs.is_ruled.Statement.{statement}

@@ -1,5 +1,4 @@
-use Rattle.control.proofs.Turning.{controls}
-use Rattle.control.proofs.Planning.{opening-other}
+use Rattle.control.proofs.Turning.{controls, opening-other}
 use Rattle.control.specs.Control.{turn}
 use borrow.Author.Needs.{needs}
 use Rattle.control.proofs.opened.Statement.{statement}

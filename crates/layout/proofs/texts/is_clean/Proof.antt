@@ -4,7 +4,7 @@ use native.Mathlib.Omega.{arith}
 use borrow.Author.Needs.{needs}
 use lib.ListN.{length}
 use Rattle.text.specs.Filter.{unfiltered}
-use Rattle.shape.proofs.Passing.{Passing, passing-start, passing-done}
+use Rattle.slots.proofs.Passing.{Passing, passing-start, passing-done}
 use Rattle.layout.proofs.Clean.{clean-more, clean-not}
 use Rattle.layout.proofs.texts.is_clean.Statement.{statement}
 use Rattle.layout.proofs.texts.is_clean.Tie as tie

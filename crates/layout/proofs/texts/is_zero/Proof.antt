@@ -3,7 +3,7 @@ use mathlib.Core.Path.{refl}
 use native.Mathlib.Omega.{arith}
 use lib.ListN.{length}
 use Rattle.tree.specs.Layout.{allZero}
-use Rattle.shape.proofs.Passing.{Passing, passing-start, passing-done, zero-more, zero-not}
+use Rattle.slots.proofs.Passing.{Passing, passing-start, passing-done, zero-more, zero-not}
 use Rattle.layout.proofs.texts.is_zero.Statement.{statement}
 use Rattle.layout.proofs.texts.is_zero.Tie as tie
 

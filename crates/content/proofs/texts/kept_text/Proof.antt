@@ -1,0 +1,37 @@
+use Prim.Native.Nat.{_≤_, _+_}
+use native.Mathlib.Omega.{arith}
+use mathlib.Core.Path.{refl}
+use borrow.Author.Needs.{needs}
+use Rattle.content.proofs.texts.kept_text.Statement.{statement}
+use Rattle.content.proofs.texts.kept_text.Tie as tie
+use Rattle.content.proofs.texts.kept_text.Reads as reads
+use Rattle.content.proofs.texts.kept_text.Lts as lts
+use Rattle.content.proofs.refused.Reads as refused-reads
+
+-- src/texts.rt:77:21
+enum-known-stored : tie.Need-enum-known-stored
+enum-known-stored c = search needs
+
+-- src/texts.rt:79:22
+add-c : tie.Need-add-c
+add-c c = let h : c .before .before .before .before .args .content .fill + c .before .before .stored .given .0 .0 ≤ 16777216 = (rw (c .before .before .stored .given .1) at (c .before .before .before .before .pre)) in omega arith
+
+-- src/texts.rt:84:33
+enum-told : tie.Need-enum-told
+enum-told c = search needs
+
+-- src/texts.rt:84:25
+refused-requires : tie.Need-refused-requires
+refused-requires c κs = search needs
+
+-- src/texts.rt:72:1
+returns : tie.Need-returns
+returns c = rw (c .before .before .stored .given .1) refl
+
+-- src/texts.rt:72:1
+returns-2 : tie.Need-returns-2
+returns-2 c = rw (c .before .enum-told .given .1) (c .refused .ensures)
+
+pub kept-text-spec : {M : Type 1} → statement M
+kept-text-spec =
+    tie.close (tie.spec enum-known-stored add-c enum-told refused-requires returns returns-2)

@@ -1,0 +1,4 @@
+pub mod Numbered
+pub mod Turns
+pub mod Attributing
+pub mod Examples

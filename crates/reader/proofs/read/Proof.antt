@@ -1,0 +1,84 @@
+use Prim.Native.Nat.{ℕ}
+use mathlib.Core.List.{[]}
+use mathlib.Core.Path.{sym, ap, _∙_}
+use borrow.Author.Needs.{needs}
+use denote.Ref.{now}
+use lib.ListN.{length}
+use Rattle.area.specs.Area.{zeros}
+use Rattle.table.specs.Table.{checkedAnswer}
+use Rattle.reader.specs.Answer.{readingAnswer, readOf}
+use Rattle.reader.proofs.Whole.{bad-there, read-bad, read-lengths, parts}
+use Rattle.reader.proofs.read.Statement.{statement}
+use Rattle.reader.proofs.read.Tie as tie
+
+clear-all-requires : tie.Need-clear-all-requires
+clear-all-requires c κs = search needs
+
+check-table-requires : tie.Need-check-table-requires
+check-table-requires c κs = search needs
+
+enum-told : tie.Need-enum-told
+enum-told c = search needs
+
+read-good-requires : tie.Need-read-good-requires
+read-good-requires c κs = let q = c .before .before .before .before .before .before .before .before .before .before .before .before .clear-all in
+    (sym (c .before .before .before .before .before .check-table .ensures) ∙ ap checkedAnswer (c .before .before .before .enum-told .given .1), (q .ensures .0 ∙ ap (λ (n : ℕ). zeros n) (sym (q .kept .0)), q .ensures .1 .0 ∙ ap (λ (n : ℕ). zeros n) (sym (q .kept .1 .0))))
+
+enum-known-checked : tie.Need-enum-known-checked
+enum-known-checked c = search needs
+
+new-requires : tie.Need-new-requires
+new-requires c κs = search needs
+
+refusing-requires : tie.Need-refusing-requires
+refusing-requires c κs = search needs
+
+same-length : tie.Need-same-length
+same-length c = search needs
+
+same-length-2 : tie.Need-same-length-2
+same-length-2 c = search needs
+
+same-length-3 : tie.Need-same-length-3
+same-length-3 c = search needs
+
+returns : tie.Need-returns
+returns c = let a = c .before .before .before .before .before .before .before .before .before .before .before .before .before .before .before .before .before .before .before .before .before .before .before .before .before .before .before .before .before .args in
+    let q = c .before .before .before .before .before .before .before .before .before .before .before .before .before .before .before .before .before .before .before .clear-all in
+    let r = c .before .before .before .before .before .before .read-good in
+    parts (read-lengths (now (a .events)) (now (a .attributes)) (now (a .source)) (q .last .0) (q .last .1 .0) (q .last .1 .1 .0) (now (a .records)) (now (a .text)) (now (a .scratch)) (q .kept .0) (q .kept .1 .0) (q .kept .1 .1 .0) (readOf (r .result) (r .last .1 .1 .1 .0) (r .last .1 .1 .1 .1 .0) (r .last .1 .1 .1 .1 .1 .0)) (r .ensures))
+
+same-length-4 : tie.Need-same-length-4
+same-length-4 c = search needs
+
+same-length-5 : tie.Need-same-length-5
+same-length-5 c = search needs
+
+same-length-6 : tie.Need-same-length-6
+same-length-6 c = search needs
+
+returns-2 : tie.Need-returns-2
+returns-2 c = let a = c .before .before .before .before .before .before .before .before .before .before .before .before .before .before .before .before .before .before .before .before .before .before .args in
+    let q = c .before .before .before .before .before .before .before .before .before .before .before .before .clear-all in
+    let h = c .before .before .before .checked .given in
+    parts (read-bad (now (a .events)) (now (a .attributes)) (now (a .source)) (length (now (a .records))) (length (now (a .text))) (length (now (a .scratch))) (readingAnswer (c .refusing .result)) (q .last .0) (q .last .1 .0) (q .last .1 .1 .0) (q .ensures .1 .1) (record { number = 11; path = []; event = h .0 .0; attribute = h .0 .1 .0 }) (sym (c .before .before .before .before .before .check-table .ensures) ∙ ap checkedAnswer (h .1)) (c .refusing .ensures ∙ bad-there (h .0 .0) (h .0 .1 .0) (c .before .new .result) (c .before .new .ensures)) (q .ensures .0) (q .ensures .1 .0))
+
+pub read-spec : {M : Type 1} → statement M
+read-spec =
+    tie.close
+    (tie.spec
+    clear-all-requires
+    check-table-requires
+    enum-told
+    read-good-requires
+    enum-known-checked
+    new-requires
+    refusing-requires
+    same-length
+    same-length-2
+    same-length-3
+    returns
+    same-length-4
+    same-length-5
+    same-length-6
+    returns-2)

@@ -1,0 +1,4 @@
+pub mod Passing
+pub mod Ends
+pub mod Presence
+pub mod Moments
