@@ -1,0 +1,165 @@
+// Times reading and listing of a report of 11,000 cases, and of tables that are hard on reading; with `--cfg with_crate` also the
+// crate's own code at event level on the same table, through a library `oracle` that replays tables.
+// Build and run: see README.md beside this file.
+use std::time::Instant;
+
+extern "C" {
+    fn kerzhoma_public_listing(
+        events: *const u32, events_len: usize, attributes: *const u32, attributes_len: usize, source: *const u8, source_len: usize,
+        records: *mut u32, records_len: usize, text: *mut u8, text_len: usize, scratch: *mut u8, scratch_len: usize,
+        out: *mut u8, out_len: usize,
+    ) -> usize;
+}
+
+#[derive(Default, Clone)]
+struct Table { events: Vec<u32>, attributes: Vec<u32>, source: Vec<u8> }
+
+impl Table {
+    fn put(&mut self, bytes: &str) -> (u32, u32) {
+        let at = self.source.len() as u32;
+        self.source.extend_from_slice(bytes.as_bytes());
+        (at, bytes.len() as u32)
+    }
+    fn event(&mut self, kind: u32, bytes: &str, attributes: &[(&str, &str)]) {
+        let (at, len) = self.put(bytes);
+        let first = (self.attributes.len() / 5) as u32;
+        for (k, v) in attributes {
+            let (ka, kl) = self.put(k);
+            let (va, vl) = self.put(v);
+            self.attributes.extend_from_slice(&[0, ka, kl, va, vl]);
+        }
+        self.events.extend_from_slice(&[kind, at, len, first, attributes.len() as u32]);
+    }
+}
+
+struct Areas { records: Vec<u32>, text: Vec<u8>, scratch: Vec<u8>, out: Vec<u8> }
+
+fn areas(records: usize, bytes: usize) -> Areas {
+    Areas { records: vec![0; records * 32], text: vec![0; bytes], scratch: vec![0; bytes], out: vec![0; bytes] }
+}
+
+fn run(t: &Table, a: &mut Areas) -> usize {
+    // The call takes tables and areas of every length and content.
+    unsafe {
+        kerzhoma_public_listing(
+            t.events.as_ptr(), t.events.len(), t.attributes.as_ptr(), t.attributes.len(), t.source.as_ptr(), t.source.len(),
+            a.records.as_mut_ptr(), a.records.len(), a.text.as_mut_ptr(), a.text.len(), a.scratch.as_mut_ptr(), a.scratch.len(),
+            a.out.as_mut_ptr(), a.out.len(),
+        )
+    }
+}
+
+// 11 suites of 1,000 cases: each case has an output, every tenth fails with a rerun.
+fn report() -> Table {
+    let mut t = Table::default();
+    t.event(0, "testsuites", &[("name", "matching"), ("tests", "11000")]);
+    for s in 0..11 {
+        t.event(0, "testsuite", &[("name", &format!("suite {s}")), ("tests", "1000"), ("hostname", "lab")]);
+        for c in 0..1000 {
+            let name = format!("case {c} of suite {s}");
+            t.event(0, "testcase", &[("name", &name), ("classname", "allocation.ranking"), ("time", "0.125")]);
+            if c % 10 == 0 {
+                t.event(0, "failure", &[("message", "ranking differs &amp; is refused"), ("type", "assertion")]);
+                t.event(3, "expected donor 4, got donor 7", &[]);
+                t.event(2, "failure", &[]);
+                t.event(1, "rerunFailure", &[("message", "again")]);
+            }
+            t.event(0, "system-out", &[]);
+            t.event(3, "message read, ranking compared", &[]);
+            t.event(2, "system-out", &[]);
+            t.event(2, "testcase", &[]);
+        }
+        t.event(2, "testsuite", &[]);
+    }
+    t.event(2, "testsuites", &[]);
+    t
+}
+
+fn best(name: &str, n: usize, mut f: impl FnMut() -> usize) -> f64 {
+    let mut best = f64::MAX;
+    let mut bytes = 0;
+    for _ in 0..n {
+        let began = Instant::now();
+        bytes = f();
+        best = best.min(began.elapsed().as_secs_f64());
+    }
+    println!("{name}: {:.3} ms, {bytes} bytes", best * 1e3);
+    best
+}
+
+fn hard(name: &str, t: &Table) {
+    let mut a = areas(65_536, 1 << 24);
+    best(name, 1, || run(t, &mut a));
+}
+
+fn main() {
+    let t = report();
+    println!("{} events, {} attributes, {} bytes", t.events.len() / 5, t.attributes.len() / 5, t.source.len());
+    let mut a = areas(32_768, 4 << 20);
+    let ours = best("ours, 11,000 cases", 20, || run(&t, &mut a));
+    let n = run(&t, &mut a);
+    let listing = a.out[..n].to_vec();
+    assert!(n > 500_000);
+    with_crate(&t, &listing, ours);
+
+    let mut x = Table::default();
+    for _ in 0..65_536 { x.event(0, "testsuites", &[]); }
+    hard("65,536 Start `testsuites`", &x);
+
+    let mut x = Table::default();
+    x.event(0, "testsuites", &[]);
+    x.event(0, "testsuite", &[("name", "s")]);
+    for _ in 0..30_000 {
+        x.event(0, "properties", &[]);
+        x.event(2, "properties", &[]);
+    }
+    x.event(2, "testsuite", &[]);
+    x.event(2, "testsuites", &[]);
+    hard("30,000 properties lists in one suite", &x);
+
+    for (same, name) in [(false, "one suite with 60,000 extras, keys of several lengths"), (true, "one suite with 60,000 extras, keys of one length")] {
+        let mut x = Table::default();
+        x.event(0, "testsuites", &[]);
+        let keys: Vec<String> = (0..60_000).map(|i| if same { format!("k{i:06}") } else { format!("k{}{i}", "x".repeat(i % 97)) }).collect();
+        let mut all: Vec<(&str, &str)> = vec![("name", "s")];
+        all.extend(keys.iter().map(|k| (k.as_str(), "v")));
+        x.event(0, "testsuite", &all);
+        x.event(2, "testsuite", &[]);
+        x.event(2, "testsuites", &[]);
+        hard(name, &x);
+    }
+
+    let mut x = Table::default();
+    let keys: Vec<String> = (0..65_536).map(|i| format!("k{i:06}")).collect();
+    let all: Vec<(&str, &str)> = keys.iter().map(|k| (k.as_str(), "v")).collect();
+    x.event(0, "testsuites", &all);
+    x.event(2, "testsuites", &[]);
+    hard("one element with 65,536 ignored attributes", &x);
+    // the same attributes shared by many elements
+    let first: Vec<u32> = x.events[..5].to_vec();
+    let mut y = x.clone();
+    y.events.clear();
+    for _ in 0..65_535 { y.events.extend_from_slice(&first); }
+    hard("65,535 elements that share 65,536 ignored attributes", &y);
+}
+
+#[cfg(not(with_crate))]
+fn with_crate(_: &Table, _: &[u8], _: f64) {}
+
+#[cfg(with_crate)]
+fn with_crate(t: &Table, listing: &[u8], ours: f64) {
+    let mut input = Vec::new();
+    for n in [t.events.len() / 5, t.attributes.len() / 5, t.source.len()] { input.extend_from_slice(&(n as u32).to_le_bytes()); }
+    for w in t.events.iter().chain(t.attributes.iter()) { input.extend_from_slice(&w.to_le_bytes()); }
+    input.extend_from_slice(&t.source);
+    let table = oracle::parse_input(&input, false).unwrap();
+    let sizes = oracle::Sizes::limits();
+    // what the library's `read` does besides: refusal 11 and a copy of the table
+    let theirs = best("the crate, 11,000 cases", 20, || {
+        let r = oracle::read(&table, sizes.areas).result.unwrap_or_else(|_| panic!());
+        let l = oracle::listing(&r);
+        assert!(l.as_bytes() == listing);
+        l.len()
+    });
+    println!("ratio ours / crate: {:.3}", ours / theirs);
+}

@@ -1,0 +1,18 @@
+pub mod WorkedListing
+mod Holding
+mod Words
+mod Codes
+mod View
+mod Said
+mod Steps
+mod Elements
+mod Acts
+mod Plans
+mod Trees
+mod AcceptedRun
+mod Rules
+mod Walks
+mod CaseNodes
+mod OwnCases
+mod BothCalls
+pub mod Demand3

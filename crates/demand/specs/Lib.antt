@@ -1,0 +1,5 @@
+pub mod Agree
+pub mod PublicMachine
+pub mod OwnStatus
+pub mod PublicListing
+pub mod Demand3

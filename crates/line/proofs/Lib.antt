@@ -1,0 +1,4 @@
+pub mod Putting
+pub mod Cutting
+pub mod Joining
+pub mod Answering

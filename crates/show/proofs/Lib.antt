@@ -1,0 +1,4 @@
+pub mod Dead
+pub mod Lines
+pub mod Unrolling
+pub mod Used
