@@ -1,5 +1,6 @@
-// Lent areas: cleared, and texts put at their front.
+// Lent areas: cleared, and texts put at their front; and two numbers that every layer above takes.
 ghost use mathlib.Core.Path.{_≡_};
+ghost use Prim.Native.Nat.{min};
 ghost use lib.ListN.{length};
 ghost use Rattle.area.specs.Area.{zeros, storedAnswer, placing, laid};
 
@@ -43,4 +44,16 @@ pub fn copy_into(out: &mut [u8], t: &[u8]) -> Stored
         i += 1;
     }
     Stored::Put(i)
+}
+
+pub fn least(a: usize, b: usize) -> usize
+    ensures { λ r. ⌜ r ≡ min a b ⌝ }
+{
+    if a < b { a } else { b }
+}
+
+pub fn wide(x: u32) -> usize
+    ensures { λ r. ⌜ r ≡ x ⌝ }
+{
+    x as usize
 }

@@ -17,7 +17,7 @@ use Rattle.element.specs.Outcome.{_>>=_, Place, Rooms, need, fits}
 use Rattle.element.specs.Attributes.{Given, byRole, among, numbered, readAttributes}
 use Rattle.element.specs.Held.{keysOf, Held, Roomy}
 use Rattle.attributes.specs.Steps.{Free, faultAt, Matches, went, stopped}
-use Rattle.element.specs.declared.extra.Given.{Given as Counted}
+use Rattle.extras.specs.declared.Given.{Given as Counted}
 use Rattle.attributes.specs.declared.Fault.{Fault}
 use Rattle.attributes.specs.declared.Step.{Step}
 use Rattle.attributes.specs.declared.Step.the-variants as step

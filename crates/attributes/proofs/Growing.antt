@@ -17,7 +17,7 @@ use Rattle.element.specs.Outcome.{_>>=_, Place, Rooms, need, within, fits}
 use Rattle.element.specs.Attributes.{Given, Grown, readAttributes, complete, readElement}
 use Rattle.element.specs.Held.{flat, Held, Roomy}
 use Rattle.attributes.specs.Steps.{faultAt, faultElement, missingOf, Free, knownOf, fresh, Matches, Becomes, became, faulted}
-use Rattle.element.specs.declared.extra.Given.{Given as Counted}
+use Rattle.extras.specs.declared.Given.{Given as Counted}
 use Rattle.attributes.specs.declared.Fault.{Fault}
 use Rattle.attributes.specs.declared.Range.{Range}
 use Rattle.attributes.specs.declared.Step.{Step}

@@ -5,8 +5,8 @@ use native.Mathlib.Omega.{arith}
 use lib.ListN.{length}
 use Rattle.element.specs.Attributes.{Given}
 use Rattle.element.specs.Held.{Held}
-use Rattle.element.proofs.Storing.{text-size}
-use Rattle.element.proofs.NewExtras.{own-size}
+use Rattle.extras.proofs.Storing.{text-size}
+use Rattle.extras.proofs.NewExtras.{own-size}
 
 pub held-fill : {own text : List ℕ} {extras fill : ℕ} {g : Given} → Held own text extras fill g → fill ≤ length text
 held-fill {own} {text} {extras} {fill} {g} hd =

@@ -21,13 +21,14 @@ use Rattle.role.specs.declared.Role.{Role}
 use Rattle.role.specs.declared.Role.the-variants as role
 use Rattle.element.specs.Outcome.{Place, Rooms, within, need}
 use Rattle.element.specs.Attributes.{Given, among, numbered, readExtra, byRole}
-use Rattle.element.specs.Held.{gaveAnswer, Held, Meets, goes, stops}
+use Rattle.element.specs.Held.{Held, Meets, goes, stops}
+use Rattle.extras.specs.Answers.{gaveAnswer}
 use Rattle.attributes.specs.Steps.{tookGiven, takenStep, gaveStep, faultStep, attributeIn, byKey, Matches, went, stopped}
-use Rattle.element.specs.declared.extra.Given.{Given as Counted}
-use Rattle.element.specs.declared.extra.Gave.{Gave}
-use Rattle.element.specs.declared.extra.Gave.the-variants as gave
-use Rattle.element.specs.declared.value.Took.{Took}
-use Rattle.element.specs.declared.value.Took.the-variants as took
+use Rattle.extras.specs.declared.Given.{Given as Counted}
+use Rattle.extras.specs.declared.Gave.{Gave}
+use Rattle.extras.specs.declared.Gave.the-variants as gave
+use Rattle.values.specs.declared.Took.{Took}
+use Rattle.values.specs.declared.Took.the-variants as took
 use Rattle.attributes.specs.declared.Step.{Step}
 use Rattle.attributes.proofs.RoleKeys.{Accepts, unknown-accepts}
 

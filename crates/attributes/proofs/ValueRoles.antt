@@ -27,13 +27,14 @@ use Rattle.role.specs.declared.Role.{Role}
 use Rattle.role.specs.declared.Role.the-variants as role
 use Rattle.element.specs.Outcome.{Place, Rooms, there, within, _>>=_}
 use Rattle.element.specs.Attributes.{Given, storing, readText, byRole, keep}
-use Rattle.element.specs.Held.{tookAnswer, unmoved, moved, putting, flat, Held, Roomy, Meets, goes, stops}
+use Rattle.element.specs.Held.{unmoved, moved, putting, flat, Held, Roomy, Meets, goes, stops}
+use Rattle.values.specs.Answers.{tookAnswer}
 use Rattle.attributes.specs.Steps.{roleFits, tookGiven}
-use Rattle.element.specs.declared.value.Took.{Took}
-use Rattle.element.specs.declared.value.Took.the-variants.{To, Not}
-use Rattle.element.proofs.Storing.{Local, pair-local, keyed-more}
-use Rattle.element.proofs.Extras.{meets-need, meets-refused, text-grown, text-room, text-none}
-use Rattle.element.proofs.NewExtras.{marked-local, text-local}
+use Rattle.values.specs.declared.Took.{Took}
+use Rattle.values.specs.declared.Took.the-variants.{To, Not}
+use Rattle.extras.proofs.Storing.{Local, pair-local, keyed-more}
+use Rattle.extras.proofs.Extras.{meets-need, meets-refused, text-grown, text-room, text-none}
+use Rattle.extras.proofs.NewExtras.{marked-local, text-local}
 use Rattle.attributes.proofs.Valuing.{value-meets}
 
 -- what is put into a record changes that record only

@@ -9,11 +9,12 @@ use Rattle.area.specs.Area.{zeros}
 use Rattle.refusal.specs.Refusal.{number, accepted}
 use Rattle.element.specs.Outcome.{Place, there, _>>=_}
 use Rattle.element.specs.Attributes.{Given, withMain}
-use Rattle.element.specs.Held.{tookAnswer, unmoved, putting, flat, Held, Meets, goes, stops}
+use Rattle.element.specs.Held.{unmoved, putting, flat, Held, Meets, goes, stops}
+use Rattle.values.specs.Answers.{tookAnswer}
 use Rattle.attributes.specs.Steps.{tookGiven}
-use Rattle.element.specs.declared.value.Took.{Took}
-use Rattle.element.specs.declared.value.Took.the-variants.{To, Not}
-use Rattle.element.proofs.Storing.{Local}
+use Rattle.values.specs.declared.Took.{Took}
+use Rattle.values.specs.declared.Took.the-variants.{To, Not}
+use Rattle.extras.proofs.Storing.{Local}
 
 -- the record changed
 module _ {own text : List ℕ} {extras fill : ℕ} {g : Given} (hd : Held own text extras fill g) where

@@ -19,11 +19,11 @@ use Rattle.put.specs.Put.{blank, hasBit}
 use Rattle.element.specs.Outcome.{Place, Rooms, pathTo}
 use Rattle.element.specs.Attributes.{Given, Grown, byRole}
 use Rattle.element.specs.Held.{Held}
-use Rattle.element.specs.declared.extra.Given.{Given as Counted}
-use Rattle.element.specs.declared.extra.Gave.{Gave}
-use Rattle.element.specs.declared.extra.Gave.the-variants as gave
-use Rattle.element.specs.declared.value.Took.{Took}
-use Rattle.element.specs.declared.value.Took.the-variants as took
+use Rattle.extras.specs.declared.Given.{Given as Counted}
+use Rattle.extras.specs.declared.Gave.{Gave}
+use Rattle.extras.specs.declared.Gave.the-variants as gave
+use Rattle.values.specs.declared.Took.{Took}
+use Rattle.values.specs.declared.Took.the-variants as took
 use Rattle.attributes.specs.declared.Fault.{Fault}
 use Rattle.attributes.specs.declared.Range.{Range}
 use Rattle.attributes.specs.declared.Grown.{Grown as CodedGrown}

@@ -1,15 +1,9 @@
 // An element's record, extras and texts from its attributes (the attribute loops of deserialize.rs).
-use element::extra::Gave;
-use element::extra::Given;
-use element::extra::read_extra;
-use element::repeat::is_among;
-use element::value::Took;
-use element::value::read_count;
-use element::value::read_duration;
-use element::value::read_number;
-use element::value::read_text;
-use element::value::read_timestamp;
-use element::value::read_uuid;
+use area::wide;
+use extras::Gave;
+use extras::Given;
+use extras::read_extra;
+use extras::repeat::is_among;
 use names::key_of;
 use put::has_bit;
 use record::put_field;
@@ -17,6 +11,13 @@ use refusal::Cause;
 use role::Role;
 use role::role_of;
 use table::parts::bytes_of;
+use values::Took;
+use values::read_count;
+use values::read_duration;
+use values::read_number;
+use values::read_text;
+use values::read_timestamp;
+use values::read_uuid;
 ghost use mathlib.Core.Path.{_≡_};
 ghost use mathlib.Core.List.{List, []};
 ghost use mathlib.Core.Bool.{true, false, not, _&&_};
@@ -66,12 +67,6 @@ pub enum Element {
 enum Step {
     To(Given),
     Not(Fault),
-}
-
-fn wide(x: u32) -> usize
-    ensures { λ r. ⌜ r ≡ x ⌝ }
-{
-    x as usize
 }
 
 fn taken(took: Took, given: Given, key: usize, j: usize) -> Step

@@ -15,7 +15,7 @@ use Rattle.refusal.specs.declared.Cause.{Cause}
 use Rattle.refusal.specs.declared.Cause.the-variants.{TextFull}
 use Rattle.table.specs.Event.{PieceKind}
 use Rattle.table.specs.Event as event
-use Rattle.text.specs.Gather.{newline, textOf, textLaid, cdataOf, cdataLaid, referenceOf, referenceLaid}
+use Rattle.gather.specs.Gather.{newline, textOf, textLaid, cdataOf, cdataLaid, referenceOf, referenceLaid}
 use Rattle.element.specs.Outcome.{Place, Rooms, fits}
 use Rattle.element.specs.Attributes.{extraKind}
 use Rattle.attributes.specs.Steps.{faultAt, Free}

@@ -6,10 +6,4 @@ pub mod TreeSheet
 pub mod TreeGood
 pub mod TreeRoles
 pub mod TreeElement
-pub mod Keys
 pub mod Taking
-pub mod Placing
-pub mod Storing
-pub mod Extras
-pub mod NewExtras
-pub mod Choosing

@@ -1,4 +1,4 @@
--- What the areas hold while an element is read, and how the code's answers are those of the definitions. Definitions only.
+-- What the areas hold while an element is read, and how answers are those of the definitions. Definitions only.
 use Prim.Native.Nat.{ℕ, _+_, _*_, _≤_, zero, suc}
 use mathlib.Core.Path.{_≡_}
 use mathlib.Core.List.{List, [], _∷_, _++_}
@@ -7,28 +7,17 @@ use lib.ListN.{length, drop, getD, set}
 use lib.Dec.{leb}
 use Rattle.area.specs.Answer.{Answer, gives, refuses}
 use Rattle.area.specs.Area.{zeros}
-use Rattle.refusal.specs.Refusal.{number, Refused, Outcome, accepted, refused}
+use Rattle.refusal.specs.Refusal.{Refused, Outcome, accepted, refused}
 use Rattle.table.specs.Event.{Attribute}
 use Rattle.element.specs.Outcome.{Place, Rooms, fits}
 use Rattle.names.specs.Names.{sameBytes}
 use Rattle.put.specs.Put.{putText}
 use Rattle.element.specs.Attributes.{Given, textIn, placeOf, oldExtra, newExtra}
-use Rattle.element.specs.declared.extra.Gave.{Gave}
-use Rattle.element.specs.declared.extra.Gave.the-variants as gave
-use Rattle.element.specs.declared.extra.Laid.{Laid}
-use Rattle.element.specs.declared.extra.Laid.the-variants as lay
-use Rattle.element.specs.declared.value.Took.{Took}
-use Rattle.element.specs.declared.value.Took.the-variants.{To, Not}
 
 -- the keys of attributes
 abbrev pub keysOf : List Attribute → List (List ℕ)
 keysOf [] = []
 keysOf (x ∷ xs) = x .key ∷ keysOf xs
-
--- where the texts end, or the refusal
-abbrev pub tookAnswer : Took → Answer ℕ
-tookAnswer (To fill) = gives fill
-tookAnswer (Not cause) = refuses (number cause)
 
 -- a value that is no text leaves the end of the texts where it is
 abbrev pub unmoved : {A : Type 0} → ℕ → Answer A → Answer ℕ
@@ -44,15 +33,6 @@ moved fill (refuses n) = refuses n
 abbrev pub putting : {A : Type 0} → (A → List ℕ → List ℕ) → Answer A → List ℕ → List ℕ
 putting f (gives a) r = f a r
 putting f (refuses n) r = r
-
-abbrev pub laidAnswer : Laid → Answer ℕ
-laidAnswer (lay.To end) = gives end
-laidAnswer lay.Full = refuses 13
-
--- the number of extras and the end of the texts, or the refusal
-abbrev pub gaveAnswer : Gave → Answer (ℕ × ℕ)
-gaveAnswer (gave.To given) = gives (given .extras, given .fill)
-gaveAnswer (gave.Not cause) = refuses (number cause)
 
 -- of n extras from number i on, whose records stand behind the element's, the first with this key, or the number behind them
 unfoldable pub placeAt : List ℕ → List ℕ → List ℕ → ℕ → ℕ → ℕ

@@ -1,4 +1,1 @@
-// One attribute of an element: its value read into the record, an extra put behind it, a key that is repeated.
-pub mod extra;
-pub mod repeat;
-pub mod value;
+// An element from its attributes (the attribute loops of deserialize.rs): the definitions, and what is true of them.

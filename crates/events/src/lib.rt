@@ -9,16 +9,11 @@ ghost use Rattle.table.specs.Table.{countOf};
 ghost use Rattle.table.specs.Event.{kindAt, bytesAt, resolveFrom};
 ghost use Rattle.events.specs.Ranges.{firstAt, endAt};
 ghost use Rattle.events.specs.Skip.{depthAfter, skipOf, skipAnswer, IsOne};
+use area::wide;
 use names::same;
 use refusal::Cause;
 use table::parts::bytes_of;
 use table::parts::word_of;
-
-fn wide(x: u32) -> usize
-    ensures { λ r. ⌜ r ≡ x ⌝ }
-{
-    x as usize
-}
 
 // The words from event i on, none behind the table.
 fn words_at(events: &[u32], i: usize) -> &[u32]

@@ -123,9 +123,9 @@ fn try_kind(title: &[u8], kind: u32) {
     try_events(title, &events);
 }
 
-// A suite with the output `ab`.
-fn try_output() {
-    let events = [
+// Start `testsuites`, Start `testsuite`, Start `system-out`, a Text.
+fn output_events() -> [u32; 20] {
+    [
         0u32,
         0,
         10,
@@ -146,22 +146,12 @@ fn try_output() {
         2,
         0,
         0,
-        2,
-        24,
-        10,
-        0,
-        0,
-        2,
-        10,
-        9,
-        0,
-        0,
-        2,
-        0,
-        10,
-        0,
-        0,
-    ];
+    ]
+}
+
+// A suite with the output `ab`, which is refused before it is closed.
+fn try_output() {
+    let events = output_events();
     let attributes = [0u32, 19, 4, 23, 1];
     let mut records = [0u32; 64];
     let mut text = [0u8; 64];

@@ -2,9 +2,10 @@
 mod order;
 mod texts;
 
+use area::least;
 use order::State;
 ghost use mathlib.Core.Path.{_≡_};
-ghost use Prim.Native.Nat.{_≤_, min};
+ghost use Prim.Native.Nat.{_≤_};
 ghost use lib.ListN.{length};
 ghost use Rattle.tree.specs.Layout.{layout};
 ghost use Rattle.layout.specs.Walk.{admits, behind, standsAt, walked};
@@ -14,12 +15,6 @@ ghost use Rattle.layout.specs.Open.{tallyOf, stateOf, Few};
 const WORDS: usize = 2097152;
 
 const BYTES: usize = 16777216;
-
-fn least(a: usize, b: usize) -> usize
-    ensures { λ r. ⌜ r ≡ min a b ⌝ }
-{
-    if a < b { a } else { b }
-}
 
 // Whether a record stands at the word `at`: 32 words are left, and its kind isn't 0.
 fn stands_at(words: &[u32], at: usize, limit: usize) -> bool

@@ -3,19 +3,13 @@
 pub mod values;
 
 use area::Stored;
+use area::least;
 ghost use mathlib.Core.Path.{_≡_};
 ghost use mathlib.Core.Bool.{not};
-ghost use Prim.Native.Nat.{min};
 ghost use Rattle.digits.specs.Digits.{decimal};
 ghost use Rattle.clock.specs.Written.{writtenTime};
 ghost use Rattle.escape.specs.Escape.{escaped};
 ghost use Rattle.line.specs.Behind.{filled, isFull, Puts};
-
-pub fn least(a: usize, b: usize) -> usize
-    ensures { λ r. ⌜ r ≡ min a b ⌝ }
-{
-    if a < b { a } else { b }
-}
 
 // Whether there may be room for more.
 pub fn is_open(k: Stored) -> bool

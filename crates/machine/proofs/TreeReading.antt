@@ -14,7 +14,7 @@ use Rattle.utf8.specs.Characters.{joined}
 use Rattle.refusal.specs.Refusal.{Outcome, accepted, refused}
 use Rattle.table.specs.Event.{Attribute, Start, Empty, End, Text, CData, Ref, Other, Indent, Event, Tag, Piece, Eof, Fault, kindAt, bytesAt, attributesFrom, eventOf, eventAt, resolveFrom, resolve}
 use Rattle.table.specs.Table.{word, countOf, tableOf}
-use Rattle.text.proofs.Gathering.{utf8-newline}
+use Rattle.gather.proofs.Gathering.{utf8-newline}
 use Rattle.tree.specs.Fields.{live}
 use Rattle.tree.specs.Layout.{Open, nothing, usedWords, usedText, allZero, filled, goodText, allGood, goodOrder, recordsOf, layout}
 use Rattle.tree.specs.Report.{Report}

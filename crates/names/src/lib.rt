@@ -1,12 +1,13 @@
 // Names: two parts compared, and one dispatch from a tag name or an attribute key to its code.
 ghost use mathlib.Core.Path.{_≡_};
-ghost use Prim.Native.Nat.{min};
 ghost use Rattle.names.specs.Names.{sameBytes, codeIn, cut};
 ghost use Rattle.names.specs.Tags.{tagOf};
 ghost use Rattle.names.specs.Keys.{keyOf};
 
 pub mod key;
 pub mod tag;
+
+use area::least;
 
 pub fn same(a: &[u8], b: &[u8]) -> bool
     ensures { λ r. ⌜ r ≡ sameBytes (now (a .entry)) (now (b .entry)) ⌝ }
@@ -22,12 +23,6 @@ pub fn same(a: &[u8], b: &[u8]) -> bool
         i += 1;
     }
     true
-}
-
-fn least(a: usize, b: usize) -> usize
-    ensures { λ r. ⌜ r ≡ min a b ⌝ }
-{
-    if a < b { a } else { b }
 }
 
 // The place of s, from 1, among the names that stand one behind the other in names, or 0.

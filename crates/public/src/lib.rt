@@ -1,10 +1,7 @@
-// Both calls together: the public listing of a table, and all that the program does between its input and its output.
+// Both calls together: the public listing of a table.
 use area::Stored;
 use area::clear;
-use area::clear_words;
 use area::copy_into;
-use input::Found;
-use input::input_of;
 use reader::Verdict;
 use reader::read;
 use show::Listed;
@@ -16,11 +13,9 @@ ghost use Rattle.area.specs.Area.{zeros, laid};
 ghost use Rattle.line.specs.Listing.{listingAnswer, outputOf};
 ghost use Rattle.machine.specs.Reading.{reading};
 ghost use Rattle.demand.specs.PublicListing.{refusedText, written, publicListing};
-ghost use Rattle.public.specs.Printed.{listingFor, printed, areasFor, areasLeft};
-ghost use Rattle.input.specs.Input.{foundOf, Lies};
 
 // "Any refusal prints `(refused)`"; of a shorter area the part that fits.
-fn refuse(out: &mut [u8]) -> usize
+pub fn refuse(out: &mut [u8]) -> usize
     ensures area { λ _. ⌜ now (out .exit) ≡ laid (zeros (length (now (out .entry)))) refusedText ⌝ }
     ensures count { λ r. ⌜ r ≡ min (length (now (out .entry))) (length refusedText) ⌝ }
 {
@@ -87,90 +82,4 @@ pub extern "C" fn kerzhoma_public_listing(
     ensures scratch { λ _. ⌜ now (scratch .exit) ≡ reading (now (events .entry)) (now (attributes .entry)) (now (source .entry)) (length (now (records .entry))) (length (now (text .entry))) (length (now (scratch .entry))) .scratch ⌝ }
 {
     public_listing(events, attributes, source, records, text, scratch, out)
-}
-
-// An input that is no table.
-fn refuse_input(records: &mut [u32], text: &mut [u8], scratch: &mut [u8], out: &mut [u8]) -> usize
-    ensures out { λ _. ⌜ now (out .exit) ≡ laid (zeros (length (now (out .entry)))) refusedText ⌝ }
-    ensures count { λ r. ⌜ r ≡ min (length (now (out .entry))) (length refusedText) ⌝ }
-    ensures records { λ _. ⌜ now (records .exit) ≡ zeros (length (now (records .entry))) ⌝ }
-    ensures text { λ _. ⌜ now (text .exit) ≡ zeros (length (now (text .entry))) ⌝ }
-    ensures scratch { λ _. ⌜ now (scratch .exit) ≡ zeros (length (now (scratch .entry))) ⌝ }
-{
-    clear_words(records);
-    clear(text);
-    clear(scratch);
-    refuse(out)
-}
-
-// The listing of what was found in the input: `events` and `attributes` are the areas that hold its words.
-fn print_found(
-    found: Found,
-    input: &[u8],
-    events: &[u32],
-    attributes: &[u32],
-    records: &mut [u32],
-    text: &mut [u8],
-    scratch: &mut [u8],
-    out: &mut [u8],
-) -> usize
-    requires { ⌜ Lies found (length (now events)) (length (now attributes)) (length (now input)) ⌝ }
-    ensures out { λ _. ⌜ now (out .exit) ≡ laid (zeros (length (now (out .entry)))) (listingFor (length (now (records .entry))) (length (now (text .entry))) (length (now (scratch .entry))) (length (now (out .entry))) (foundOf found (now (events .entry)) (now (attributes .entry)) (now (input .entry)))) ⌝ }
-    ensures count { λ r. ⌜ r ≡ min (length (now (out .entry))) (length (listingFor (length (now (records .entry))) (length (now (text .entry))) (length (now (scratch .entry))) (length (now (out .entry))) (foundOf found (now (events .entry)) (now (attributes .entry)) (now (input .entry))))) ⌝ }
-    ensures records { λ _. ⌜ now (records .exit) ≡ areasFor (length (now (records .entry))) (length (now (text .entry))) (length (now (scratch .entry))) (foundOf found (now (events .entry)) (now (attributes .entry)) (now (input .entry))) .words ⌝ }
-    ensures text { λ _. ⌜ now (text .exit) ≡ areasFor (length (now (records .entry))) (length (now (text .entry))) (length (now (scratch .entry))) (foundOf found (now (events .entry)) (now (attributes .entry)) (now (input .entry))) .text ⌝ }
-    ensures scratch { λ _. ⌜ now (scratch .exit) ≡ areasFor (length (now (records .entry))) (length (now (text .entry))) (length (now (scratch .entry))) (foundOf found (now (events .entry)) (now (attributes .entry)) (now (input .entry))) .scratch ⌝ }
-{
-    match found {
-        Found::Is(x) => {
-            let m = x.events;
-            let n = x.attributes;
-            let at = x.at;
-            let end = at + x.source;
-            public_listing(
-                &events[..m],
-                &attributes[..n],
-                &input[at..end],
-                records,
-                text,
-                scratch,
-                out,
-            )
-        }
-        Found::Not => refuse_input(records, text, scratch, out),
-    }
-}
-
-// What the program prints for its input, at the front of `out`; the words of the table go to the first two areas, which end zero.
-pub fn print_listing(
-    input: &[u8],
-    events: &mut [u32],
-    attributes: &mut [u32],
-    records: &mut [u32],
-    text: &mut [u8],
-    scratch: &mut [u8],
-    out: &mut [u8],
-) -> usize
-    ensures out { λ _. ⌜ now (out .exit) ≡ laid (zeros (length (now (out .entry)))) (printed (length (now (events .entry))) (length (now (attributes .entry))) (length (now (records .entry))) (length (now (text .entry))) (length (now (scratch .entry))) (length (now (out .entry))) (now (input .entry))) ⌝ }
-    ensures count { λ r. ⌜ r ≡ min (length (now (out .entry))) (length (printed (length (now (events .entry))) (length (now (attributes .entry))) (length (now (records .entry))) (length (now (text .entry))) (length (now (scratch .entry))) (length (now (out .entry))) (now (input .entry)))) ⌝ }
-    ensures events { λ _. ⌜ now (events .exit) ≡ zeros (length (now (events .entry))) ⌝ }
-    ensures attributes { λ _. ⌜ now (attributes .exit) ≡ zeros (length (now (attributes .entry))) ⌝ }
-    ensures records { λ _. ⌜ now (records .exit) ≡ areasLeft (length (now (events .entry))) (length (now (attributes .entry))) (length (now (records .entry))) (length (now (text .entry))) (length (now (scratch .entry))) (now (input .entry)) .words ⌝ }
-    ensures text { λ _. ⌜ now (text .exit) ≡ areasLeft (length (now (events .entry))) (length (now (attributes .entry))) (length (now (records .entry))) (length (now (text .entry))) (length (now (scratch .entry))) (now (input .entry)) .text ⌝ }
-    ensures scratch { λ _. ⌜ now (scratch .exit) ≡ areasLeft (length (now (events .entry))) (length (now (attributes .entry))) (length (now (records .entry))) (length (now (text .entry))) (length (now (scratch .entry))) (now (input .entry)) .scratch ⌝ }
-{
-    let found = input_of(input, events, attributes);
-    let n = print_found(
-        found,
-        input,
-        events,
-        attributes,
-        records,
-        text,
-        scratch,
-        out,
-    );
-    clear_words(events);
-    clear_words(attributes);
-    n
 }

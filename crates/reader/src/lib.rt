@@ -1,6 +1,7 @@
 // Reading: an event table in, a report's tree out (deserialize.rs of the crate).
 use area::clear;
 use area::clear_words;
+use area::least;
 use marks::NOWHERE;
 use marks::path_of;
 use marks::within;
@@ -16,7 +17,7 @@ use table::Checked;
 use table::check_table;
 ghost use mathlib.Core.Path.{_≡_};
 ghost use mathlib.Core.List.{List};
-ghost use Prim.Native.Nat.{ℕ, min};
+ghost use Prim.Native.Nat.{ℕ};
 ghost use lib.ListN.{length};
 ghost use Rattle.area.specs.Area.{zeros};
 ghost use Rattle.refusal.specs.Refusal as why;
@@ -114,12 +115,6 @@ fn halted(st: State, h: Halt) -> Reading
     let cause = fault.cause;
     let path = within(path_of(act, control, marks), fault.key);
     refusing(cause, path, h.event as u32, fault.attribute)
-}
-
-fn least(a: usize, b: usize) -> usize
-    ensures { λ r. ⌜ r ≡ min a b ⌝ }
-{
-    if a < b { a } else { b }
 }
 
 // "of longer areas only that much is used"

@@ -2,7 +2,7 @@
 mod elements;
 
 use area::Stored;
-use line::least;
+use area::least;
 ghost use mathlib.Core.Path.{_≡_};
 ghost use lib.ListN.{length};
 ghost use Rattle.line.specs.Listing.{listingAnswer, outputOf};

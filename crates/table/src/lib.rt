@@ -6,6 +6,8 @@ ghost use Rattle.table.specs.Table.{within, goodAttribute, goodShape, go
 
 pub mod parts;
 
+use area::wide;
+
 // Whether a table is good, or where it is not: the event and the attribute, 4294967295 where none is concerned.
 pub enum Checked {
     Good,
@@ -17,12 +19,6 @@ const NOWHERE: u32 = 4294967295;
 const MOST_ENTRIES: usize = 65536;
 
 const MOST_BYTES: usize = 16777216;
-
-fn wide(x: u32) -> usize
-    ensures { λ r. ⌜ r ≡ x ⌝ }
-{
-    x as usize
-}
 
 fn is_within(size: usize, start: u32, len: u32) -> bool
     ensures { λ r. ⌜ r ≡ within size start len ⌝ }

@@ -8,7 +8,6 @@ use Rattle.names.specs.Names.{sameBytes, codeFrom}
 use Rattle.reference.specs.Reference.{entities, entityChars, isEntity, entityChar, isCharRef, refAt}
 use Rattle.text.specs.Filter.{filtered}
 use Rattle.text.specs.Value.{valueText, valueOf}
-use Rattle.text.specs.Gather.{textOf, referenceOf}
 
 -- "an output U+0001, space, `a` keeps its space"
 output : filtered (0x01 ∷ 0x20 ∷ 0x61 ∷ []) ≡ 0x20 ∷ 0x61 ∷ []
@@ -33,13 +32,3 @@ unknown = refl
 short-area : valueOf 1 (0x61 ∷ 0x62 ∷ []) ≡ refuses 13
 unfolding need low high
 short-area = refl
-
--- row 14: output `ab`, 1 byte
-short-scratch : textOf 1 (0x61 ∷ 0x62 ∷ []) ≡ refuses 14
-unfolding need low high
-short-scratch = refl
-
--- a Ref event #65
-numbered : referenceOf 9 (0x23 ∷ 0x36 ∷ 0x35 ∷ []) ≡ refuses 8
-unfolding need low high isEntity entities sameBytes codeFrom
-numbered = refl

@@ -6,5 +6,4 @@ mod Writing
 mod Keys
 pub mod Checking
 pub mod Values
-pub mod Gathering
 mod Examples

@@ -2,4 +2,3 @@ pub mod Filter
 pub mod Kept
 pub mod Decode
 pub mod Value
-pub mod Gather

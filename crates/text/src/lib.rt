@@ -1,7 +1,6 @@
-// Texts on their way into a lent area: the filter, attribute values, gathered pieces; and an extra's key.
-mod decode;
+// Texts on their way into a lent area: the filter, attribute values; and an extra's key.
+pub mod decode;
 pub mod filter;
-pub mod gather;
 pub mod kept;
 pub mod key;
 pub mod value;

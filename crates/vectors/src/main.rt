@@ -53,13 +53,13 @@ fn try_char(digits: &[u8]) {
 
 fn try_value(text: &[u8]) {
     let mut room = [0u8; 64];
-    let kept = text::gather::gather_text(&mut room, text);
+    let kept = gather::gather_text(&mut room, text);
     show_kept(kept, &room);
 }
 
 fn try_entity(name: &[u8]) {
     let mut room = [0u8; 64];
-    let kept = text::gather::gather_reference(&mut room, name);
+    let kept = gather::gather_reference(&mut room, name);
     show_kept(kept, &room);
 }
 

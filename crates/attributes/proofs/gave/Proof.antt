@@ -1,5 +1,5 @@
 use Rattle.attributes.specs.Steps.{gaveStep}
-use Rattle.element.specs.declared.extra.Gave.{Gave}
+use Rattle.extras.specs.declared.Gave.{Gave}
 use mathlib.Core.Path.{sym, ap, _∙_}
 use borrow.Author.Needs.{needs}
 use Rattle.attributes.proofs.gave.Statement.{statement}

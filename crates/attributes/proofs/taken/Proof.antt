@@ -1,5 +1,5 @@
 use Rattle.attributes.specs.Steps.{takenStep}
-use Rattle.element.specs.declared.value.Took.{Took}
+use Rattle.values.specs.declared.Took.{Took}
 use mathlib.Core.Path.{sym, ap}
 use borrow.Author.Needs.{needs}
 use Rattle.attributes.proofs.taken.Statement.{statement}

@@ -5,10 +5,10 @@ use Rattle.content.proofs.texts.gather_piece.Statement.{statement}
 use Rattle.content.proofs.texts.gather_piece.Tie as tie
 use Rattle.content.proofs.texts.gather_piece.Reads as reads
 use Rattle.content.proofs.texts.gather_piece.Lts as lts
-use Rattle.text.proofs.gather.gather_cdata.Reads as gather-cdata-reads
-use Rattle.text.proofs.gather.gather_indent.Reads as gather-indent-reads
-use Rattle.text.proofs.gather.gather_reference.Reads as gather-reference-reads
-use Rattle.text.proofs.gather.gather_text.Reads as gather-text-reads
+use Rattle.gather.proofs.gather_cdata.Reads as gather-cdata-reads
+use Rattle.gather.proofs.gather_indent.Reads as gather-indent-reads
+use Rattle.gather.proofs.gather_reference.Reads as gather-reference-reads
+use Rattle.gather.proofs.gather_text.Reads as gather-text-reads
 
 -- src/texts.rt:150:14
 gather-text-requires : tie.Need-gather-text-requires

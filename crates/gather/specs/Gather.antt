@@ -1,0 +1,43 @@
+-- Gathered text: a piece of it put into scratch from its mark on (document 01, "pieces decoded one by one (2, 10, 14; CData has no references)"). Definitions only.
+use Prim.Native.Nat.{ℕ}
+use mathlib.Core.List.{List, [], _∷_}
+use mathlib.Core.Bool.{false, cond, _&&_}
+use Rattle.area.specs.Answer.{Answer, refuses}
+use Rattle.area.specs.Area.{placing, laid}
+use Rattle.utf8.specs.Utf8.{utf8}
+use Rattle.reference.specs.Reference.{isEntity, entityChar}
+use Rattle.text.specs.Decode.{decodedOf, decodedLaid}
+
+-- a Text; n bytes are left
+abbrev pub textOf : ℕ → List ℕ → Answer ℕ
+textOf n s = decodedOf 14 false n s
+
+abbrev pub textLaid : List ℕ → List ℕ → List ℕ
+textLaid out s = decodedLaid false out s
+
+-- a CData
+abbrev pub cdataOf : ℕ → List ℕ → Answer ℕ
+cdataOf n s = cond (utf8 s) (placing 14 n s) (refuses 2)
+
+abbrev pub cdataLaid : List ℕ → List ℕ → List ℕ
+cdataLaid out s = cond (utf8 s) (laid out s) out
+
+-- "A Ref event takes the five names only, else 8"
+abbrev pub referenceText : List ℕ → List ℕ
+referenceText name = entityChar name ∷ []
+
+abbrev pub referenceOf : ℕ → List ℕ → Answer ℕ
+referenceOf n name = cond (utf8 name) (cond (isEntity name) (placing 14 n (referenceText name)) (refuses 8)) (refuses 2)
+
+abbrev pub referenceLaid : List ℕ → List ℕ → List ℕ
+referenceLaid out name = cond (utf8 name && isEntity name) (laid out (referenceText name)) out
+
+-- "9 Indent (read as a Text of one newline; its own bytes are never read)"
+abbrev pub newline : List ℕ
+newline = 0x0A ∷ []
+
+abbrev pub indentOf : ℕ → Answer ℕ
+indentOf n = placing 14 n newline
+
+abbrev pub indentLaid : List ℕ → List ℕ
+indentLaid out = laid out newline
