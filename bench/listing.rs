@@ -3,13 +3,7 @@
 // Build and run: see README.md beside this file.
 use std::time::Instant;
 
-extern "C" {
-    fn kerzhoma_public_listing(
-        events: *const u32, events_len: usize, attributes: *const u32, attributes_len: usize, source: *const u8, source_len: usize,
-        records: *mut u32, records_len: usize, text: *mut u8, text_len: usize, scratch: *mut u8, scratch_len: usize,
-        out: *mut u8, out_len: usize,
-    ) -> usize;
-}
+mod call;
 
 #[derive(Default, Clone)]
 struct Table { events: Vec<u32>, attributes: Vec<u32>, source: Vec<u8> }
@@ -39,14 +33,7 @@ fn areas(records: usize, bytes: usize) -> Areas {
 }
 
 fn run(t: &Table, a: &mut Areas) -> usize {
-    // The call takes tables and areas of every length and content.
-    unsafe {
-        kerzhoma_public_listing(
-            t.events.as_ptr(), t.events.len(), t.attributes.as_ptr(), t.attributes.len(), t.source.as_ptr(), t.source.len(),
-            a.records.as_mut_ptr(), a.records.len(), a.text.as_mut_ptr(), a.text.len(), a.scratch.as_mut_ptr(), a.scratch.len(),
-            a.out.as_mut_ptr(), a.out.len(),
-        )
-    }
+    call::public_listing(&t.events, &t.attributes, &t.source, &mut a.records, &mut a.text, &mut a.scratch, &mut a.out)
 }
 
 // 11 suites of 1,000 cases: each case has an output, every tenth fails with a rerun.

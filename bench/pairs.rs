@@ -3,13 +3,10 @@
 // Build and run: see README.md beside this file.
 use std::{env, fs, path::Path};
 
-extern "C" {
-    fn kerzhoma_public_listing(
-        events: *const u32, events_len: usize, attributes: *const u32, attributes_len: usize, source: *const u8, source_len: usize,
-        records: *mut u32, records_len: usize, text: *mut u8, text_len: usize, scratch: *mut u8, scratch_len: usize,
-        out: *mut u8, out_len: usize,
-    ) -> usize;
-}
+mod call;
+mod random;
+
+use random::Random;
 
 struct Table { events: Vec<u32>, attributes: Vec<u32>, source: Vec<u8> }
 
@@ -23,17 +20,7 @@ fn table(path: &str) -> Option<Table> {
     Some(Table { events: words(3, m * 5)?, attributes: words(3 + m * 5, n * 5)?, source: raw.get(at..at + k)?.to_vec() })
 }
 
-struct Random(u64);
-
-impl Random {
-    fn next(&mut self) -> u64 {
-        self.0 ^= self.0 << 13;
-        self.0 ^= self.0 >> 7;
-        self.0 ^= self.0 << 17;
-        self.0
-    }
-    fn below(&mut self, n: usize) -> usize { (self.next() % n as u64) as usize }
-}
+fn below(r: &mut Random, n: usize) -> usize { (r.next() % n as u64) as usize }
 
 // Words of records; bytes of text, scratch and output.
 type Lengths = [usize; 4];
@@ -44,24 +31,17 @@ fn run(t: &Table, l: Lengths, dirt: u64) -> (bool, usize, Vec<u8>) {
     let mut records: Vec<u32> = (0..l[0]).map(|_| r.next() as u32).collect();
     let mut area = |n: usize| -> Vec<u8> { (0..n).map(|_| r.next() as u8).collect() };
     let (mut text, mut scratch, mut out) = (area(l[1]), area(l[2]), area(l[3]));
-    // The call takes tables and areas of every length and content.
-    let n = unsafe {
-        kerzhoma_public_listing(
-            t.events.as_ptr(), t.events.len(), t.attributes.as_ptr(), t.attributes.len(), t.source.as_ptr(), t.source.len(),
-            records.as_mut_ptr(), records.len(), text.as_mut_ptr(), text.len(), scratch.as_mut_ptr(), scratch.len(),
-            out.as_mut_ptr(), out.len(),
-        )
-    };
+    let n = call::public_listing(&t.events, &t.attributes, &t.source, &mut records, &mut text, &mut scratch, &mut out);
     // a refusal leaves the records zero, an accepted report has its first record
     (records.iter().any(|w| *w != 0), n, out)
 }
 
 fn lengths(r: &mut Random, t: &Table) -> Lengths {
-    let records = [0, 3, 32 * r.below(8), r.below(1000), 32 * (t.events.len() / 5 + t.attributes.len() / 5) + 35];
-    let bytes = [0, r.below(30), r.below(200), r.below(2000), t.source.len() + t.events.len() + 1];
-    let out = [0, r.below(12), r.below(100), r.below(1000), 65536];
+    let records = [0, 3, 32 * below(r, 8), below(r, 1000), 32 * (t.events.len() / 5 + t.attributes.len() / 5) + 35];
+    let bytes = [0, below(r, 30), below(r, 200), below(r, 2000), t.source.len() + t.events.len() + 1];
+    let out = [0, below(r, 12), below(r, 100), below(r, 1000), 65536];
     // mostly enough of all but one or two
-    let mut pick = |n: usize| if r.below(3) == 0 { r.below(n) } else { n - 1 };
+    let mut pick = |n: usize| if below(r, 3) == 0 { below(r, n) } else { n - 1 };
     [records[pick(5)], bytes[pick(5)], bytes[pick(5)], out[pick(5)]]
 }
 

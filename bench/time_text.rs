@@ -11,16 +11,9 @@ fn printed(buf: &mut [u8; 40], secs: u32, nanos: u32) -> usize {
     unsafe { kerzhoma_time_text(buf.as_mut_ptr(), buf.len(), secs, nanos) }
 }
 
-struct Random(u64);
+mod random;
 
-impl Random {
-    fn next(&mut self) -> u64 {
-        self.0 ^= self.0 << 13;
-        self.0 ^= self.0 >> 7;
-        self.0 ^= self.0 << 17;
-        self.0
-    }
-}
+use random::Random;
 
 fn main() {
     let mut random = Random(0x9e3779b97f4a7c15);
