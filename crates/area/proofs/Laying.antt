@@ -1,5 +1,5 @@
 -- A text is put into an area from its front, byte by byte. Assumes nothing.
-use Prim.Native.Nat.{ℕ, zero, suc, _+_, _-_, _≤_, _<_}
+use Prim.Native.Nat.{ℕ, suc, _+_, _-_, _≤_, _<_}
 use mathlib.Core.Path.{_≡_, refl, sym, ap, _∙_}
 use mathlib.Core.List.{List, [], _∷_, _++_, append-assoc, append-nil}
 use mathlib.Core.Bool.{Bool, true, false, cond}
@@ -9,7 +9,7 @@ use borrow.Author.Tests.{le-leb, lt-leb, leb-true, leb-false}
 use lib.Dec.{leb}
 use lib.ListN.{length, take, drop, set, length-append, length-set, length-take, length-drop, drop-of-length-le, take-append-drop, length-replicate}
 use lib.Seq.{take-suc-set, drop-set-lt, length-take-le, take-all, drop-drop, take-at, drop-at, append-snoc, take-append-le, take-append-add}
-use Rattle.area.specs.Answer.{Answer, gives, refuses}
+use Rattle.area.specs.Answer.{gives, refuses}
 use Rattle.area.specs.Area.{zeros, storedAnswer, placing, laid}
 use Rattle.area.proofs.Lists.{drop-zeros}
 use Rattle.area.specs.declared.Stored.{Stored}

@@ -1,11 +1,11 @@
 -- Lists, in the terms of code that goes along them. Assumes nothing.
 use Prim.Native.Nat.{ℕ, zero, suc, _+_, _-_, _≤_, _<_}
 use mathlib.Core.Path.{_≡_, refl, sym, ap, _∙_}
-use mathlib.Core.List.{List, [], _∷_, _++_}
+use mathlib.Core.List.{List, _∷_}
 use native.Mathlib.Numerals.{add-one, unary-clauses}
 use native.Mathlib.Omega.{arith}
-use lib.ListN.{length, getD, take, drop, replicate, length-replicate, replicate-append-replicate}
-use lib.Seq.{drop-cons, drop-drop, take-at, drop-at, take-all}
+use lib.ListN.{length, getD, take, drop}
+use lib.Seq.{drop-cons, drop-drop}
 use Rattle.area.specs.Area.{zeros}
 
 -- the list from i on, by its first element

@@ -4,11 +4,10 @@ use mathlib.Core.Path.{_≡_, refl, sym, ap, _∙_}
 use mathlib.Core.List.{List, [], _∷_}
 use mathlib.Core.Bool.{Bool, true, false, cond, and-eq-true-iff}
 use native.Mathlib.Omega.{arith}
-use native.Mathlib.Decide.{decLt}
 use borrow.Author.Tests.{eq-eqb, ne-eqb, eqb-true}
 use lib.Dec.{eqb}
 use lib.ListN.{length, getD, drop}
-use Rattle.area.specs.Answer.{Answer, gives, refuses}
+use Rattle.area.specs.Answer.{gives, refuses}
 use Rattle.utf8.specs.Utf8.{utf8}
 use Rattle.utf8.proofs.Rules.{ascii-on}
 use Rattle.digits.specs.Digits.{isDigit, allDigits, isNumber, numberIn, value, decimal}

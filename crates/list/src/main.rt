@@ -1,6 +1,6 @@
 // The program: a table from standard input, its public listing to standard output. It only reads and writes; crate `printing`
 // says what is printed.
-use printing::print_listing;
+use list_printing::print_listing;
 
 // The first n bytes of s, all of them where there are fewer.
 fn front(s: &[u8], n: usize) -> &[u8] {

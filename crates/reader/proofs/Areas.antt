@@ -11,9 +11,9 @@ use lib.Dec.{leb}
 use Rattle.area.specs.Area.{zeros, laid}
 use Rattle.area.proofs.Lists.{take-zeros, drop-zeros}
 use Rattle.area.proofs.Laying.{laid-zeros}
-use Rattle.element.specs.Outcome.{roomsOf, fits}
-use Rattle.content.specs.Holds.{Sized}
-use Rattle.steps.specs.Standing.{Lent}
+use Rattle.read_element.specs.Outcome.{roomsOf, fits}
+use Rattle.read_content.specs.Holds.{Sized}
+use Rattle.read_step.specs.Standing.{Lent}
 
 -- ---- rooms
 pub rooms-cut : (words text scratch : ℕ) → roomsOf (min (words / 32) 65536 * 32) (min text 16777216) (min scratch 16777216) ≡ roomsOf words text scratch

@@ -7,17 +7,17 @@ use lib.ListN.{length}
 use Rattle.area.specs.Area.{zeros}
 use Rattle.table.specs.Table.{countOf}
 use Rattle.table.specs.Event.{resolve}
-use Rattle.element.specs.Outcome.{Rooms, roomsOf}
-use Rattle.content.specs.Content.{Content}
-use Rattle.content.specs.Holds.{Sized}
-use Rattle.machine.specs.Machine.{run, begin}
-use Rattle.steps.specs.Standing.{machineOf, runOn, Stands, Standing, Lent, Refuses, Went, Ended, Stepped, beginning, nothing}
-use Rattle.steps.specs.declared.State.{State}
-use Rattle.steps.specs.declared.Halt.{Halt}
-use Rattle.steps.specs.declared.Step.{Step}
-use Rattle.steps.specs.declared.Step.the-variants as way
-use Rattle.steps.proofs.Running.{run-start}
-use Rattle.steps.proofs.Beginning.{begin-stands}
+use Rattle.read_element.specs.Outcome.{Rooms, roomsOf}
+use Rattle.read_content.specs.Content.{Content}
+use Rattle.read_content.specs.Holds.{Sized}
+use Rattle.read_machine.specs.Machine.{run, begin}
+use Rattle.read_step.specs.Standing.{machineOf, runOn, Stands, Standing, Lent, Refuses, Went, Ended, Stepped, beginning, nothing}
+use Rattle.read_step.specs.declared.State.{State}
+use Rattle.read_step.specs.declared.Halt.{Halt}
+use Rattle.read_step.specs.declared.Step.{Step}
+use Rattle.read_step.specs.declared.Step.the-variants as way
+use Rattle.read_step.proofs.Running.{run-start}
+use Rattle.read_step.proofs.Beginning.{begin-stands}
 use Rattle.reader.proofs.Areas.{lent-sized}
 
 -- the run from the start is the run from here

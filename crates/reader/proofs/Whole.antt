@@ -14,15 +14,15 @@ use Rattle.refusal.specs.declared.Path.{Path}
 use Rattle.refusal.specs.declared.PathElement.{PathElement}
 use Rattle.table.specs.Table.{tableOf}
 use Rattle.table.specs.Event.{Event, resolve}
-use Rattle.element.specs.Outcome.{_>>=_, Rooms, roomsOf, pathTo}
-use Rattle.control.specs.Coded.{modeOf, actOf}
-use Rattle.marks.specs.Marks.{pathOf}
-use Rattle.marks.specs.Coded.{marksOf, Leads}
-use Rattle.machine.specs.Machine.{Machine, run, begin}
-use Rattle.machine.specs.Reading.{Read, readAs, reading}
-use Rattle.steps.specs.Standing.{refusalAt, Lent, Refuses, Ended}
-use Rattle.steps.specs.declared.State.{State}
-use Rattle.steps.specs.declared.Halt.{Halt}
+use Rattle.read_element.specs.Outcome.{_>>=_, Rooms, roomsOf, pathTo}
+use Rattle.read_state.specs.Coded.{modeOf, actOf}
+use Rattle.read_place.specs.Marks.{pathOf}
+use Rattle.read_place.specs.Coded.{marksOf, Leads}
+use Rattle.read_machine.specs.Machine.{Machine, run, begin}
+use Rattle.read_machine.specs.Reading.{Read, readAs, reading}
+use Rattle.read_step.specs.Standing.{refusalAt, Lent, Refuses, Ended}
+use Rattle.read_step.specs.declared.State.{State}
+use Rattle.read_step.specs.declared.Halt.{Halt}
 use Rattle.reader.specs.Ran.{Ran}
 use Rattle.reader.specs.declared.Run.{Run}
 use Rattle.reader.specs.declared.Run.the-variants as ran

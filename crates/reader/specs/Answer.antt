@@ -2,7 +2,7 @@
 use Prim.Native.Nat.{ℕ}
 use mathlib.Core.List.{List}
 use Rattle.refusal.specs.Refusal.{Refused, Outcome, accepted, refused, refusalOf}
-use Rattle.machine.specs.Reading.{Read}
+use Rattle.read_machine.specs.Reading.{Read}
 use Rattle.reader.specs.declared.Verdict.{Verdict}
 use Rattle.reader.specs.declared.Verdict.the-variants.{Accepted, Refused as IsRefused}
 use Rattle.reader.specs.declared.Reading.{Reading}

@@ -2,8 +2,8 @@
 use Prim.Native.Nat.{ℕ}
 use mathlib.Core.List.{List}
 use Rattle.refusal.specs.Refusal.{Outcome}
-use Rattle.machine.specs.Machine.{Machine}
-use Rattle.steps.specs.Standing.{Refuses, Ended}
+use Rattle.read_machine.specs.Machine.{Machine}
+use Rattle.read_step.specs.Standing.{Refuses, Ended}
 use Rattle.reader.specs.declared.Run.{Run}
 use Rattle.reader.specs.declared.Run.the-variants as ran
 

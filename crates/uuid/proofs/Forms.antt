@@ -13,11 +13,11 @@ use Rattle.utf8.specs.Utf8.{utf8}
 use Rattle.digits.specs.Digits.{allDigits, value}
 use Rattle.digits.proofs.Values.{append-digits}
 use Rattle.digits.proofs.Numbers.{number-field}
-use Rattle.fields.specs.Fields.{part, all, fieldOf}
-use Rattle.fields.specs.declared.Field.{Field}
-use Rattle.fields.proofs.Tests.{passes, fails}
-use Rattle.fields.proofs.Numerals.{field-good, field-number}
-use Rattle.fields.proofs.Texts.{digits-on, byte-on}
+use Rattle.fixed.specs.Fields.{part, all, fieldOf}
+use Rattle.fixed.specs.declared.Field.{Field}
+use Rattle.fixed.proofs.Tests.{passes, fails}
+use Rattle.fixed.proofs.Numerals.{field-good, field-number}
+use Rattle.fixed.proofs.Texts.{digits-on, byte-on}
 use Rattle.uuid.specs.Uuid.{uuidTests, isUuid, wordsOf, formOf, uuidOf}
 use Rattle.uuid.specs.declared.Words.{Words}
 use Rattle.uuid.specs.declared.Form.the-variants.{Right, Wrong}

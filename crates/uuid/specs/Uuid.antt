@@ -7,7 +7,7 @@ use lib.Dec.{eqb}
 use Rattle.area.specs.Answer.{Answer, gives, refuses}
 use Rattle.utf8.specs.Utf8.{utf8}
 use Rattle.digits.specs.Digits.{allDigits, value}
-use Rattle.fields.specs.Fields.{part, all}
+use Rattle.fixed.specs.Fields.{part, all}
 use Rattle.uuid.specs.declared.Words.{Words}
 use Rattle.uuid.specs.declared.Uuid.{Uuid}
 use Rattle.uuid.specs.declared.Uuid.the-variants.{Is, NotUtf8, Bad}

@@ -1,6 +1,6 @@
 use mathlib.Core.Path.{_∙_}
 use borrow.Author.Needs.{needs}
-use Rattle.marks.proofs.Leading.{spare}
+use Rattle.read_place.proofs.Leading.{spare}
 use Rattle.reader.proofs.Whole.{halted-there}
 use Rattle.reader.proofs.halted.Statement.{statement}
 use Rattle.reader.proofs.halted.Tie as tie

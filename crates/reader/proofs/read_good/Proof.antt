@@ -5,9 +5,9 @@ use denote.Ref.{now}
 use lib.ListN.{length}
 use Rattle.area.specs.Area.{zeros}
 use Rattle.table.specs.Event.{resolve}
-use Rattle.element.specs.Outcome.{roomsOf}
-use Rattle.machine.specs.Machine.{run, begin}
-use Rattle.steps.specs.Standing.{refusalAt}
+use Rattle.read_element.specs.Outcome.{roomsOf}
+use Rattle.read_machine.specs.Machine.{run, begin}
+use Rattle.read_step.specs.Standing.{refusalAt}
 use Rattle.reader.specs.Answer.{readingAnswer}
 use Rattle.reader.proofs.Whole.{ran-done, ran-halted, read-ended, read-refused}
 use Rattle.reader.proofs.read_good.Statement.{statement}

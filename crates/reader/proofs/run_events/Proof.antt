@@ -4,8 +4,8 @@ use borrow.Author.Needs.{needs}
 use denote.Ref.{now}
 use lib.ListN.{length}
 use Rattle.table.specs.Table.{countOf}
-use Rattle.element.specs.Outcome.{roomsOf}
-use Rattle.steps.proofs.Tables.{sizes}
+use Rattle.read_element.specs.Outcome.{roomsOf}
+use Rattle.read_step.proofs.Tables.{sizes}
 use Rattle.reader.proofs.Looping as looping
 use Rattle.reader.proofs.Looping.{Looping, loop-begins, loop-stands, loop-lent, loop-sized, loop-goes, loop-ends, loop-halts}
 use Rattle.reader.proofs.run_events.Statement.{statement}

@@ -1,7 +1,7 @@
 use native.Mathlib.Omega.{arith}
 use borrow.Author.Needs.{needs}
-use Rattle.fields.proofs.Numerals.{field-most}
-use Rattle.fields.specs.Fields.{part}
+use Rattle.fixed.proofs.Numerals.{field-most}
+use Rattle.fixed.specs.Fields.{part}
 use Rattle.uuid.proofs.Forms.{form-length, form-wrong, form-right}
 use Rattle.uuid.proofs.form_of.Statement.{statement}
 use Rattle.uuid.proofs.form_of.Tie as tie

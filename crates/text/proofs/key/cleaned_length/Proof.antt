@@ -6,9 +6,6 @@ use Prim.Native.Nat.{_-_}
 use native.Mathlib.Omega.{arith}
 use Rattle.text.proofs.key.cleaned_length.Statement.{statement}
 use Rattle.text.proofs.key.cleaned_length.Tie as tie
-use Rattle.text.proofs.key.cleaned_length.Reads as reads
-use Rattle.text.proofs.key.cleaned_length.Lts as lts
-use Rattle.text.proofs.decode.piece_of.Reads as piece-of-reads
 
 abbrev Inv-loop : tie.InvT-loop
 Inv-loop raw i₀ k₀ i k = Counting raw i k
@@ -16,43 +13,33 @@ Inv-loop raw i₀ k₀ i k = Counting raw i k
 abbrev μ-loop : tie.MeasureT-loop
 μ-loop raw i₀ k₀ i k = length raw - i
 
--- src/key.rt:49:5
 loop-holds : tie.Need-loop-holds Inv-loop μ-loop
 loop-holds c = counting-start _
 
--- src/key.rt:50:26
 sub-piece-of : tie.Need-sub-piece-of Inv-loop μ-loop
 sub-piece-of c = omega arith
 
--- src/key.rt:50:26
 part-piece-of-start : tie.Need-part-piece-of-start Inv-loop μ-loop
 part-piece-of-start c = omega arith
 
--- src/key.rt:50:26
 part-piece-of-end : tie.Need-part-piece-of-end Inv-loop μ-loop
 part-piece-of-end c = omega arith
 
--- src/key.rt:50:13
 piece-of-requires : tie.Need-piece-of-requires Inv-loop μ-loop
 piece-of-requires c κs = part-some (c .before .before .before .before .args .key .now) (c .before .before .loop .i) (c .before .loop-test .taken)
 
--- src/key.rt:51:9
 add-k : tie.Need-add-k Inv-loop μ-loop
 add-k c = omega (arith, counting-within (c .before .before .before .before .loop .inv) (c .before .before .before .loop-test .taken) (c .before .piece-of .result) (c .before .piece-of .ensures), c .before .before .before .before .before .before .good)
 
--- src/key.rt:52:9
 add-i : tie.Need-add-i Inv-loop μ-loop
 add-i c = omega (arith, counting-more (c .before .before .before .before .before .loop .inv) (c .before .before .before .before .loop-test .taken) (c .before .before .piece-of .result) (c .before .before .piece-of .ensures) .within, c .before .before .before .before .before .before .before .good)
 
--- src/key.rt:49:5
 loop-less : tie.Need-loop-less Inv-loop μ-loop
 loop-less c = omega (arith, piece-moves true (c .before .before .before .before .before .before .before .args .key .now) (c .before .before .before .before .before .loop .i) (c .before .before .before .before .loop-test .taken) (c .before .before .piece-of .result) (c .before .before .piece-of .ensures), c .before .before .before .before .loop-test .taken)
 
--- src/key.rt:49:5
 loop-again : tie.Need-loop-again Inv-loop μ-loop
 loop-again c = counting-more (c .before .before .before .before .before .loop .inv) (c .before .before .before .before .loop-test .taken) (c .before .before .piece-of .result) (c .before .before .piece-of .ensures)
 
--- src/key.rt:44:1
 returns : tie.Need-returns Inv-loop μ-loop
 returns c = counting-done (c .before .loop .inv) (c .loop-test .left)
 

@@ -1,0 +1,64 @@
+use Rattle.list_printing.proofs.Inputs.{lies-on}
+use Rattle.list_printing.proofs.Inputs.{same-found}
+use Rattle.list_printing.specs.Printed.{printed, areasLeft}
+use Rattle.area.specs.Area.{zeros}
+use lib.ListN.{length}
+use mathlib.Core.Path.{ap, _∙_}
+use borrow.Author.Needs.{needs}
+use Rattle.list_printing.proofs.print_listing.Statement.{statement}
+use Rattle.list_printing.proofs.print_listing.Tie as tie
+
+input-of-requires : tie.Need-input-of-requires
+input-of-requires c κs = search needs
+
+print-found-requires : tie.Need-print-found-requires
+print-found-requires c κs = let i = c .before .before .before .before .before .before .before .before .before .before .input-of in
+    let a = c .before .before .before .before .before .before .before .before .before .before .before .before .before .before .before .before .before .before .before .before .args in
+    lies-on (i .result) (length (a .events .now)) (length (i .last .1 .0)) (length (a .attributes .now)) (length (i .last .1 .1 .0)) (length (a .input .now)) (i .kept .1 .0) (i .kept .1 .1 .0) (i .ensures .1)
+
+clear-words-requires : tie.Need-clear-words-requires
+clear-words-requires c κs = search needs
+
+clear-words-requires-2 : tie.Need-clear-words-requires-2
+clear-words-requires-2 c κs = search needs
+
+same-length : tie.Need-same-length
+same-length c = search needs
+
+same-length-2 : tie.Need-same-length-2
+same-length-2 c = search needs
+
+same-length-3 : tie.Need-same-length-3
+same-length-3 c = search needs
+
+same-length-4 : tie.Need-same-length-4
+same-length-4 c = search needs
+
+same-length-5 : tie.Need-same-length-5
+same-length-5 c = search needs
+
+same-length-6 : tie.Need-same-length-6
+same-length-6 c = search needs
+
+returns : tie.Need-returns
+unfolding printed areasLeft
+returns c = let a = c .before .before .before .before .before .before .before .before .before .before .before .before .before .before .before .before .before .before .before .before .before .before .before .before .before .before .before .before .before .before .before .before .before .before .before .before .before .args in
+    let i = c .before .before .before .before .before .before .before .before .before .before .before .before .before .before .before .before .before .before .before .before .before .before .before .before .before .before .before .input-of in
+    let h = same-found (length (a .records .now)) (length (a .text .now)) (length (a .scratch .now)) (length (a .out .now)) _ _ (i .ensures .0) _ _ _ _ _ (c .before .before .before .before .before .before .before .before .before .before .before .before .before .before .before .before .print-found .ensures) in
+    (h .0, (h .1 .0, (c .before .before .before .before .before .before .clear-words .ensures ∙ ap zeros (i .kept .1 .0), (c .before .before .clear-words2 .ensures ∙ ap zeros (i .kept .1 .1 .0), h .1 .1))))
+
+pub print-listing-spec : {M : Type 1} → statement M
+print-listing-spec =
+    tie.close
+    (tie.spec
+    input-of-requires
+    print-found-requires
+    clear-words-requires
+    clear-words-requires-2
+    same-length
+    same-length-2
+    same-length-3
+    same-length-4
+    same-length-5
+    same-length-6
+    returns)

@@ -1,0 +1,250 @@
+-- Document 01: "Proved cases: the listing above; the nine examples of rows 2–10; `+5` is 5; `8388607.999999999` read exactly; flaky
+-- alone is success; an output U+0001, space, `a` keeps its space". What is expected is written down, not computed. Definitions only.
+use Prim.Native.Nat.{ℕ}
+use Prim.Native.String.{String}
+use mathlib.Core.Path.{_≡_}
+use mathlib.Core.List.{List, [], _∷_, _++_}
+use mathlib.Core.Option.{none, some}
+use Rattle.names.specs.Bytes.{bytes}
+use Rattle.refusal.specs.Refusal.{accepted, refused}
+use Rattle.refusal.specs.declared.PathElement.{PathElement}
+use Rattle.table.specs.Event.{resolve}
+use Rattle.tree_report.specs.Report.{Counts, TestSuite, Report}
+use Rattle.read_machine.specs.Reading.{reading, deserialize}
+use Rattle.public_claims.specs.PublicListing.{publicListing}
+use Rattle.public_cases.specs.Document.{Markup, _≔_, start, empty, end, text, eventsOf, attributesOf, sourceOf}
+
+-- ---- a case: a table, and what is expected of it
+pub data Expected : Type 0 where
+  -- accepted, with this public listing
+  lists : List ℕ → Expected
+  -- accepted, with this report
+  reads : Report → Expected
+  -- refused: number, path, event, attribute
+  refuses : ℕ → List PathElement → ℕ → ℕ → Expected
+
+pub record Case : Type 0 where
+  pub events : List ℕ
+  pub attributes : List ℕ
+  pub source : List ℕ
+  pub expected : Expected
+
+-- the areas have 10 records of 32 words, 64 bytes of text, 64 of scratch and 256 of output, which is enough for each case
+abbrev pub HoldsOf : List ℕ → List ℕ → List ℕ → Expected → Type 0
+HoldsOf events attributes source (lists t) = publicListing events attributes source 320 64 64 256 ≡ t
+HoldsOf events attributes source (reads r) = deserialize (resolve events attributes source) ≡ accepted (some r)
+HoldsOf events attributes source (refuses n p e a) =
+    reading events attributes source 320 64 64 .outcome ≡ refused (record { number = n; path = p; event = e; attribute = a })
+
+abbrev pub Holds : Case → Type 0
+Holds c = HoldsOf (c .events) (c .attributes) (c .source) (c .expected)
+
+pub data All : List Case → Type 0 where
+  no-case : All []
+  one-case : {c : Case} {cs : List Case} → Holds c → All cs → All (c ∷ cs)
+
+-- ---- how the cases are written
+abbrev pub document : List Markup → Expected → Case
+document ms e = record { events = eventsOf ms; attributes = attributesOf ms; source = sourceOf ms; expected = e }
+
+-- a text of lines, each with its newline
+abbrev pub lines : List String → List ℕ
+lines [] = []
+lines (s ∷ ss) = bytes s ++ (10 ∷ lines ss)
+
+-- "4294967295 stands where none is concerned"
+abbrev pub nowhere : ℕ
+nowhere = 4294967295
+
+-- the elements of paths by docs/REFUSALS.md: kind, index, event
+abbrev pub testsuites : PathElement
+testsuites = record { kind = 1; index = nowhere; event = nowhere }
+
+abbrev pub testsuite : ℕ → ℕ → PathElement
+testsuite i e = record { kind = 2; index = i; event = e }
+
+abbrev pub testcase : ℕ → ℕ → PathElement
+testcase i e = record { kind = 3; index = i; event = e }
+
+abbrev pub attribute : ℕ → PathElement
+attribute k = record { kind = 16; index = k; event = nowhere }
+
+abbrev pub noCounts : Counts
+noCounts = record { tests = 0; failures = 0; errors = 0; skipped = 0; disabled = none }
+
+-- ---- "the listing above"
+abbrev pub worked : Case
+worked =
+    document (start "testsuites" ("name" ≔ "r" ∷ "tests" ≔ "2" ∷ [])
+    ∷ start "testsuite" ("name" ≔ "lab" ∷ "tests" ≔ "2" ∷ [])
+    ∷ empty "testcase" ("name" ≔ "a" ∷ "time" ≔ "0.5" ∷ [])
+    ∷ start "testcase" ("name" ≔ "b" ∷ [])
+    ∷ empty "failure" ("message" ≔ "m" ∷ [])
+    ∷ empty "rerunFailure" []
+    ∷ end "testcase"
+    ∷ end "testsuite"
+    ∷ end "testsuites"
+    ∷ [])
+    (lists (lines ("(report \"r\" 2 0 0 0 -"
+    ∷ "(suite \"lab\" 2 0 0 0 -"
+    ∷ "(case \"a\" - 0.500 success flaky 0)"
+    ∷ "(case \"b\" - - failure rerun 1"
+    ∷ "(run failure -))))"
+    ∷ [])))
+
+-- ---- "the nine examples of rows 2–10"
+-- 2, "name FF": testsuites/testsuite[0]/@name
+abbrev pub notUtf8 : Case
+notUtf8 =
+    document (start "testsuites" []
+    ∷ empty "testsuite" (record { key = bytes "name"; value = 0xFF ∷ [] } ∷ [])
+    ∷ end "testsuites"
+    ∷ [])
+    (refuses 2 (testsuites ∷ testsuite 0 nowhere ∷ attribute 1 ∷ []) 1 0)
+
+-- 3, "tests `-0`": testsuites/@tests
+abbrev pub badInteger : Case
+badInteger =
+    document (empty "testsuites" ("tests" ≔ "-0" ∷ []) ∷ [])
+    (refuses 3 (testsuites ∷ attribute 6 ∷ []) 0 0)
+
+-- 4: testsuites/testsuite[0]/@timestamp
+abbrev pub badTimestamp : Case
+badTimestamp =
+    document (start "testsuites" []
+    ∷ empty "testsuite" ("name" ≔ "s" ∷ "timestamp" ≔ "2023-02-29T00:00:00Z" ∷ [])
+    ∷ end "testsuites"
+    ∷ [])
+    (refuses 4 (testsuites ∷ testsuite 0 nowhere ∷ attribute 4 ∷ []) 1 1)
+
+-- 5: testsuites/testsuite[0]("s")/testcase[1]/@time
+abbrev pub badTime : Case
+badTime =
+    document (start "testsuites" []
+    ∷ start "testsuite" ("name" ≔ "s" ∷ [])
+    ∷ empty "testcase" ("name" ≔ "t" ∷ [])
+    ∷ empty "testcase" ("name" ≔ "u" ∷ "time" ≔ "8388608" ∷ [])
+    ∷ end "testsuite"
+    ∷ end "testsuites"
+    ∷ [])
+    (refuses 5 (testsuites ∷ testsuite 0 1 ∷ testcase 1 nowhere ∷ attribute 5 ∷ []) 3 3)
+
+-- 6: testsuites/@uuid
+abbrev pub badUuid : Case
+badUuid =
+    document (empty "testsuites" ("uuid" ≔ "1" ∷ []) ∷ [])
+    (refuses 6 (testsuites ∷ attribute 3 ∷ []) 0 0)
+
+-- 7: testsuites/testsuite[0]("s")/testcase[0]/@name
+abbrev pub missingName : Case
+missingName =
+    document (start "testsuites" []
+    ∷ start "testsuite" ("name" ≔ "s" ∷ [])
+    ∷ empty "testcase" []
+    ∷ end "testsuite"
+    ∷ end "testsuites"
+    ∷ [])
+    (refuses 7 (testsuites ∷ testsuite 0 1 ∷ testcase 0 nowhere ∷ attribute 1 ∷ []) 2 nowhere)
+
+-- 8, "no events": not even an Eof
+abbrev pub noEvents : Case
+noEvents = record { events = []; attributes = []; source = []; expected = refuses 8 [] 0 nowhere }
+
+-- 9, "`a` twice": testsuites/testsuite[0]("s")/testcase[0], no Attribute
+abbrev pub twice : Case
+twice =
+    document (start "testsuites" []
+    ∷ start "testsuite" ("name" ≔ "s" ∷ [])
+    ∷ empty "testcase" ("name" ≔ "t" ∷ "a" ≔ "1" ∷ "a" ≔ "2" ∷ [])
+    ∷ end "testsuite"
+    ∷ end "testsuites"
+    ∷ [])
+    (refuses 9 (testsuites ∷ testsuite 0 1 ∷ testcase 0 nowhere ∷ []) 2 3)
+
+-- 10, "name `&x;`": testsuites/@name
+abbrev pub badReference : Case
+badReference =
+    document (empty "testsuites" ("name" ≔ "&x;" ∷ []) ∷ [])
+    (refuses 10 (testsuites ∷ attribute 1 ∷ []) 0 0)
+
+-- ---- "`+5` is 5"
+abbrev pub plusFive : Case
+plusFive =
+    document (empty "testsuites" ("tests" ≔ "+5" ∷ []) ∷ [])
+    (lists (lines ("(report - 5 0 0 0 -)" ∷ [])))
+
+-- ---- "`8388607.999999999` read exactly"
+abbrev pub exact : Case
+exact =
+    document (empty "testsuites" ("time" ≔ "8388607.999999999" ∷ []) ∷ [])
+    (reads (record {
+      name = none;
+      uuid = none;
+      timestamp = none;
+      time = some (record { seconds = 8388607; nanos = 999999999 });
+      counts = noCounts;
+      suites = [];
+    }))
+
+-- ---- "flaky alone is success"
+abbrev pub flakyAlone : Case
+flakyAlone =
+    document (start "testsuites" []
+    ∷ start "testsuite" ("name" ≔ "s" ∷ [])
+    ∷ start "testcase" ("name" ≔ "t" ∷ [])
+    ∷ empty "flakyFailure" []
+    ∷ end "testcase"
+    ∷ end "testsuite"
+    ∷ end "testsuites"
+    ∷ [])
+    (lists (lines ("(report - 0 0 0 0 -"
+    ∷ "(suite \"s\" 0 0 0 0 -"
+    ∷ "(case \"t\" - - success flaky 1"
+    ∷ "(run failure -))))"
+    ∷ [])))
+
+-- ---- "an output U+0001, space, `a` keeps its space"
+abbrev pub spaceKept : TestSuite
+spaceKept =
+    record {
+      name = bytes "s";
+      counts = noCounts;
+      timestamp = none;
+      time = none;
+      cases = [];
+      properties = [];
+      systemOut = some (bytes " a");
+      systemErr = none;
+      extra = [];
+    }
+
+abbrev pub output : Case
+output =
+    document (start "testsuites" []
+    ∷ start "testsuite" ("name" ≔ "s" ∷ [])
+    ∷ start "system-out" []
+    ∷ text "\u{1} a"
+    ∷ end "system-out"
+    ∷ end "testsuite"
+    ∷ end "testsuites"
+    ∷ [])
+    (reads (record { name = none; uuid = none; timestamp = none; time = none; counts = noCounts; suites = spaceKept ∷ [] }))
+
+-- ---- the table
+abbrev pub cases : List Case
+cases =
+    worked
+    ∷ notUtf8
+    ∷ badInteger
+    ∷ badTimestamp
+    ∷ badTime
+    ∷ badUuid
+    ∷ missingName
+    ∷ noEvents
+    ∷ twice
+    ∷ badReference
+    ∷ plusFive
+    ∷ exact
+    ∷ flakyAlone
+    ∷ output
+    ∷ []

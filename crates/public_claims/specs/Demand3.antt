@@ -1,0 +1,97 @@
+-- Demand 3, whole: what is claimed of the public listing. The claims are types; proofs/Demand3.antt has a proof of each. Definitions only.
+--
+-- Whoever wants to be sure that this is what document 01 asks for reads these definitions, each beside the sentence of 01 that it states:
+--   tableOf, resolve (crate table: Table, Event)       refusal 11; a table's events with their bytes and attributes
+--   reading (crate machine: Reading)                   what reading answers and leaves in its areas: the promise of the call
+--   deserialize (crate machine: Reading)               the report that the rules of reading give for events, with no areas
+--   render (crate line: Listing)                       the text of a report's listing
+--   listingAnswer, outputOf (crate line: Listing)      what listing answers and leaves in the output area: the promise of the call
+--   refusedText, publicListing (PublicListing)         both calls, one behind the other
+--   public, tablesAgree (Agree)                        the public part of a table; when two tables agree
+--   publicText (PublicMachine)                         the listing as read from public events alone, with no areas and no private text
+--   ownStatuses, rule, Ruled (OwnStatus)               each case's own status elements in a table, the status rule, and the two side by side
+--
+-- `reading` and `outputOf` take the lengths of the areas and not what these held before: no claim depends on old contents.
+use Prim.Native.Nat.{ℕ, _<_}
+use mathlib.Core.Path.{_≡_}
+use mathlib.Core.List.{List}
+use mathlib.Core.Bool.{Bool, true, false, cond}
+use mathlib.Core.Option.{some}
+use mathlib.Core.Logic.{_⊎_, _↔_}
+use lib.Dec.{leb}
+use lib.ListN.{length}
+use Rattle.refusal.specs.Refusal.{accepted}
+use Rattle.table.specs.Event.{Event, resolve}
+use Rattle.tree_report.specs.Report.{Report}
+use Rattle.read_machine.specs.Reading.{reading, deserialize}
+use Rattle.list_text.specs.Listing.{PublicCase, publicPart, render}
+use Rattle.public_claims.specs.Agree.{public, tablesAgree}
+use Rattle.public_claims.specs.PublicMachine.{publicText}
+use Rattle.public_claims.specs.OwnStatus.{ownStatuses, casesOfAll, Ruled}
+use Rattle.public_claims.specs.PublicListing.{refusedText, isAccepted, publicListing}
+
+-- ---- what the claims speak of
+-- "The table handed in": any words and bytes
+pub record Table : Type 0 where
+  pub events : List ℕ
+  pub attributes : List ℕ
+  pub source : List ℕ
+
+-- "areas of every length": the record area's words, the bytes of the text area, of scratch and of the output area
+pub record Areas : Type 0 where
+  pub words : ℕ
+  pub text : ℕ
+  pub scratch : ℕ
+  pub output : ℕ
+
+abbrev pub eventsOf : Table → List Event
+eventsOf t = resolve (t .events) (t .attributes) (t .source)
+
+-- "Accepted means not refused by reading."
+abbrev pub isRead : Table → Areas → Bool
+isRead t a = isAccepted (reading (t .events) (t .attributes) (t .source) (a .words) (a .text) (a .scratch) .outcome)
+
+-- "The public listing of a table"
+abbrev pub listing : Table → Areas → List ℕ
+listing t a = publicListing (t .events) (t .attributes) (t .source) (a .words) (a .text) (a .scratch) (a .output)
+
+-- "Two tables agree"
+abbrev pub Agreeing : Table → Table → Type 0
+Agreeing t u = tablesAgree (t .events) (t .attributes) (t .source) (u .events) (u .attributes) (u .source)
+
+-- a text in an output area of n bytes; `(refused)` if that is too short, 16
+abbrev pub fitted : ℕ → List ℕ → List ℕ
+fitted n f = cond (leb (length f) n) f refusedText
+
+-- "Which cases the report has, in which order, with which status elements, follows from the table by the rules of reading alone."
+abbrev pub IsReport : Table → Report → Type 0
+IsReport t r = deserialize (eventsOf t) ≡ accepted (some r)
+
+-- all cases of a report, as they are listed and in that order
+abbrev pub casesOf : Report → List PublicCase
+casesOf r = casesOfAll (publicPart r .suites)
+
+-- the output area is too short for the report's listing
+abbrev pub TooShort : Table → Areas → Type 0
+TooShort t a = (r : Report) × IsReport t r × (a .output < length (render r))
+
+-- an accepted table's report, and what is listed
+pub record Listed (t : Table) (a : Areas) : Type 0 where
+  pub report : Report
+  pub read : IsReport t report
+  pub shown : listing t a ≡ fitted (a .output) (render report)
+  -- case by case: the status, run kind and number of runs that the rule gives for the case's own status elements in the table
+  pub ruled : Ruled (casesOf report) (ownStatuses (public (eventsOf t)))
+
+-- ---- the claims
+pub record Demand3 : Type 0 where
+  -- A. The listing of an accepted table is what the public machine reads from its public events.
+  pub onlyPublic : (t : Table) (a : Areas) → isRead t a ≡ true → listing t a ≡ fitted (a .output) (publicText (public (eventsOf t)))
+  -- B. Tables that agree, both accepted or both refused by reading, have the same public listing; so with areas of equal lengths, and also where
+  -- only the output areas are equally long.
+  pub sameListing : (t u : Table) (a b : Areas) → Agreeing t u → isRead t a ≡ isRead u b → a .output ≡ b .output → listing t a ≡ listing u b
+  -- C. The listing of an accepted table holds exactly the cases of its report, in their order, each with what the status rule gives for it.
+  -- D. That report is the one that the rules of reading give for the table.
+  pub listed : (t : Table) (a : Areas) → isRead t a ≡ true → Listed t a
+  -- D. The answer is `(refused)` exactly where reading refuses or the output area is too short.
+  pub refusedExactly : (t : Table) (a : Areas) → (listing t a ≡ refusedText) ↔ ((isRead t a ≡ false) ⊎ TooShort t a)

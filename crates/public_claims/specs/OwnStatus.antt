@@ -1,0 +1,201 @@
+-- Document 01, demand 3's status clause: the status elements of each case, found by a walk over the public events that knows neither
+-- the reader's plan nor its tally, and the status rule over the list of them. Definitions only.
+use Prim.Native.Nat.{ℕ, zero, suc}
+use mathlib.Core.Path.{_≡_}
+use mathlib.Core.List.{List, [], _∷_, _++_}
+use mathlib.Core.Bool.{Bool, true, false, cond, _&&_, _||_}
+use mathlib.Core.Option.{Option, none, some}
+use lib.ListN.{length}
+use lib.Dec.{leb, eqb}
+use Rattle.names.specs.Names.{sameBytes}
+use Rattle.names.specs.Tags.{tagOf}
+use Rattle.table.specs.Event.{TagKind, Start, Empty, End}
+use Rattle.list_text.specs.Listing.{Status, isSuccess, isFailure, isError, isSkipped, RunKind, noKind, flakyKind, rerunKind, PublicCase, PublicSuite, PublicReport}
+use Rattle.public_claims.specs.Agree.{PublicEvent, PublicTag, PublicEof, PublicFault}
+
+-- ---- the status rule
+-- a case's status, the kind of its runs and their number
+pub record Verdict : Type 0 where
+  pub status : Status
+  pub kind : RunKind
+  pub runs : ℕ
+
+abbrev pub verdict : Status → RunKind → ℕ → Verdict
+verdict s k n = record { status = s; kind = k; runs = n }
+
+-- "the mains `failure`, `error`, `skipped`": codes 6, 7, 8
+abbrev pub mains : List ℕ → List ℕ
+mains [] = []
+mains (k ∷ ks) = cond (leb k 8) (k ∷ mains ks) (mains ks)
+
+-- "a flaky (`flakyFailure`, `flakyError`)": codes 9 and 10
+abbrev pub flakies : List ℕ → List ℕ
+flakies [] = []
+flakies (k ∷ ks) = cond (leb 9 k && leb k 10) (k ∷ flakies ks) (flakies ks)
+
+-- "reruns (`rerunFailure`, `rerunError`)": codes 11 and 12
+abbrev pub reruns : List ℕ → List ℕ
+reruns [] = []
+reruns (k ∷ ks) = cond (leb 11 k) (k ∷ reruns ks) (reruns ks)
+
+abbrev pub mainStatus : ℕ → Status
+mainStatus m = cond (eqb m 6) isFailure isError
+
+-- by the mains, flaky runs and reruns; none is refused
+abbrev pub ruleFor : List ℕ → List ℕ → List ℕ → Option Verdict
+-- "no main is success with its flaky runs"; "reruns alone"
+ruleFor [] fs [] = some (verdict isSuccess flakyKind (length fs))
+ruleFor [] fs (r ∷ rs) = none
+-- "failure or error carries its runs, kind Rerun if there are none"
+ruleFor (m ∷ []) [] [] = some (cond (eqb m 8) (verdict isSkipped noKind 0) (verdict (mainStatus m) rerunKind 0))
+-- "`skipped` with a flaky or rerun"
+ruleFor (m ∷ []) (f ∷ fs) [] = cond (eqb m 8) none (some (verdict (mainStatus m) flakyKind (length (f ∷ fs))))
+ruleFor (m ∷ []) [] (r ∷ rs) = cond (eqb m 8) none (some (verdict (mainStatus m) rerunKind (length (r ∷ rs))))
+-- "flaky and rerun together"
+ruleFor (m ∷ []) (f ∷ fs) (r ∷ rs) = none
+-- "two of the mains"
+ruleFor (m ∷ n ∷ ms) fs rs = none
+
+unfoldable pub rule : List ℕ → Option Verdict
+rule ks = ruleFor (mains ks) (flakies ks) (reruns ks)
+
+-- ---- the walk
+-- where the walk stands: at report level, in a suite, in a case, in a status element; on its way to the next End of a tag code; on
+-- its way to the End of a name at depth 0; behind the report
+pub data Spot : Type 0 where
+  atReport inSuite inCase inStatus over : Spot
+  upTo : ℕ → Spot → Spot
+  past : List ℕ → ℕ → Spot → Spot
+
+-- the seven status names, codes 6 to 12
+abbrev pub isStatusName : List ℕ → Bool
+isStatusName name = leb 6 (tagOf name) && leb (tagOf name) 12
+
+-- the children that are read to the next End of their name: `properties` (4), `system-out` (14), `system-err` (15) of suite and
+-- case, `stackTrace` (13) and the outputs of a status element; any other is skipped
+abbrev pub held : List ℕ → Spot → Spot
+held name s =
+    cond (eqb (tagOf name) 4) (upTo 4 s)
+    (cond (eqb (tagOf name) 14) (upTo 14 s)
+    (cond (eqb (tagOf name) 15) (upTo 15 s) (past name 0 s)))
+
+abbrev pub heldByStatus : List ℕ → Spot
+heldByStatus name =
+    cond (eqb (tagOf name) 13) (upTo 13 inStatus)
+    (cond (eqb (tagOf name) 14) (upTo 14 inStatus)
+    (cond (eqb (tagOf name) 15) (upTo 15 inStatus) (past name 0 inStatus)))
+
+abbrev pub leaveSkip : ℕ → List ℕ → Spot → Spot
+leaveSkip zero name s = s
+leaveSkip (suc depth) name s = past name depth s
+
+-- where it stands behind a tag; a Bool says that a report exists
+unfoldable pub move : Bool → Spot → TagKind → List ℕ → Spot
+-- "`testsuite` counts only once a report exists. End `testsuites` stops. All else is passed over"
+move seen atReport Start name = cond (eqb (tagOf name) 2 && seen) inSuite atReport
+move seen atReport Empty name = atReport
+move seen atReport End name = cond (eqb (tagOf name) 1) over atReport
+-- "An unknown Start is skipped"; "Any End but the element's own is passed over, and so is any Empty"
+move seen inSuite Start name = cond (eqb (tagOf name) 3) inCase (held name inSuite)
+move seen inSuite Empty name = inSuite
+move seen inSuite End name = cond (eqb (tagOf name) 2) atReport inSuite
+move seen inCase Start name = cond (isStatusName name) inStatus (held name inCase)
+move seen inCase Empty name = inCase
+move seen inCase End name = cond (eqb (tagOf name) 3) inSuite inCase
+-- "Status elements close at an End of any of the seven status names. A child [..] Start or Empty alike"
+move seen inStatus Start name = heldByStatus name
+move seen inStatus Empty name = heldByStatus name
+move seen inStatus End name = cond (isStatusName name) inCase inStatus
+-- "is read to the next End of its name without counting depth"
+move seen (upTo code s) Start name = upTo code s
+move seen (upTo code s) Empty name = upTo code s
+move seen (upTo code s) End name = cond (eqb (tagOf name) code) s (upTo code s)
+-- "to the End of the same name at depth 0, each Start of that name adding one"
+move seen (past skipped depth s) Start name = past skipped (cond (sameBytes name skipped) (suc depth) depth) s
+move seen (past skipped depth s) Empty name = past skipped depth s
+move seen (past skipped depth s) End name = cond (sameBytes name skipped) (leaveSkip depth skipped s) (past skipped depth s)
+move seen over k name = over
+
+-- a status element directly in the case
+abbrev pub ownAt : Spot → TagKind → List ℕ → Bool
+ownAt inCase Start name = isStatusName name
+ownAt inCase Empty name = isStatusName name
+ownAt inCase End name = false
+ownAt atReport k name = false
+ownAt inSuite k name = false
+ownAt inStatus k name = false
+ownAt over k name = false
+ownAt (upTo code s) k name = false
+ownAt (past skipped depth s) k name = false
+
+-- the case is left at its End
+abbrev pub leaves : Spot → Bool
+leaves atReport = true
+leaves inSuite = true
+leaves over = true
+leaves inCase = false
+leaves inStatus = false
+leaves (upTo code s) = leaves s
+leaves (past skipped depth s) = leaves s
+
+-- the codes of a case's own status elements in the events from a spot in it on, to its End
+unfoldable pub ownFrom : Spot → List PublicEvent → List ℕ
+ownFrom s [] = []
+ownFrom s (PublicTag k name xs ∷ es) =
+    let rest = ownFrom (move true s k name) es in
+    cond (leaves s) [] (cond (ownAt s k name) (tagOf name ∷ rest) rest)
+ownFrom s (PublicEof ∷ es) = []
+ownFrom s (PublicFault ∷ es) = []
+
+-- a report begins
+abbrev pub beginsReport : Spot → TagKind → List ℕ → Bool
+beginsReport atReport Start name = eqb (tagOf name) 1
+beginsReport atReport Empty name = eqb (tagOf name) 1
+beginsReport atReport End name = false
+beginsReport inSuite k name = false
+beginsReport inCase k name = false
+beginsReport inStatus k name = false
+beginsReport over k name = false
+beginsReport (upTo code s) k name = false
+beginsReport (past skipped depth s) k name = false
+
+-- the case that a tag in a suite begins, with its own status elements in the events behind it; an Empty case has none
+abbrev pub caseAt : Spot → TagKind → List ℕ → List PublicEvent → List (List ℕ)
+caseAt inSuite Start name es = cond (eqb (tagOf name) 3) (ownFrom inCase es ∷ []) []
+caseAt inSuite Empty name es = cond (eqb (tagOf name) 3) ([] ∷ []) []
+caseAt inSuite End name es = []
+caseAt atReport k name es = []
+caseAt inCase k name es = []
+caseAt inStatus k name es = []
+caseAt over k name es = []
+caseAt (upTo code s) k name es = []
+caseAt (past skipped depth s) k name es = []
+
+-- the cases of the last report, in order, each by its own status elements; those before were found already
+unfoldable pub casesFrom : Bool → Spot → List (List ℕ) → List PublicEvent → List (List ℕ)
+casesFrom seen s found [] = found
+casesFrom seen s found (PublicTag k name xs ∷ es) =
+    casesFrom (seen || beginsReport s k name) (move seen s k name) (cond (beginsReport s k name) [] (found ++ caseAt s k name es)) es
+casesFrom seen s found (PublicEof ∷ es) = found
+casesFrom seen s found (PublicFault ∷ es) = found
+
+unfoldable pub ownStatuses : List PublicEvent → List (List ℕ)
+ownStatuses es = casesFrom false atReport [] es
+
+-- ---- each listed case
+abbrev pub casesOfAll : List PublicSuite → List PublicCase
+casesOfAll [] = []
+casesOfAll (s ∷ ss) = s .cases ++ casesOfAll ss
+
+-- the listed cases, in order
+abbrev pub casesListed : Option PublicReport → List PublicCase
+casesListed none = []
+casesListed (some r) = casesOfAll (r .suites)
+
+abbrev pub verdictOf : PublicCase → Verdict
+verdictOf c = verdict (c .status) (c .kind) (length (c .runs))
+
+-- case by case, the rule gives what is listed
+pub data Ruled : List PublicCase → List (List ℕ) → Type 0 where
+  no-case : Ruled [] []
+  one-case : {c : PublicCase} {cs : List PublicCase} {ks : List ℕ} {kss : List (List ℕ)} → rule ks ≡ some (verdictOf c) → Ruled cs kss → Ruled (c ∷ cs) (ks ∷ kss)

@@ -1,0 +1,156 @@
+-- An element's attributes, one after the other, against the definition. Assumes nothing.
+use Prim.Native.Nat.{ℕ, _+_, _-_, _*_, _/_, _≤_, _<_}
+use mathlib.Core.Path.{_≡_, refl, sym, ap, subst, _∙_}
+use mathlib.Core.Bool.{Bool, true, false, not, _&&_}
+use mathlib.Core.List.{List, [], _∷_, _++_}
+use mathlib.Core.Option.{none, some}
+use native.Mathlib.Omega.{arith}
+use borrow.Author.Tests.{le-leb, lt-leb, leb-true, leb-false}
+use lib.ListN.{length}
+use lib.Dec.{leb}
+use Rattle.names.specs.Keys.{keyOf}
+use Rattle.refusal.specs.Refusal.{Outcome, accepted, refused}
+use Rattle.read_keys.specs.Roles.{roleOf}
+use Rattle.table.specs.Event.{Attribute, markAt, keyAt, attributeAt, attributesFrom}
+use Rattle.table.proofs.Resolving.{attributes-end, attributes-next}
+use Rattle.read_element.specs.Outcome.{_>>=_, Place, Rooms, need, fits}
+use Rattle.read_element.specs.Attributes.{Given, byRole, among, numbered, readAttributes}
+use Rattle.read_element.specs.Held.{keysOf, Held, Roomy}
+use Rattle.read_attributes.specs.Steps.{Free, faultAt, Matches, went, stopped}
+use Rattle.read_extras.specs.declared.Given.{Given as Counted}
+use Rattle.read_attributes.specs.declared.Fault.{Fault}
+use Rattle.read_attributes.specs.declared.Step.{Step}
+use Rattle.read_attributes.specs.declared.Step.the-variants as step
+use Rattle.read_attributes.proofs.HeldBounds.{held-fill, held-extras}
+use Rattle.read_attributes.proofs.FreeKeys.{keys-next, free-key}
+
+-- areas of any lengths have rooms
+abbrev pub spacious : ℕ → ℕ → Rooms
+spacious own text = record { records = some (own / 32); text = some text; scratch = none }
+
+abbrev pub somewhere : Place
+somewhere = record { path = []; event = 0; attribute = 0 }
+
+pub roomy-spacious : (own text : ℕ) → Roomy (spacious own text) 0 own text
+unfolding fits
+roomy-spacious own text = record { for-records = λ n. go n (leb (n * 32) own) refl; for-text = λ n. refl }
+  where
+    go : (n : ℕ) (t : Bool) → leb (n * 32) own ≡ t → leb (0 + n) (own / 32) ≡ leb (n * 32) own
+    go n true e = let h = leb-true (n * 32) own e in le-leb (0 + n) (own / 32) (omega arith) ∙ sym e
+    go n false e = let h = leb-false (n * 32) own e in lt-leb (0 + n) (own / 32) (omega arith) ∙ sym e
+
+-- what a step that went on, or one that stopped, tells of the outcome
+pub record Gone (own text : List ℕ) (m : Outcome Given) (given : Counted) : Type 0 where
+  pub said : Given
+  pub holds : Held own text (given .extras) (given .fill) said
+  pub same : m ≡ accepted said
+
+pub gone : {p : Place} {own text : List ℕ} {m : Outcome Given} {given : Counted} → Matches p own text m (step.To given) → Gone own text m given
+gone (went {g = g} h) = record { said = g; holds = h; same = refl }
+
+pub halted : {p : Place} {own text : List ℕ} {m : Outcome Given} {f : Fault} → Matches p own text m (step.Not f) → m ≡ refused (faultAt p f)
+halted stopped = refl
+
+-- the definition's attribute j
+abbrev attributeStep : List ℕ → List ℕ → ℕ → ℕ → Rooms → Place → ℕ → ℕ → Given → Outcome Given
+attributeStep attributes source kind first rooms p used j g =
+    need (markAt attributes j && not (among (keyAt attributes source j) (keysOf (attributesFrom attributes source (j - first) first)))) (numbered p j) 9
+    (byRole rooms (numbered p j) used kind (keyOf (keyAt attributes source j)) (roleOf kind (keyOf (keyAt attributes source j))) (attributeAt attributes source j) g)
+
+-- what `step_attribute` says of attribute j
+abbrev Stepped : List ℕ → List ℕ → ℕ → ℕ → Bool → ℕ → Counted → List ℕ → List ℕ → List ℕ → List ℕ → Step → Type 0
+Stepped attributes source kind first free j given own text own′ text′ r =
+    (g : Given) (rooms : Rooms) (p : Place) (used : ℕ) → Held own text (given .extras) (given .fill) g → Roomy rooms used (length own) (length text)
+    → (free ≡ true → among (keyAt attributes source j) (keysOf (attributesFrom attributes source (j - first) first)) ≡ false)
+    → Matches p own′ text′ (attributeStep attributes source kind first rooms p used j g) r
+
+-- the definition from attribute j on, behind what was given, is the definition from the first
+pub record Along (kind : ℕ) (attributes source : List ℕ) (first end : ℕ) (g₀ : Given) (rooms : Rooms) (p : Place) (used : ℕ) (own text : List ℕ) (j : ℕ) (given : Counted) : Type 0 where
+  pub said : Given
+  pub holds : Held own text (given .extras) (given .fill) said
+  pub same : readAttributes rooms p used kind [] first (attributesFrom attributes source (end - first) first) g₀
+      ≡ readAttributes rooms p used kind (keysOf (attributesFrom attributes source (j - first) first)) j (attributesFrom attributes source (end - j) j) said
+
+pub record Going (kind : ℕ) (attributes source : List ℕ) (first end : ℕ) (own₀ text₀ : List ℕ) (g₀ : Given) (own text : List ℕ) (j : ℕ) (given : Counted) : Type 0 where
+  pub own-same : length own ≡ length own₀
+  pub text-same : length text ≡ length text₀
+  pub low : first ≤ j
+  pub high : j ≤ end
+  pub along : (rooms : Rooms) (p : Place) (used : ℕ) → Roomy rooms used (length own₀) (length text₀) → Along kind attributes source first end g₀ rooms p used own text j given
+
+module _ (kind : ℕ) (attributes source : List ℕ) (first end : ℕ) (own₀ text₀ : List ℕ) (g₀ : Given) where
+  pub going-start : {given : Counted} → first ≤ end → Held own₀ text₀ (given .extras) (given .fill) g₀ → Going kind attributes source first end own₀ text₀ g₀ own₀ text₀ first given
+  going-start h hd = record {
+    own-same = refl;
+    text-same = refl;
+    low = omega arith;
+    high = h;
+    along = λ rooms p used ro. record {
+      said = g₀;
+      holds = hd;
+      same = ap (λ (xs : List Attribute). readAttributes rooms p used kind (keysOf xs) first (attributesFrom attributes source (end - first) first) g₀) (sym (attributes-end attributes source first first (omega arith)));
+    };
+  }
+
+module _ {kind : ℕ} {attributes source : List ℕ} {first end : ℕ} {own₀ text₀ : List ℕ} {g₀ : Given} {own text : List ℕ} {j : ℕ} {given : Counted}
+    (x : Going kind attributes source first end own₀ text₀ g₀ own text j given) where
+  pub going-fill : given .fill ≤ length text
+  going-fill = held-fill (x .along (spacious (length own₀) (length text₀)) somewhere 0 (roomy-spacious (length own₀) (length text₀)) .holds)
+
+  pub going-extras : given .extras * 32 + 32 ≤ length own
+  going-extras = held-extras (x .along (spacious (length own₀) (length text₀)) somewhere 0 (roomy-spacious (length own₀) (length text₀)) .holds)
+
+  pub going-done : end ≤ j → (rooms : Rooms) (p : Place) (used : ℕ) → Roomy rooms used (length own₀) (length text₀)
+      → Matches p own text (readAttributes rooms p used kind [] first (attributesFrom attributes source (end - first) first) g₀) (step.To given)
+  unfolding readAttributes
+  going-done h rooms p used ro =
+      let a = x .along rooms p used ro in
+      let e = a .same ∙ ap (λ (xs : List Attribute). readAttributes rooms p used kind (keysOf (attributesFrom attributes source (j - first) first)) j xs (a .said)) (attributes-end attributes source end j h) in
+      subst (λ (m : Outcome Given). Matches p own text m (step.To given)) (sym e) (went (a .holds))
+
+  -- the definition with attribute j taken first
+  turn : j < end → (rooms : Rooms) (p : Place) (used : ℕ) (ro : Roomy rooms used (length own₀) (length text₀))
+      → readAttributes rooms p used kind [] first (attributesFrom attributes source (end - first) first) g₀
+      ≡ (attributeStep attributes source kind first rooms p used j (x .along rooms p used ro .said)
+      >>= λ g. readAttributes rooms p used kind (keysOf (attributesFrom attributes source (j - first) first) ++ (keyAt attributes source j ∷ [])) (j + 1) (attributesFrom attributes source (end - (j + 1)) (j + 1)) g)
+  unfolding readAttributes
+  turn h rooms p used ro =
+      let a = x .along rooms p used ro in
+      a .same ∙ ap (λ (xs : List Attribute). readAttributes rooms p used kind (keysOf (attributesFrom attributes source (j - first) first)) j xs (a .said)) (attributes-next attributes source end j h)
+
+  module _ (h : j < end) {free : Bool} (f : free ≡ true → Free attributes source first end) {own′ text′ : List ℕ} {r : Step} (s : Stepped attributes source kind first free j given own text own′ text′ r) where
+    -- attribute j at a place and in rooms
+    taking : {t : Step} → r ≡ t → (rooms : Rooms) (p : Place) (used : ℕ) (ro : Roomy rooms used (length own₀) (length text₀))
+        → Matches p own′ text′ (attributeStep attributes source kind first rooms p used j (x .along rooms p used ro .said)) t
+    taking q rooms p used ro =
+        let a = x .along rooms p used ro in
+        subst (λ (t : Step). Matches p own′ text′ (attributeStep attributes source kind first rooms p used j (a .said)) t) q
+        (s (a .said) rooms p used (a .holds)
+        (subst (λ (n : ℕ). Roomy rooms used n (length text)) (sym (x .own-same)) (subst (λ (n : ℕ). Roomy rooms used (length own₀) n) (sym (x .text-same)) ro))
+        (λ e. free-key attributes source first end j (f e) (x .low) h))
+
+    pub going-stopped : {fault : Fault} → r ≡ step.Not fault → (rooms : Rooms) (p : Place) (used : ℕ) → Roomy rooms used (length own₀) (length text₀)
+        → Matches p own′ text′ (readAttributes rooms p used kind [] first (attributesFrom attributes source (end - first) first) g₀) (step.Not fault)
+    unfolding _>>=_
+    going-stopped {fault} q rooms p used ro =
+        let e = turn h rooms p used ro
+        ∙ ap (λ (m : Outcome Given). m >>= λ g. readAttributes rooms p used kind (keysOf (attributesFrom attributes source (j - first) first) ++ (keyAt attributes source j ∷ [])) (j + 1) (attributesFrom attributes source (end - (j + 1)) (j + 1)) g)
+        (halted (taking q rooms p used ro)) in
+        subst (λ (m : Outcome Given). Matches p own′ text′ m (step.Not fault)) (sym e) stopped
+
+    pub going-on : {next : Counted} → r ≡ step.To next → length own′ ≡ length own → length text′ ≡ length text
+        → Going kind attributes source first end own₀ text₀ g₀ own′ text′ (j + 1) next
+    unfolding _>>=_
+    going-on q l m = let lw = x .low in record {
+      own-same = l ∙ x .own-same;
+      text-same = m ∙ x .text-same;
+      low = omega arith;
+      high = omega arith;
+      along = λ rooms p used ro. (let w = gone (taking q rooms p used ro) in record {
+        said = w .said;
+        holds = w .holds;
+        same = turn h rooms p used ro
+            ∙ ap (λ (m : Outcome Given). m >>= λ g. readAttributes rooms p used kind (keysOf (attributesFrom attributes source (j - first) first) ++ (keyAt attributes source j ∷ [])) (j + 1) (attributesFrom attributes source (end - (j + 1)) (j + 1)) g) (w .same)
+            ∙ ap (λ (ks : List (List ℕ)). readAttributes rooms p used kind ks (j + 1) (attributesFrom attributes source (end - (j + 1)) (j + 1)) (w .said)) (sym (keys-next attributes source first j (x .low)));
+      });
+    }

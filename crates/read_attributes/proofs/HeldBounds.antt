@@ -1,0 +1,17 @@
+-- The areas are long enough for what they hold. Assumes nothing.
+use Prim.Native.Nat.{ℕ, _+_, _*_, _≤_}
+use mathlib.Core.List.{List}
+use native.Mathlib.Omega.{arith}
+use lib.ListN.{length}
+use Rattle.read_element.specs.Attributes.{Given}
+use Rattle.read_element.specs.Held.{Held}
+use Rattle.read_extras.proofs.Storing.{text-size}
+use Rattle.read_extras.proofs.NewExtras.{own-size}
+
+pub held-fill : {own text : List ℕ} {extras fill : ℕ} {g : Given} → Held own text extras fill g → fill ≤ length text
+held-fill {own} {text} {extras} {fill} {g} hd =
+    let s = text-size text (g .texts) (hd .left) (hd .stored) in
+    let f = hd .filled in omega arith
+
+pub held-extras : {own text : List ℕ} {extras fill : ℕ} {g : Given} → Held own text extras fill g → extras * 32 + 32 ≤ length own
+held-extras hd = let s = own-size hd in omega arith

@@ -1,0 +1,83 @@
+-- The areas are long enough for what they hold, and zero behind it. Assumes nothing.
+use Prim.Native.Nat.{ℕ, _+_, _-_, _*_, _≤_}
+use mathlib.Core.Path.{_≡_, sym, ap, _∙_}
+use mathlib.Core.List.{List, _++_}
+use native.Mathlib.Omega.{arith}
+use lib.ListN.{length, take, drop, length-append, length-replicate, length-drop}
+use lib.Seq.{take-at, drop-at}
+use Rattle.area.specs.Area.{zeros}
+use Rattle.area.proofs.Parts.{rest-part}
+use Rattle.utf8.specs.Characters.{joined}
+use Rattle.read_content.specs.Content.{Content}
+use Rattle.read_content.specs.Holds.{Holds}
+use Rattle.read_content.specs.declared.Content.{Content as CodedContent}
+use Rattle.read_content.proofs.Records.{joined-size}
+
+zero-size : (n : ℕ) → length (zeros n) ≡ n
+zero-size n = length-replicate {A = ℕ} n 0
+
+module _ {words text scratch attributes source : List ℕ} {c : CodedContent} {s : Content} (hd : Holds words text scratch attributes source c s) where
+  pub words-size : length words ≡ c .used * 32 + hd .room
+  words-size =
+      let a = ap length (hd .records) ∙ length-append (joined (s .records)) (zeros (hd .room)) in
+      let b = joined-size (s .records) (hd .whole) in
+      let d = zero-size (hd .room) in
+      let e = hd .used in
+      omega arith
+
+  pub text-size : length text ≡ c .fill + hd .left
+  text-size =
+      let a = ap length (hd .stored) ∙ length-append (s .texts) (zeros (hd .left)) in
+      let d = zero-size (hd .left) in
+      let e = hd .fill in
+      omega arith
+
+  pub scratch-size : length scratch ≡ c .description + (c .gathered + length (hd .behind))
+  scratch-size =
+      let a = ap length (hd .pieces) ∙ length-append (s .description) (s .gathered ++ hd .behind) in
+      let b = length-append (s .gathered) (hd .behind) in
+      let d = hd .description in
+      let e = hd .gathered in
+      omega arith
+
+  pub fits-words : c .used * 32 ≤ length words
+  fits-words = let e = words-size in omega arith
+
+  pub fits-text : c .fill ≤ length text
+  fits-text = let e = text-size in omega arith
+
+  pub fits-scratch : c .description + c .gathered ≤ length scratch
+  fits-scratch = let e = scratch-size in omega arith
+
+  pub own-zero : drop (c .used * 32) words ≡ zeros (length words - c .used * 32)
+  own-zero =
+      let e : length (joined (s .records)) ≡ c .used * 32 = joined-size (s .records) (hd .whole) ∙ ap (λ (n : ℕ). n * 32) (sym (hd .used)) in
+      let n : hd .room ≡ length words - c .used * 32 = (let q = words-size in omega arith) in
+      ap (drop (c .used * 32)) (hd .records) ∙ drop-at (joined (s .records)) (zeros (hd .room)) (c .used * 32) e ∙ ap zeros n
+
+  pub own-part : take (length words - c .used * 32) (drop (c .used * 32) words) ≡ zeros (length (take (length words - c .used * 32) (drop (c .used * 32) words)))
+  own-part =
+      let n : length (take (length words - c .used * 32) (drop (c .used * 32) words)) ≡ length words - c .used * 32 = ap length (rest-part words (c .used * 32)) ∙ length-drop (c .used * 32) words in
+      rest-part words (c .used * 32) ∙ own-zero ∙ ap zeros (sym n)
+
+  pub own-front : take (c .used * 32) words ≡ joined (s .records)
+  own-front =
+      let e : length (joined (s .records)) ≡ c .used * 32 = joined-size (s .records) (hd .whole) ∙ ap (λ (n : ℕ). n * 32) (sym (hd .used)) in
+      ap (take (c .used * 32)) (hd .records) ∙ take-at (joined (s .records)) (zeros (hd .room)) (c .used * 32) e
+
+  pub text-zero : drop (c .fill) text ≡ zeros (length text - c .fill)
+  text-zero =
+      let n : hd .left ≡ length text - c .fill = (let q = text-size in omega arith) in
+      ap (drop (c .fill)) (hd .stored) ∙ drop-at (s .texts) (zeros (hd .left)) (c .fill) (sym (hd .fill)) ∙ ap zeros n
+
+  pub text-front : take (c .fill) text ≡ s .texts
+  text-front = ap (take (c .fill)) (hd .stored) ∙ take-at (s .texts) (zeros (hd .left)) (c .fill) (sym (hd .fill))
+
+  pub description-part : take (c .description) scratch ≡ s .description
+  description-part = ap (take (c .description)) (hd .pieces) ∙ take-at (s .description) (s .gathered ++ hd .behind) (c .description) (sym (hd .description))
+
+  pub gathered-part : take (c .gathered) (drop (c .description) scratch) ≡ s .gathered
+  gathered-part =
+      ap (λ (l : List ℕ). take (c .gathered) (drop (c .description) l)) (hd .pieces)
+      ∙ ap (take (c .gathered)) (drop-at (s .description) (s .gathered ++ hd .behind) (c .description) (sym (hd .description)))
+      ∙ take-at (s .gathered) (hd .behind) (c .gathered) (sym (hd .gathered))

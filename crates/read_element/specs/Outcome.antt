@@ -1,0 +1,68 @@
+-- Steps that may refuse, the place that a refusal names, and the room that areas have. Definitions only.
+use Prim.Native.Nat.{ℕ, zero, suc, _/_, min}
+use mathlib.Core.List.{List, [], _∷_, _++_}
+use mathlib.Core.Bool.{Bool, true, false}
+use mathlib.Core.Option.{Option, none, some}
+use lib.Dec.{leb}
+use Rattle.area.specs.Answer.{Answer, gives, refuses}
+use Rattle.refusal.specs.Refusal.{nowhere, Outcome, accepted, refused}
+use Rattle.refusal.specs.declared.PathElement.{PathElement}
+
+infixl 20 _>>=_
+-- one step behind another: the first that refuses decides
+unfoldable pub _>>=_ : {A B : Type 0} → Outcome A → (A → Outcome B) → Outcome B
+_>>=_ (accepted a) f = f a
+_>>=_ (refused r) f = refused r
+
+-- where a refusal is: "a path of at most six elements, the event and attribute number"
+pub record Place : Type 0 where
+  pub path : List PathElement
+  pub event : ℕ
+  pub attribute : ℕ
+
+abbrev pub refusedAt : {A : Type 0} → Place → ℕ → Outcome A
+refusedAt p n = refused (record { number = n; path = p .path; event = p .event; attribute = p .attribute })
+
+-- a leaf's answer, with the place that its refusal names
+unfoldable pub there : {A : Type 0} → Place → Answer A → Outcome A
+there p (gives a) = accepted a
+there p (refuses n) = refusedAt p n
+
+-- the step where the test passes, and else the refusal n
+unfoldable pub need : {A : Type 0} → Bool → Place → ℕ → Outcome A → Outcome A
+need true p n m = m
+need false p n m = refusedAt p n
+
+-- an element of a path by its kind (docs/REFUSALS.md), its index, and its Start's event number
+abbrev pub element : ℕ → ℕ → ℕ → PathElement
+element kind index event = record { kind = kind; index = index; event = event }
+
+abbrev pub attributeElement : ℕ → PathElement
+attributeElement key = element 16 key nowhere
+
+-- the place of an attribute's value: "carry the element's path" with the Attribute
+abbrev pub within : Place → ℕ → Place
+within p key = record { path = p .path ++ (attributeElement key ∷ []); event = p .event; attribute = p .attribute }
+
+-- the path with the Attribute of a key, where its code isn't 0
+abbrev pub pathTo : List PathElement → ℕ → List PathElement
+pathTo path zero = path
+pathTo path (suc k) = path ++ (attributeElement (suc k) ∷ [])
+
+-- how many records, bytes of text and bytes of scratch may be used; none is no limit
+pub record Rooms : Type 0 where
+  pub records : Option ℕ
+  pub text : Option ℕ
+  pub scratch : Option ℕ
+
+-- "of longer areas only that much is used"
+abbrev pub roomsOf : ℕ → ℕ → ℕ → Rooms
+roomsOf words text scratch = record { records = some (min (words / 32) 65536); text = some (min text 16777216); scratch = some (min scratch 16777216) }
+
+abbrev pub unlimited : Rooms
+unlimited = record { records = none; text = none; scratch = none }
+
+-- n are within the room
+unfoldable pub fits : Option ℕ → ℕ → Bool
+fits none n = true
+fits (some most) n = leb n most

@@ -1,0 +1,35 @@
+// Repeated keys of an element.
+use area::wide;
+use names::same;
+use table::parts::bytes_of;
+ghost use mathlib.Core.Path.{_≡_};
+ghost use Prim.Native.Nat.{_≤_, _*_, _-_};
+ghost use lib.ListN.{length, getD};
+ghost use Rattle.names.specs.Names.{sameBytes};
+ghost use Rattle.table.specs.Event.{part, attributesFrom};
+ghost use Rattle.read_element.specs.Attributes.{among};
+ghost use Rattle.read_element.specs.Held.{keysOf};
+
+// Whether the attribute that `words` begins with has this key.
+fn has_key(words: &[u32], source: &[u8], key: &[u8]) -> bool
+    requires { ⌜ 5 ≤ length (now words) ⌝ }
+    ensures { λ r. ⌜ r ≡ sameBytes (part (now (source .entry)) (getD (now (words .entry)) 1 0) (getD (now (words .entry)) 2 0)) (now (key .entry)) ⌝ }
+{
+    same(bytes_of(source, wide(words[1]), wide(words[2])), key)
+}
+
+// Whether an attribute from number `first` to before number j has this key.
+pub fn is_among(attributes: &[u32], source: &[u8], first: usize, j: usize, key: &[u8]) -> bool
+    requires { ⌜ j * 5 ≤ length (now attributes) ⌝ }
+    ensures { λ r. ⌜ r ≡ among (now (key .entry)) (keysOf (attributesFrom (now (attributes .entry)) (now (source .entry)) (j - first) first)) ⌝ }
+{
+    let mut i = first;
+    while i < j {
+        let at = i * 5;
+        if has_key(&attributes[at..], source, key) {
+            return true;
+        }
+        i += 1;
+    }
+    false
+}

@@ -1,0 +1,245 @@
+-- What the machine does at an event, by the event's kind. Assumes nothing.
+use Prim.Native.Nat.{ℕ, zero, suc, _≤_, _<_}
+use mathlib.Core.Path.{_≡_, refl, sym, ap, subst, _∙_}
+use mathlib.Core.List.{List, []}
+use mathlib.Core.Bool.{Bool, true, false, cond}
+use native.Mathlib.Omega.{arith}
+use lib.Dec.{eqb}
+use Rattle.names.specs.Tags.{tagOf, properties, property}
+use Rattle.refusal.specs.Refusal.{accepted}
+use Rattle.table.specs.Event.{Attribute, TagKind, Start, Empty, End, Tag, Piece, eventOf}
+use Rattle.read_element.specs.Outcome.{_>>=_, Rooms}
+use Rattle.read_state.specs.Control.{Level, top, suite, case, status, Output, Mode, at, gathering, listing, skipping, Control, planAt, planEof, planFault, orSkip, inText, inList, tagOfOutput}
+use Rattle.read_state.specs.Control.{Act, pass, openReport, openSuite, openCase, openStatus, closeSuite, closeCase, closeStatus, openText, closeText, openList, readProperty, stop, missing, broken}
+use Rattle.read_state.specs.Coded.{kindOf, modeAt, levelIn, closing, actIn, controlOf, actOf, isStep}
+use Rattle.read_state.specs.declared.Control.{Control as CodedControl}
+use Rattle.read_state.specs.declared.Act.{Act as CodedAct}
+use Rattle.read_state.specs.declared.Act.the-variants.{Pass, Skip, Open, Close, OpenText, CloseText, OpenList, CloseList, ReadProperty, Stop, Missing, Broken}
+use Rattle.read_state.specs.declared.Mode.{Mode as CodedMode}
+use Rattle.read_state.specs.declared.Mode.the-variants.{At, Text, List as Listing}
+use Rattle.read_place.specs.Coded.{hasRoom}
+use Rattle.read_place.proofs.Lengths.{planned-room, eof-room, fault-room}
+use Rattle.read_content.specs.Content.{perform}
+use Rattle.read_content.specs.Holds.{pieceKind, pieceBytes}
+use Rattle.read_machine.specs.Machine.{Machine, act, step}
+use Rattle.read_step.specs.Planned.{isPiece, planned, nameIn, IsSkipped, isSkip, isStop}
+use Rattle.read_step.proofs.Acting.{act-none}
+
+other-act : true ≡ false → ⊥
+other-act e = let z : _≡_ {A = ℕ} 0 1 = cc in omega arith
+
+skip-is : (a : CodedAct) → isSkip a ≡ true → a ≡ Skip
+skip-is Skip e = refl
+skip-is Pass e = absurd (other-act (sym e))
+skip-is (Open k x) e = absurd (other-act (sym e))
+skip-is Close e = absurd (other-act (sym e))
+skip-is (OpenText o) e = absurd (other-act (sym e))
+skip-is CloseText e = absurd (other-act (sym e))
+skip-is OpenList e = absurd (other-act (sym e))
+skip-is CloseList e = absurd (other-act (sym e))
+skip-is ReadProperty e = absurd (other-act (sym e))
+skip-is Stop e = absurd (other-act (sym e))
+skip-is Missing e = absurd (other-act (sym e))
+skip-is (Broken cause) e = absurd (other-act (sym e))
+
+stop-is : (a : CodedAct) → isStop a ≡ true → a ≡ Stop
+stop-is Stop e = refl
+stop-is Pass e = absurd (other-act (sym e))
+stop-is (Open k x) e = absurd (other-act (sym e))
+stop-is Close e = absurd (other-act (sym e))
+stop-is (OpenText o) e = absurd (other-act (sym e))
+stop-is CloseText e = absurd (other-act (sym e))
+stop-is OpenList e = absurd (other-act (sym e))
+stop-is CloseList e = absurd (other-act (sym e))
+stop-is ReadProperty e = absurd (other-act (sym e))
+stop-is Skip e = absurd (other-act (sym e))
+stop-is Missing e = absurd (other-act (sym e))
+stop-is (Broken cause) e = absurd (other-act (sym e))
+
+-- a Fault is refused in every mode that the code has
+pub fault-plans : (m : CodedMode) (l : Level) (o : Output) → planFault (modeAt m l o) ≡ broken 1
+unfolding planFault
+fault-plans At l o = refl
+fault-plans Text l o = refl
+fault-plans Listing l o = refl
+
+module _ (rooms : Rooms) (bytes : List ℕ) (first : ℕ) (xs : List Attribute) (s : Machine) where
+  none : (a : Act) → xs ≡ [] → act rooms a 0 [] s ≡ act rooms a first xs s
+  none a e = act-none rooms a 0 first s ∙ ap (λ (ys : List Attribute). act rooms a first ys s) (sym e)
+
+  -- tags, Eof and Fault act; only Start and Empty have attributes
+  pub other-steps : (kind : ℕ) → isPiece kind ≡ false → kind ≤ 9 → (1 < kind → xs ≡ []) → step rooms (eventOf kind bytes first xs) s ≡ act rooms (planned (s .control) kind bytes) first xs s
+  unfolding eventOf step
+  other-steps zero p h n = refl
+  other-steps (suc zero) p h n = refl
+  other-steps (suc (suc zero)) p h n = none (planned (s .control) 2 bytes) (n (omega arith))
+  other-steps (suc (suc (suc zero))) p h n = absurd (other-act p)
+  other-steps (suc (suc (suc (suc zero)))) p h n = absurd (other-act p)
+  other-steps (suc (suc (suc (suc (suc zero))))) p h n = absurd (other-act p)
+  other-steps (suc (suc (suc (suc (suc (suc zero)))))) p h n = absurd (other-act p)
+  other-steps (suc (suc (suc (suc (suc (suc (suc zero))))))) p h n = none (planned (s .control) 7 bytes) (n (omega arith))
+  other-steps (suc (suc (suc (suc (suc (suc (suc (suc zero)))))))) p h n = none (planned (s .control) 8 bytes) (n (omega arith))
+  other-steps (suc (suc (suc (suc (suc (suc (suc (suc (suc zero))))))))) p h n = absurd (other-act p)
+  other-steps (suc (suc (suc (suc (suc (suc (suc (suc (suc (suc k)))))))))) p h n = absurd (omega arith)
+
+-- pieces
+pub piece-event : (kind : ℕ) (bytes : List ℕ) (first : ℕ) (xs : List Attribute) → isPiece kind ≡ true → kind ≤ 9 → eventOf kind bytes first xs ≡ Piece (pieceKind kind) (pieceBytes kind bytes)
+unfolding eventOf
+piece-event zero bytes first xs p h = absurd (other-act (sym p))
+piece-event (suc zero) bytes first xs p h = absurd (other-act (sym p))
+piece-event (suc (suc zero)) bytes first xs p h = absurd (other-act (sym p))
+piece-event (suc (suc (suc zero))) bytes first xs p h = refl
+piece-event (suc (suc (suc (suc zero)))) bytes first xs p h = refl
+piece-event (suc (suc (suc (suc (suc zero))))) bytes first xs p h = refl
+piece-event (suc (suc (suc (suc (suc (suc zero)))))) bytes first xs p h = refl
+piece-event (suc (suc (suc (suc (suc (suc (suc zero))))))) bytes first xs p h = absurd (other-act (sym p))
+piece-event (suc (suc (suc (suc (suc (suc (suc (suc zero)))))))) bytes first xs p h = absurd (other-act (sym p))
+piece-event (suc (suc (suc (suc (suc (suc (suc (suc (suc zero))))))))) bytes first xs p h = refl
+piece-event (suc (suc (suc (suc (suc (suc (suc (suc (suc (suc k)))))))))) bytes first xs p h = absurd (omega arith)
+
+-- tags
+pub tag-event : (kind : ℕ) (bytes : List ℕ) (first : ℕ) (xs : List Attribute) → isPiece kind ≡ false → kind ≤ 9 → (kind ≡ 7 → ⊥) → (kind ≡ 8 → ⊥) → (j : ℕ) × (ys : List Attribute) × (eventOf kind bytes first xs ≡ Tag (kindOf kind) bytes j ys)
+unfolding eventOf
+tag-event zero bytes first xs p h a b = (first, xs, refl)
+tag-event (suc zero) bytes first xs p h a b = (first, xs, refl)
+tag-event (suc (suc zero)) bytes first xs p h a b = (0, [], refl)
+tag-event (suc (suc (suc zero))) bytes first xs p h a b = absurd (other-act p)
+tag-event (suc (suc (suc (suc zero)))) bytes first xs p h a b = absurd (other-act p)
+tag-event (suc (suc (suc (suc (suc zero))))) bytes first xs p h a b = absurd (other-act p)
+tag-event (suc (suc (suc (suc (suc (suc zero)))))) bytes first xs p h a b = absurd (other-act p)
+tag-event (suc (suc (suc (suc (suc (suc (suc zero))))))) bytes first xs p h a b = absurd (a refl)
+tag-event (suc (suc (suc (suc (suc (suc (suc (suc zero)))))))) bytes first xs p h a b = absurd (b refl)
+tag-event (suc (suc (suc (suc (suc (suc (suc (suc (suc zero))))))))) bytes first xs p h a b = absurd (other-act p)
+tag-event (suc (suc (suc (suc (suc (suc (suc (suc (suc (suc k)))))))))) bytes first xs p h a b = absurd (omega arith)
+
+-- ---- skips
+pub eof-no-skip : (m : CodedMode) (l : Level) (o : Output) (seen closed : Bool) (k : Level) (name : List ℕ) → orSkip k name ≡ planEof (modeAt m l o) seen closed → ⊥
+unfolding orSkip planEof
+eof-no-skip At top o true true k name e = let z : _≡_ {A = ℕ} 0 1 = cc in omega arith
+eof-no-skip At top o true false k name e = let z : _≡_ {A = ℕ} 0 1 = cc in omega arith
+eof-no-skip At top o false closed k name e = let z : _≡_ {A = ℕ} 0 1 = cc in omega arith
+eof-no-skip At suite o seen closed k name e = let z : _≡_ {A = ℕ} 0 1 = cc in omega arith
+eof-no-skip At case o seen closed k name e = let z : _≡_ {A = ℕ} 0 1 = cc in omega arith
+eof-no-skip At status o seen closed k name e = let z : _≡_ {A = ℕ} 0 1 = cc in omega arith
+eof-no-skip Text l o seen closed k name e = let z : _≡_ {A = ℕ} 0 1 = cc in omega arith
+eof-no-skip Listing l o seen closed k name e = let z : _≡_ {A = ℕ} 0 1 = cc in omega arith
+
+pub fault-no-skip : (m : CodedMode) (l : Level) (o : Output) (k : Level) (name : List ℕ) → orSkip k name ≡ planFault (modeAt m l o) → ⊥
+unfolding orSkip
+fault-no-skip m l o k name e = let q : pass (skipping k name 0) ≡ broken 1 = e ∙ fault-plans m l o in let z : _≡_ {A = ℕ} 0 1 = cc in omega arith
+
+-- nothing is skipped in a gathered text or in properties
+pub skip-inside : (m : CodedMode) (l : Level) (o : Output) (seen : Bool) (k : TagKind) (i : Level) (name : List ℕ) → orSkip i name ≡ planAt (modeAt m l o) seen k name → m ≡ At
+unfolding orSkip planAt inText inList
+skip-inside At l o seen k i name e = refl
+skip-inside Text l o seen Start i name e = let z : _≡_ {A = ℕ} 0 1 = cc in absurd (omega arith)
+skip-inside Text l o seen Empty i name e = let z : _≡_ {A = ℕ} 0 1 = cc in absurd (omega arith)
+skip-inside Text l o seen End i name e = absurd (go (eqb (tagOf name) (tagOfOutput o)) e)
+  where
+    go : (b : Bool) → pass (skipping i name 0) ≡ cond b (closeText l o) (pass (gathering l o)) → ⊥
+    go true q = let z : _≡_ {A = ℕ} 0 1 = cc in omega arith
+    go false q = let z : _≡_ {A = ℕ} 0 1 = cc in omega arith
+skip-inside Listing l o seen Start i name e = let z : _≡_ {A = ℕ} 0 1 = cc in absurd (omega arith)
+skip-inside Listing l o seen Empty i name e = absurd (go (eqb (tagOf name) property) e)
+  where
+    go : (b : Bool) → pass (skipping i name 0) ≡ cond b (readProperty l) (pass (listing l)) → ⊥
+    go true q = let z : _≡_ {A = ℕ} 0 1 = cc in omega arith
+    go false q = let z : _≡_ {A = ℕ} 0 1 = cc in omega arith
+skip-inside Listing l o seen End i name e = absurd (go (eqb (tagOf name) properties) e)
+  where
+    go : (b : Bool) → pass (skipping i name 0) ≡ cond b (pass (at l)) (pass (listing l)) → ⊥
+    go true q = let z : _≡_ {A = ℕ} 0 1 = cc in omega arith
+    go false q = let z : _≡_ {A = ℕ} 0 1 = cc in omega arith
+
+-- ---- the end
+unfoldable stopping : Act → Bool
+stopping stop = true
+stopping (pass m) = false
+stopping (openReport e) = false
+stopping (openSuite e) = false
+stopping (openCase e) = false
+stopping (openStatus k e) = false
+stopping closeSuite = false
+stopping closeCase = false
+stopping closeStatus = false
+stopping (openText l o) = false
+stopping (closeText l o) = false
+stopping (openList l) = false
+stopping (readProperty l) = false
+stopping missing = false
+stopping (broken n) = false
+
+stops : (m : Mode) (name : List ℕ) (a : CodedAct) → stopping (actIn m name a) ≡ isStop a
+unfolding orSkip stopping
+stops m name Pass = refl
+stops m name Skip = refl
+stops m name (Open k e) = go (eqb k 1) (eqb k 2) (eqb k 3)
+  where
+    go : (a b c : Bool) → stopping (cond a (openReport e) (cond b (openSuite e) (cond c (openCase e) (openStatus k e)))) ≡ false
+    go true b c = refl
+    go false true c = refl
+    go false false true = refl
+    go false false false = refl
+stops m name Close = go (levelIn m)
+  where
+    go : (l : Level) → stopping (closing l) ≡ false
+    go top = refl
+    go suite = refl
+    go case = refl
+    go status = refl
+stops m name (OpenText o) = refl
+stops m name CloseText = refl
+stops m name OpenList = refl
+stops m name CloseList = refl
+stops m name ReadProperty = refl
+stops m name Stop = refl
+stops m name Missing = refl
+stops m name (Broken cause) = refl
+
+pub stop-only : (m : Mode) (name : List ℕ) (a : CodedAct) → isStop a ≡ false → actIn m name a ≡ stop → ⊥
+unfolding stopping
+stop-only m name a e q = other-act (ap stopping (sym q) ∙ stops m name a ∙ e)
+
+-- "The table's end counts as Eof": reading doesn't go on behind it
+pub eof-ends : (rooms : Rooms) (j : ℕ) (xs : List Attribute) (s t : Machine) (m : CodedMode) (l : Level) (o : Output) (seen closed : Bool) → (planEof (modeAt m l o) seen closed ≡ stop → ⊥) → act rooms (planEof (modeAt m l o) seen closed) j xs s ≡ accepted t → ⊥
+unfolding planEof act perform _>>=_
+eof-ends rooms j xs s t At top o true true n e = n refl
+eof-ends rooms j xs s t At top o true false n e = let z : _≡_ {A = ℕ} 0 1 = cc in omega arith
+eof-ends rooms j xs s t At top o false closed n e = let z : _≡_ {A = ℕ} 0 1 = cc in omega arith
+eof-ends rooms j xs s t At suite o seen closed n e = let z : _≡_ {A = ℕ} 0 1 = cc in omega arith
+eof-ends rooms j xs s t At case o seen closed n e = let z : _≡_ {A = ℕ} 0 1 = cc in omega arith
+eof-ends rooms j xs s t At status o seen closed n e = let z : _≡_ {A = ℕ} 0 1 = cc in omega arith
+eof-ends rooms j xs s t Text l o seen closed n e = let z : _≡_ {A = ℕ} 0 1 = cc in omega arith
+eof-ends rooms j xs s t Listing l o seen closed n e = let z : _≡_ {A = ℕ} 0 1 = cc in omega arith
+
+-- ---- the path of what is planned has room for an Attribute
+pub planned-fits : (k : Control) (kind : ℕ) (name : List ℕ) → (k .mode ≡ listing status → ⊥) → hasRoom (planned k kind name) ≡ true
+planned-fits k kind name n = go (eqb kind 7) (eqb kind 8)
+  where
+    go : (a b : Bool) → hasRoom (cond a (planEof (k .mode) (k .seen) (k .closed)) (cond b (planFault (k .mode)) (planAt (k .mode) (k .seen) (kindOf kind) name))) ≡ true
+    go true b = eof-room (k .mode) (k .seen) (k .closed)
+    go false true = fault-room (k .mode)
+    go false false = planned-room (k .mode) (k .seen) (kindOf kind) name n
+
+-- all acts but skipping and stopping go on with the control that `turn` gives
+pub is-step : (a : CodedAct) → isSkip a ≡ false → isStop a ≡ false → isStep a ≡ true
+is-step Pass e f = refl
+is-step Skip e f = absurd (other-act e)
+is-step (Open k x) e f = refl
+is-step Close e f = refl
+is-step (OpenText o) e f = refl
+is-step CloseText e f = refl
+is-step OpenList e f = refl
+is-step CloseList e f = refl
+is-step ReadProperty e f = refl
+is-step Stop e f = absurd (other-act f)
+is-step Missing e f = refl
+is-step (Broken cause) e f = refl
+
+-- what the code's tests of an act that was planned tell
+module _ (c : CodedControl) (kind : ℕ) (name : List ℕ) (a : CodedAct) (q : actOf c (nameIn kind name) a ≡ planned (controlOf c) kind name) where
+  pub skips : isSkip a ≡ true → IsSkipped c kind name
+  skips e = subst (λ (x : CodedAct). actOf c (nameIn kind name) x ≡ planned (controlOf c) kind name) (skip-is a e) q
+
+  pub stops-there : isStop a ≡ true → stop ≡ planned (controlOf c) kind name
+  stops-there e = subst (λ (x : CodedAct). actOf c (nameIn kind name) x ≡ planned (controlOf c) kind name) (stop-is a e) q

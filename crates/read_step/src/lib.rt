@@ -1,0 +1,308 @@
+// One step of reading: an event, or an unknown element whole.
+use read_actions::perform;
+use read_attributes::Fault;
+use read_attributes::Range;
+use read_content::Content;
+use read_content::Performed;
+use read_content::is_gathering;
+use read_content::no_content;
+use read_content::texts::gather;
+use read_state::Act;
+use read_state::Control;
+use read_state::Level;
+use read_state::Mode;
+use read_state::Output;
+use read_state::no_status;
+use read_state::turn;
+use table_events::Skipped;
+use table_events::bytes_at;
+use table_events::end_at;
+use table_events::first_at;
+use table_events::kind_at;
+use table_events::skip_from;
+use read_place::Marks;
+use read_place::NOWHERE;
+use read_place::marked;
+use read_place::no_marks;
+use read_place::onward;
+use names::tag_of;
+use read_rules::plan_eof;
+use read_rules::plan_tag;
+use refusal::Cause;
+ghost use mathlib.Core.Path.{_≡_};
+ghost use mathlib.Core.Bool.{true, false};
+ghost use mathlib.Core.List.{List};
+ghost use Prim.Native.Nat.{ℕ, _-_, _≤_, _<_};
+ghost use lib.ListN.{length};
+ghost use Rattle.refusal.specs.Refusal as why;
+ghost use Rattle.table.specs.Table.{countOf, tableOf};
+ghost use Rattle.table.specs.Event.{Piece, kindAt, bytesAt, attributesFrom};
+ghost use Rattle.read_element.specs.Outcome.{Rooms};
+ghost use Rattle.read_state.specs.Coded.{modeOf, tallyOf, controlOf, actOf, isStep, Few};
+ghost use Rattle.read_place.specs.Coded.{marksOf, Low, hasRoom};
+ghost use Rattle.read_content.specs.Content as deed;
+ghost use Rattle.read_content.specs.Holds.{Sized, apt, pieceKind, pieceBytes};
+ghost use Rattle.read_machine.specs.Machine as machine;
+ghost use Rattle.read_step.specs.Planned.{isPiece, planned, nameIn, IsSkipped, isSkip, isStop};
+ghost use Rattle.read_step.specs.Standing.{machineOf, runOn, Stands, Standing, Bounded, Lent, Spans, haltAt, beginning, after, Acted, Stepped};
+
+pub struct State {
+    pub control: Control,
+    pub marks: Marks,
+    pub content: Content,
+}
+
+// What is refused: the action, the event, and why.
+pub struct Halt {
+    pub act: Act,
+    pub event: usize,
+    pub fault: Fault,
+}
+
+pub enum Step {
+    Go(State),
+    Stop,
+    Halt(Halt),
+}
+
+pub fn begin() -> State
+    ensures { λ r. ⌜ r ≡ beginning ⌝ }
+{
+    State {
+        control: Control {
+            mode: Mode::At,
+            level: Level::Top,
+            output: Output::Out,
+            seen: false,
+            closed: false,
+            tally: no_status(),
+        },
+        marks: no_marks(0),
+        content: no_content(),
+    }
+}
+
+fn is_skip(act: Act) -> bool
+    ensures { λ r. ⌜ r ≡ isSkip act ⌝ }
+{
+    match act {
+        Act::Skip => true,
+        Act::Pass => false,
+        Act::Open(_, _) => false,
+        Act::Close => false,
+        Act::OpenText(_) => false,
+        Act::CloseText => false,
+        Act::OpenList => false,
+        Act::CloseList => false,
+        Act::ReadProperty => false,
+        Act::Stop => false,
+        Act::Missing => false,
+        Act::Broken(_) => false,
+    }
+}
+
+fn is_stop(act: Act) -> bool
+    ensures { λ r. ⌜ r ≡ isStop act ⌝ }
+{
+    match act {
+        Act::Stop => true,
+        Act::Pass => false,
+        Act::Skip => false,
+        Act::Open(_, _) => false,
+        Act::Close => false,
+        Act::OpenText(_) => false,
+        Act::CloseText => false,
+        Act::OpenList => false,
+        Act::CloseList => false,
+        Act::ReadProperty => false,
+        Act::Missing => false,
+        Act::Broken(_) => false,
+    }
+}
+
+// The action at an event that is no piece of text.
+fn plan(control: Control, kind: u32, name: &[u8]) -> Act
+    ensures { λ r. ⌜ actOf control (nameIn kind (now (name .entry))) r ≡ planned (controlOf control) kind (now (name .entry)) ⌝ }
+    ensures { λ r. ⌜ apt r (modeOf control) ≡ true ⌝ }
+{
+    match kind {
+        7 => plan_eof(control),
+        8 => Act::Broken(Cause::XmlFault),
+        _ => plan_tag(control, kind, tag_of(name)),
+    }
+}
+
+// A refusal where reading stands.
+fn halt_at(event: usize, cause: Cause) -> Step
+    ensures { λ r. ⌜ r ≡ haltAt event cause ⌝ }
+{
+    Step::Halt(Halt {
+        act: Act::Broken(cause),
+        event,
+        fault: Fault {
+            cause,
+            key: 0,
+            attribute: NOWHERE,
+        },
+    })
+}
+
+// A piece of text, which is read where text is gathered.
+fn step_piece(st: State, kind: u32, bytes: &[u8], scratch: &mut [u8]) -> Step
+    requires { ⌜ Bounded st (length (now scratch)) ⌝ }
+    ensures { λ r. ⌜ ((rooms : Rooms) (words text attributes source : List ℕ) (c : deed.Content) → Sized rooms (length words) (length text) (length (now (scratch .entry))) → Stands attributes source words text (now (scratch .entry)) (st .content) (machineOf st c) → Acted attributes source words text (now (scratch .exit)) st (machine.step rooms (Piece (pieceKind kind) (pieceBytes kind (now (bytes .entry)))) (machineOf st c)) r) ⌝ }
+{
+    let control = st.control;
+    let marks = st.marks;
+    let content = st.content;
+    let mode = control.mode;
+    let i = marks.event;
+    let marks = onward(marks, i + 1);
+    if !is_gathering(control) {
+        return Step::Go(State {
+            control,
+            marks,
+            content,
+        });
+    }
+    let gathered = gather(mode, kind, bytes, content, scratch);
+    match gathered {
+        Performed::To(content) => Step::Go(State {
+            control,
+            marks,
+            content,
+        }),
+        Performed::Not(fault) => {
+            let cause = fault.cause;
+            Step::Halt(Halt {
+                act: Act::Broken(cause),
+                event: i,
+                fault,
+            })
+        }
+    }
+}
+
+// An unknown element, passed over.
+fn step_skip(st: State, events: &[u32], source: &[u8]) -> Step
+    requires { ⌜ st .marks .event < countOf (now events) ⌝ }
+    requires { ⌜ countOf (now events) ≤ 65536 ⌝ }
+    ensures { λ r. ⌜ ((rooms : Rooms) (attributes words text scratch : List ℕ) (c : deed.Content) → tableOf (now (events .entry)) attributes (now (source .entry)) ≡ why.accepted tt → isPiece (kindAt (now (events .entry)) (st .marks .event)) ≡ false → IsSkipped (st .control) (kindAt (now (events .entry)) (st .marks .event)) (bytesAt (now (events .entry)) (now (source .entry)) (st .marks .event)) → Stands attributes (now (source .entry)) words text scratch (st .content) (machineOf st c) → Stepped rooms (now (events .entry)) attributes (now (source .entry)) words text scratch st (runOn rooms (now (events .entry)) attributes (now (source .entry)) (machineOf st c)) r) ⌝ }
+{
+    let control = st.control;
+    let marks = st.marks;
+    let content = st.content;
+    let skipped = skip_from(events, source, marks.event);
+    match skipped {
+        Skipped::Next(i) => Step::Go(State {
+            control,
+            marks: onward(marks, i),
+            content,
+        }),
+        Skipped::Refused(cause, at) => halt_at(at, cause),
+    }
+}
+
+// The state behind an action that left `content`.
+fn behind(act: Act, st: State, content: Content) -> State
+    requires { ⌜ Low 65536 (marksOf (st .marks)) ⌝ }
+    requires { ⌜ Few 65536 (tallyOf (st .control .tally)) ⌝ }
+    requires { ⌜ isStep act ≡ true ⌝ }
+    ensures { λ r. ⌜ ((name : List ℕ) (c : deed.Content) → machineOf r c ≡ after (actOf (st .control) name act) (st .content .used) (machineOf st c)) ⌝ }
+    ensures { λ r. ⌜ r .content ≡ content ⌝ }
+{
+    let control = st.control;
+    let marks = st.marks;
+    let before = st.content;
+    let i = marks.event;
+    State {
+        control: turn(act, control),
+        marks: onward(marked(act, control, before.used, marks), i + 1),
+        content,
+    }
+}
+
+// An action other than skipping and stopping.
+fn step_act(
+    act: Act,
+    st: State,
+    range: Range,
+    attributes: &[u32],
+    source: &[u8],
+    records: &mut [u32],
+    text: &mut [u8],
+    scratch: &[u8],
+) -> Step
+    requires { ⌜ apt act (modeOf (st .control)) ≡ true ⌝ }
+    requires { ⌜ isStep act ≡ true ⌝ }
+    requires { ⌜ Spans (length (now attributes)) (range .first) (range .end) ⌝ }
+    requires { ⌜ Lent (length (now records)) (length (now text)) (length (now scratch)) ⌝ }
+    requires { ⌜ Standing (now attributes) (now source) (now records) (now text) (now scratch) st ⌝ }
+    ensures { λ r. ⌜ ((rooms : Rooms) (c : deed.Content) (name : List ℕ) → hasRoom (actOf (st .control) name act) ≡ true → Sized rooms (length (now (records .entry))) (length (now (text .entry))) (length (now (scratch .entry))) → Stands (now (attributes .entry)) (now (source .entry)) (now (records .entry)) (now (text .entry)) (now (scratch .entry)) (st .content) (machineOf st c) → Acted (now (attributes .entry)) (now (source .entry)) (now (records .exit)) (now (text .exit)) (now (scratch .entry)) st (machine.act rooms (actOf (st .control) name act) (range .first) (attributesFrom (now (attributes .entry)) (now (source .entry)) (range .end - range .first) (range .first)) (machineOf st c)) r) ⌝ }
+{
+    let control = st.control;
+    let marks = st.marks;
+    let content = st.content;
+    let event = marks.event;
+    let performed = perform(
+        act,
+        range,
+        control,
+        marks,
+        content,
+        attributes,
+        source,
+        records,
+        text,
+        scratch,
+    );
+    match performed {
+        Performed::To(next) => Step::Go(behind(act, st, next)),
+        Performed::Not(fault) => Step::Halt(Halt { act, event, fault }),
+    }
+}
+
+// The kinds of pieces of text: Text, CData, Ref, Other, Indent.
+fn is_piece(kind: u32) -> bool
+    ensures { λ r. ⌜ r ≡ isPiece kind ⌝ }
+{
+    ((3 <= kind) & (kind <= 6)) | (kind == 9)
+}
+
+// One event, or an unknown element whole.
+pub fn step_event(
+    st: State,
+    events: &[u32],
+    attributes: &[u32],
+    source: &[u8],
+    records: &mut [u32],
+    text: &mut [u8],
+    scratch: &mut [u8],
+) -> Step
+    requires { ⌜ tableOf (now events) (now attributes) (now source) ≡ why.accepted tt ⌝ }
+    requires { ⌜ st .marks .event ≤ countOf (now events) ⌝ }
+    requires { ⌜ Lent (length (now records)) (length (now text)) (length (now scratch)) ⌝ }
+    requires { ⌜ Standing (now attributes) (now source) (now records) (now text) (now scratch) st ⌝ }
+    ensures { λ r. ⌜ ((rooms : Rooms) (c : deed.Content) → Sized rooms (length (now (records .entry))) (length (now (text .entry))) (length (now (scratch .entry))) → Stands (now (attributes .entry)) (now (source .entry)) (now (records .entry)) (now (text .entry)) (now (scratch .entry)) (st .content) (machineOf st c) → Stepped rooms (now (events .entry)) (now (attributes .entry)) (now (source .entry)) (now (records .exit)) (now (text .exit)) (now (scratch .exit)) st (runOn rooms (now (events .entry)) (now (attributes .entry)) (now (source .entry)) (machineOf st c)) r) ⌝ }
+{
+    let control = st.control;
+    let marks = st.marks;
+    let i = marks.event;
+    let kind = kind_at(events, i);
+    let bytes = bytes_at(events, source, i);
+    if is_piece(kind) {
+        return step_piece(st, kind, bytes, scratch);
+    }
+    let act = plan(control, kind, bytes);
+    if is_skip(act) {
+        return step_skip(st, events, source);
+    }
+    if is_stop(act) {
+        return Step::Stop;
+    }
+    let range = Range {
+        first: first_at(events, i),
+        end: end_at(events, i),
+    };
+    step_act(act, st, range, attributes, source, records, text, scratch)
+}

@@ -1,0 +1,69 @@
+use Prim.Native.Nat.{_≤_, _-_, _+_}
+use mathlib.Core.Path.{sym}
+use native.Mathlib.Omega.{arith}
+use borrow.Author.Needs.{needs}
+use lib.ListN.{length, length-drop, length-take}
+use lib.Seq.{length-take-le}
+use Rattle.test_vectors.proofs.try_lines.Statement.{statement}
+use Rattle.test_vectors.proofs.try_lines.Tie as tie
+
+abbrev Inv-loop : tie.InvT-loop
+Inv-loop s at₀ at = at ≤ length s + 1
+
+abbrev μ-loop : tie.MeasureT-loop
+μ-loop s at₀ at = length s + 1 - at
+
+loop-holds : tie.Need-loop-holds Inv-loop μ-loop
+loop-holds c = search needs
+
+sub-rest : tie.Need-sub-rest Inv-loop μ-loop
+sub-rest c = search needs
+
+part-rest-start : tie.Need-part-rest-start Inv-loop μ-loop
+part-rest-start c = search needs
+
+part-rest-end : tie.Need-part-rest-end Inv-loop μ-loop
+part-rest-end c = search needs
+
+place-of-requires : tie.Need-place-of-requires Inv-loop μ-loop
+place-of-requires c κs = search needs
+
+slice-aggregate-try-line : tie.Need-slice-aggregate-try-line Inv-loop μ-loop
+slice-aggregate-try-line c = sym (length-take-le _ _ (c .before .place-of .ensures))
+
+try-line-requires : tie.Need-try-line-requires Inv-loop μ-loop
+try-line-requires c κs = search needs
+
+add-at : tie.Need-add-at Inv-loop μ-loop
+add-at c = omega (arith, simp (length-take, length-drop) at (c .before .before .place-of .ensures))
+
+add-at-2 : tie.Need-add-at-2 Inv-loop μ-loop
+add-at-2 c = omega (arith, simp (length-take, length-drop) at (c .before .before .place-of .ensures))
+
+loop-less : tie.Need-loop-less Inv-loop μ-loop
+loop-less c = omega (arith, simp (length-take, length-drop) at (c .before .before .place-of .ensures))
+
+loop-again : tie.Need-loop-again Inv-loop μ-loop
+loop-again c = omega (arith, simp (length-take, length-drop) at (c .before .before .place-of .ensures))
+
+returns : tie.Need-returns Inv-loop μ-loop
+returns c = search needs
+
+pub try-lines-spec : {M : Type 1} → statement M
+try-lines-spec =
+    tie.close
+    (tie.spec
+    Inv-loop
+    μ-loop
+    loop-holds
+    sub-rest
+    part-rest-start
+    part-rest-end
+    place-of-requires
+    slice-aggregate-try-line
+    try-line-requires
+    add-at
+    add-at-2
+    loop-less
+    loop-again
+    returns)

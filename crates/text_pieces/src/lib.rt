@@ -1,0 +1,52 @@
+// Pieces of gathered text, into scratch from its mark on.
+use area::copy_into;
+use reference::Entity;
+use reference::entity_of;
+use text::decode::put_decoded;
+use text::kept::Kept;
+use text::kept::kept_of;
+use utf8::is_utf8;
+ghost use mathlib.Core.Path.{_≡_};
+ghost use lib.ListN.{length};
+ghost use Rattle.text.specs.Kept.{keptAnswer};
+ghost use Rattle.text_pieces.specs.Gather.{textOf, textLaid, cdataOf, cdataLaid, referenceOf, referenceLaid, indentOf, indentLaid};
+
+pub fn gather_text(out: &mut [u8], s: &[u8]) -> Kept
+    ensures { λ r. ⌜ keptAnswer 14 r ≡ textOf (length (now (out .entry))) (now (s .entry)) ⌝ }
+    ensures { λ r. ⌜ now (out .exit) ≡ textLaid (now (out .entry)) (now (s .entry)) ⌝ }
+{
+    put_decoded(out, s, false)
+}
+
+pub fn gather_cdata(out: &mut [u8], s: &[u8]) -> Kept
+    ensures { λ r. ⌜ keptAnswer 14 r ≡ cdataOf (length (now (out .entry))) (now (s .entry)) ⌝ }
+    ensures { λ r. ⌜ now (out .exit) ≡ cdataLaid (now (out .entry)) (now (s .entry)) ⌝ }
+{
+    if is_utf8(s) {
+        return kept_of(copy_into(out, s));
+    }
+    Kept::NotUtf8
+}
+
+// The name of a Ref event.
+pub fn gather_reference(out: &mut [u8], name: &[u8]) -> Kept
+    ensures { λ r. ⌜ keptAnswer 14 r ≡ referenceOf (length (now (out .entry))) (now (name .entry)) ⌝ }
+    ensures { λ r. ⌜ now (out .exit) ≡ referenceLaid (now (out .entry)) (now (name .entry)) ⌝ }
+{
+    if !is_utf8(name) {
+        return Kept::NotUtf8;
+    }
+    let entity = entity_of(name);
+    let Entity::Is(c) = entity else {
+        return Kept::UnknownName;
+    };
+    let bytes = [c];
+    kept_of(copy_into(out, &bytes))
+}
+
+pub fn gather_indent(out: &mut [u8]) -> Kept
+    ensures { λ r. ⌜ keptAnswer 14 r ≡ indentOf (length (now (out .entry))) ⌝ }
+    ensures { λ r. ⌜ now (out .exit) ≡ indentLaid (now (out .entry)) ⌝ }
+{
+    kept_of(copy_into(out, b"\n"))
+}

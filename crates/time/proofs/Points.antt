@@ -1,0 +1,91 @@
+-- The point of a time's text: found byte by byte, and the two parts that it makes. Assumes nothing.
+use Prim.Native.Nat.{ℕ, suc, _+_, _≤_, _<_}
+use mathlib.Core.Path.{_≡_, refl, sym, ap, _∙_}
+use mathlib.Core.List.{List, [], _∷_, _++_}
+use mathlib.Core.Bool.{Bool, true, false, cond, and-eq-true-iff}
+use native.Mathlib.Omega.{arith}
+use native.Mathlib.Numerals.{add-one}
+use borrow.Author.Tests.{eq-eqb, ne-eqb, eqb-true}
+use lib.Dec.{eqb}
+use lib.ListN.{length, take, drop, getD, drop-of-length-le}
+use lib.Seq.{take-all, take-at, drop-at}
+use Rattle.area.proofs.Lists.{drop-next, drop-more}
+use Rattle.utf8.specs.Utf8.{utf8}
+use Rattle.utf8.proofs.Rules.{ascii-on}
+use Rattle.digits.specs.Digits.{isDigit, allDigits}
+use Rattle.digits.proofs.Ascii.{digit-decimal, digit-ascii}
+use Rattle.digits.proofs.Texts.{digits-utf8}
+use Rattle.time.specs.Time.{point, whole, fraction}
+
+-- i bytes are passed, and none is a point
+pub record Seeking (s : List ℕ) (i : ℕ) : Type 0 where
+  pub within : i ≤ length s
+  pub ahead : i + point (drop i s) ≡ point s
+
+pub seeking-start : (s : List ℕ) → Seeking s 0
+seeking-start s = record { within = omega arith; ahead = omega arith }
+
+module _ {s : List ℕ} {i : ℕ} (k : Seeking s i) where
+  pub seeking-found : i < length s → getD s i 0 ≡ 0x2E → i ≡ point s
+  seeking-found h e =
+      let z : point (drop i s) ≡ 0 = ap point (drop-next s i h) ∙ ap (λ (t : Bool). cond t 0 (suc (point (drop (i + 1) s)))) (eq-eqb (getD s i 0) 0x2E e) in
+      omega (arith, k .ahead)
+
+  pub seeking-more : i < length s → (getD s i 0 ≡ 0x2E → ⊥) → Seeking s (i + 1)
+  seeking-more h n =
+      let z : point (drop i s) ≡ suc (point (drop (i + 1) s)) = ap point (drop-next s i h) ∙ ap (λ (t : Bool). cond t 0 (suc (point (drop (i + 1) s)))) (ne-eqb (getD s i 0) 0x2E n) in
+      record { within = omega arith; ahead = omega (arith, k .ahead) }
+
+  pub seeking-end : length s ≤ i → i ≡ point s
+  seeking-end h =
+      let z : point (drop i s) ≡ 0 = ap point (drop-of-length-le s {i = i} h) in
+      omega (arith, k .ahead)
+
+pub point-within : (s : List ℕ) → point s ≤ length s
+point-within [] = omega arith
+point-within (b ∷ s) = go (eqb b 0x2E) (point-within s)
+  where
+    go : (t : Bool) → point s ≤ length s → cond t 0 (suc (point s)) ≤ suc (length s)
+    go true h = omega arith
+    go false h = omega arith
+
+-- the parts, as code has them that found the point at p
+module _ (s : List ℕ) (p : ℕ) (e : p ≡ point s) where
+  pub whole-at : take p s ≡ whole s
+  whole-at = ap (λ (n : ℕ). take n s) e
+
+  pub fraction-at : drop (p + 1) s ≡ fraction s
+  fraction-at = ap (λ (n : ℕ). drop n s) (add-one p ∙ ap suc e)
+
+  pub whole-none : length s ≤ p → s ≡ whole s
+  whole-none h = sym (take-all p s h) ∙ whole-at
+
+  pub fraction-none : length s ≤ p → drop p s ≡ fraction s
+  fraction-none h = drop-of-length-le s {i = p} h ∙ sym (drop-of-length-le s {i = p + 1} (omega arith)) ∙ fraction-at
+
+-- digits, a point, and what stands behind it
+point-between : (w f : List ℕ) → allDigits 10 w ≡ true → point (w ++ (0x2E ∷ f)) ≡ length w
+point-between [] f d = refl
+point-between (b ∷ w) f d =
+    let k = and-eq-true-iff (isDigit 10 b) (allDigits 10 w) .0 d in
+    let h = digit-decimal b (k .0) in
+    ap (λ (t : Bool). cond t 0 (suc (point (w ++ (0x2E ∷ f))))) (ne-eqb b 0x2E (λ (q : b ≡ 0x2E). omega arith)) ∙ ap suc (point-between w f (k .1))
+
+module _ (w f : List ℕ) (d : allDigits 10 w ≡ true) where
+  pub whole-between : whole (w ++ (0x2E ∷ f)) ≡ w
+  whole-between = ap (λ (n : ℕ). take n (w ++ (0x2E ∷ f))) (point-between w f d) ∙ take-at w (0x2E ∷ f) (length w) refl
+
+  pub fraction-between : fraction (w ++ (0x2E ∷ f)) ≡ f
+  fraction-between =
+      ap (λ (n : ℕ). drop n (w ++ (0x2E ∷ f))) (ap suc (point-between w f d) ∙ sym (add-one (length w)))
+      ∙ drop-more (w ++ (0x2E ∷ f)) f 0x2E (length w) (drop-at w (0x2E ∷ f) (length w) refl)
+
+-- digits and a point are UTF-8
+pub parts-utf8 : (s : List ℕ) → allDigits 10 (whole s) ≡ true → allDigits 10 (fraction s) ≡ true → utf8 s ≡ true
+parts-utf8 [] v d = refl
+parts-utf8 (b ∷ s) v d = go (eqb b 0x2E) refl v d (λ (v : allDigits 10 (whole s) ≡ true) (d : allDigits 10 (fraction s) ≡ true). parts-utf8 s v d)
+  where
+    go : (t : Bool) → eqb b 0x2E ≡ t → allDigits 10 (take (cond t 0 (suc (point s))) (b ∷ s)) ≡ true → allDigits 10 (drop (suc (cond t 0 (suc (point s)))) (b ∷ s)) ≡ true
+        → (allDigits 10 (whole s) ≡ true → allDigits 10 (fraction s) ≡ true → utf8 s ≡ true) → utf8 (b ∷ s) ≡ true
+    go true q v d r = let h = eqb-true b 0x2E q in ascii-on b s (omega arith) ∙ digits-utf8 10 s d
+    go false q v d r = let k = and-eq-true-iff (isDigit 10 b) (allDigits 10 (whole s)) .0 v in ascii-on b s (digit-ascii 10 b (k .0)) ∙ r (k .1) d

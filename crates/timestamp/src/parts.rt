@@ -1,0 +1,138 @@
+// The parts of a timestamp.
+use crate::calendar::month_length;
+use fixed::decimal_field;
+ghost use mathlib.Core.Path.{_≡_};
+ghost use Prim.Native.Nat.{_-_, _*_, _^_, _≤_, _<_};
+ghost use lib.ListN.{length};
+ghost use Rattle.timestamp.specs.Timestamp.{digitRun};
+ghost use Rattle.timestamp.specs.Leaves.{dateOf, clockOf, fractionOf, zoneOf};
+
+// Year, month and day.
+pub enum Date {
+    On(u16, u8, u8),
+    NoDate,
+}
+
+// Hour, minute and second.
+pub enum Clock {
+    At(u8, u8, u8),
+    NoClock,
+}
+
+// Nanoseconds, and how many bytes tell them.
+pub enum Fraction {
+    Of(u32, usize),
+    NoFraction,
+}
+
+// Minutes east of UTC, and 1439.
+pub enum Zone {
+    East(u16),
+    NoZone,
+}
+
+pub fn date_of(s: &[u8]) -> Date
+    requires { ⌜ 20 ≤ length (now s) ⌝ }
+    ensures { λ r. ⌜ r ≡ dateOf (now (s .entry)) ⌝ }
+{
+    let y = decimal_field(&s[0..4], 9999);
+    let m = decimal_field(&s[5..7], 12);
+    let d = decimal_field(&s[8..10], 31);
+    let year = y.number as u16;
+    let month = m.number as u8;
+    let day = d.number as u8;
+    let form = y.good & (s[4] == 0x2d) & m.good & (s[7] == 0x2d) & d.good;
+    if form & (1 <= month) & (1 <= day) & (day <= month_length(year, month)) {
+        return Date::On(year, month, day);
+    }
+    Date::NoDate
+}
+
+pub fn clock_of(s: &[u8]) -> Clock
+    requires { ⌜ 20 ≤ length (now s) ⌝ }
+    ensures { λ r. ⌜ r ≡ clockOf (now (s .entry)) ⌝ }
+{
+    let hour = decimal_field(&s[11..13], 23);
+    let minute = decimal_field(&s[14..16], 59);
+    let second = decimal_field(&s[17..19], 59);
+    let letter = (s[10] == 0x54) | (s[10] == 0x74);
+    if letter & hour.good & (s[13] == 0x3a) & minute.good & (s[16] == 0x3a) & second.good {
+        return Clock::At(hour.number as u8, minute.number as u8, second.number as u8);
+    }
+    Clock::NoClock
+}
+
+// How many digits s begins with.
+fn digit_run(s: &[u8]) -> usize
+    ensures { λ r. ⌜ r ≡ digitRun (now (s .entry)) ⌝ }
+{
+    let mut i = 0;
+    while i < s.len() {
+        let b = s[i];
+        if (0x30 <= b) & (b <= 0x39) {
+            i += 1;
+        } else {
+            return i;
+        }
+    }
+    i
+}
+
+// n digits of a fraction as nanoseconds.
+fn scaled(v: u32, n: usize) -> u32
+    requires { ⌜ (n ≤ 9) × (v < 10 ^ n) ⌝ }
+    ensures { λ r. ⌜ r ≡ v * 10 ^ (9 - n) ⌝ }
+{
+    let mut nanos = v;
+    let mut k = n;
+    while k < 9 {
+        nanos *= 10;
+        k += 1;
+    }
+    nanos
+}
+
+pub fn fraction_of(t: &[u8]) -> Fraction
+    requires { ⌜ 1 ≤ length (now t) ⌝ }
+    ensures { λ r. ⌜ r ≡ fractionOf (now (t .entry)) ⌝ }
+{
+    if t[0] != 0x2e {
+        return Fraction::Of(0, 0);
+    }
+    let n = digit_run(&t[1..]);
+    if n < 1 {
+        return Fraction::NoFraction;
+    }
+    if 9 < n {
+        return Fraction::NoFraction;
+    }
+    let end = n + 1;
+    let f = decimal_field(&t[1..end], 999999999);
+    Fraction::Of(scaled(f.number, n), end)
+}
+
+pub fn zone_of(z: &[u8]) -> Zone
+    ensures { λ r. ⌜ r ≡ zoneOf (now (z .entry)) ⌝ }
+{
+    if z.len() == 1 {
+        if (z[0] == 0x5a) | (z[0] == 0x7a) {
+            return Zone::East(1439);
+        }
+        return Zone::NoZone;
+    }
+    if z.len() != 6 {
+        return Zone::NoZone;
+    }
+    let hour = decimal_field(&z[1..3], 23);
+    let minute = decimal_field(&z[4..6], 59);
+    let away = (hour.number * 60 + minute.number) as u16;
+    if hour.good & (z[3] == 0x3a) & minute.good {
+        if z[0] == 0x2b {
+            return Zone::East(1439 + away);
+        }
+        if z[0] == 0x2d {
+            return Zone::East(1439 - away);
+        }
+    }
+    Zone::NoZone
+}

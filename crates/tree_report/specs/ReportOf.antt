@@ -1,0 +1,112 @@
+-- The report that a layout holds. Definitions only.
+use Prim.Native.Nat.{ℕ}
+use mathlib.Core.List.{List, [], _∷_, map}
+use mathlib.Core.Bool.{Bool, cond}
+use mathlib.Core.Option.{Option, none, some}
+use lib.Dec.{leb, eqb}
+use Rattle.tree_report.specs.Report.{Pair, failure, error, FlakyOrRerun, flaky, rerun, TestRerun, Reason, TestCaseStatus, success, nonSuccess, skipped, TestCase, TestSuite, Report}
+use Rattle.tree_report.specs.Fields.{kindOf, live, isSuite, isCase, isSuiteProperty, isCaseProperty, isMain, isRun, isSuiteExtra, isCaseExtra, bit, flakyBit, textAt, first, systemOut, systemErr, second, description, stackTrace, uuid, timestamp, time, counts, assertions}
+use Rattle.tree_report.specs.Layout.{recordsOf, usedText}
+
+-- the records that pass a test, in order
+abbrev pub only : (List ℕ → Bool) → List (List ℕ) → List (List ℕ)
+only p [] = []
+only p (r ∷ rs) = cond (p r) (r ∷ only p rs) (only p rs)
+
+-- the records up to the next that passes a test
+abbrev pub until : (List ℕ → Bool) → List (List ℕ) → List (List ℕ)
+until p [] = []
+until p (r ∷ rs) = cond (p r) [] (r ∷ until p rs)
+
+-- an element's record, and what stands behind it up to the next of its kind: "a live record belongs to the nearest live
+-- record of its parent's kind before it"
+pub record Branch : Type 0 where
+  pub head : List ℕ
+  pub below : List (List ℕ)
+
+abbrev pub branches : (List ℕ → Bool) → List (List ℕ) → List Branch
+branches p [] = []
+branches p (r ∷ rs) = cond (p r) (record { head = r; below = until p rs } ∷ branches p rs) (branches p rs)
+
+module _ (text : List ℕ) where
+  abbrev pub pairOf : List ℕ → Pair
+  pairOf r = record { key = textAt text r 2; value = textAt text r 4 }
+
+  abbrev pub pairsOf : (List ℕ → Bool) → List (List ℕ) → List Pair
+  pairsOf p rs = map pairOf (only p rs)
+
+  abbrev pub reasonOf : List ℕ → Reason
+  reasonOf r = record { message = first text r; type = second text r; description = description text r }
+
+  -- 9 flakyFailure, 10 flakyError, 11 rerunFailure, 12 rerunError
+  abbrev pub runOf : List ℕ → TestRerun
+  runOf r =
+      record {
+        kind = cond (eqb (kindOf r) 9) failure (cond (eqb (kindOf r) 11) failure error);
+        timestamp = timestamp r;
+        time = time r;
+        message = first text r;
+        type = second text r;
+        stackTrace = stackTrace text r;
+        systemOut = systemOut text r;
+        systemErr = systemErr text r;
+        description = description text r;
+      }
+
+  -- the kind of a failure's or error's runs: by the first of them, and without any by the flaky bit
+  abbrev pub kindOfRuns : List ℕ → List (List ℕ) → FlakyOrRerun
+  kindOfRuns main [] = cond (bit flakyBit main) flaky rerun
+  kindOfRuns main (r ∷ rs) = cond (leb (kindOf r) 10) flaky rerun
+
+  -- no main is success; 6 failure, 7 error, 8 skipped
+  abbrev pub statusOf : List (List ℕ) → List (List ℕ) → TestCaseStatus
+  statusOf [] runs = success (map runOf runs)
+  statusOf (m ∷ ms) runs =
+      cond (eqb (kindOf m) 8) (skipped (reasonOf m))
+      (nonSuccess (cond (eqb (kindOf m) 6) failure error) (reasonOf m) (kindOfRuns m runs) (map runOf runs))
+
+  abbrev pub caseOf : Branch → TestCase
+  caseOf b =
+      record {
+        name = textAt text (b .head) 2;
+        classname = second text (b .head);
+        assertions = assertions (b .head);
+        timestamp = timestamp (b .head);
+        time = time (b .head);
+        status = statusOf (only isMain (b .below)) (only isRun (b .below));
+        systemOut = systemOut text (b .head);
+        systemErr = systemErr text (b .head);
+        extra = pairsOf isCaseExtra (b .below);
+        properties = pairsOf isCaseProperty (b .below);
+      }
+
+  abbrev pub suiteOf : Branch → TestSuite
+  suiteOf b =
+      record {
+        name = textAt text (b .head) 2;
+        counts = counts (b .head);
+        timestamp = timestamp (b .head);
+        time = time (b .head);
+        cases = map caseOf (branches isCase (b .below));
+        properties = pairsOf isSuiteProperty (b .below);
+        systemOut = systemOut text (b .head);
+        systemErr = systemErr text (b .head);
+        extra = pairsOf isSuiteExtra (b .below);
+      }
+
+  -- the one live report record comes first
+  abbrev pub reportFrom : List (List ℕ) → Option Report
+  reportFrom [] = none
+  reportFrom (r ∷ rs) =
+      some (record {
+        name = first text r;
+        uuid = uuid r;
+        timestamp = timestamp r;
+        time = time r;
+        counts = counts r;
+        suites = map suiteOf (branches isSuite rs);
+      })
+
+-- the report of two areas; there is one wherever they are a layout
+unfoldable pub reportOf : List ℕ → List ℕ → Option Report
+reportOf words text = reportFrom (usedText text) (only live (recordsOf words))

@@ -1,0 +1,56 @@
+use mathlib.Core.Path.{refl}
+use borrow.Author.Needs.{needs}
+use Rattle.tree_report.specs.Layout.{goodCase}
+use Rattle.tree_shape.proofs.Bits.{case-bits}
+use Rattle.tree_shape.proofs.good_case.Statement.{statement}
+use Rattle.tree_shape.proofs.good_case.Tie as tie
+
+shared-slice-read-only : tie.Need-shared-slice-read-only
+shared-slice-read-only c = search needs
+
+good-outputs-requires : tie.Need-good-outputs-requires
+good-outputs-requires c κs = search needs
+
+text-slot-requires : tie.Need-text-slot-requires
+text-slot-requires c κs = search needs
+
+free-slot-requires : tie.Need-free-slot-requires
+free-slot-requires c κs = search needs
+
+sub-is-zero : tie.Need-sub-is-zero
+sub-is-zero c = search needs
+
+part-is-zero-start : tie.Need-part-is-zero-start
+part-is-zero-start c = search needs
+
+part-is-zero-end : tie.Need-part-is-zero-end
+part-is-zero-end c = search needs
+
+is-zero-requires : tie.Need-is-zero-requires
+is-zero-requires c κs = search needs
+
+has-requires : tie.Need-has-requires
+has-requires c κs = search needs
+
+good-common-requires : tie.Need-good-common-requires
+good-common-requires c κs = search needs
+
+returns : tie.Need-returns
+unfolding goodCase
+returns c = rw (case-bits (c .before .before .before .before .before .before .before .before .before .before .args .r .now), c .before .has .ensures, c .good-common .ensures, c .before .before .before .before .before .before .good-outputs .ensures, c .before .before .before .before .before .text-slot .ensures, c .before .before .before .before .free-slot .ensures, c .before .before .is-zero .ensures) refl
+
+pub good-case-spec : {M : Type 1} → statement M
+good-case-spec =
+    tie.close
+    (tie.spec
+    shared-slice-read-only
+    good-outputs-requires
+    text-slot-requires
+    free-slot-requires
+    sub-is-zero
+    part-is-zero-start
+    part-is-zero-end
+    is-zero-requires
+    has-requires
+    good-common-requires
+    returns)

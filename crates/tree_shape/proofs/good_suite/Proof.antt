@@ -1,0 +1,44 @@
+use mathlib.Core.Path.{refl}
+use borrow.Author.Needs.{needs}
+use Rattle.tree_report.specs.Layout.{goodSuite}
+use Rattle.tree_shape.proofs.Bits.{suite-bits}
+use Rattle.tree_shape.proofs.good_suite.Statement.{statement}
+use Rattle.tree_shape.proofs.good_suite.Tie as tie
+
+shared-slice-read-bits : tie.Need-shared-slice-read-bits
+shared-slice-read-bits c = search needs
+
+mul-only : tie.Need-mul-only
+mul-only c = search needs
+
+add-only : tie.Need-add-only
+add-only c = search needs
+
+has-requires : tie.Need-has-requires
+has-requires c κs = search needs
+
+good-common-requires : tie.Need-good-common-requires
+good-common-requires c κs = search needs
+
+good-outputs-requires : tie.Need-good-outputs-requires
+good-outputs-requires c κs = search needs
+
+good-counts-requires : tie.Need-good-counts-requires
+good-counts-requires c κs = search needs
+
+returns : tie.Need-returns
+unfolding goodSuite
+returns c = rw (suite-bits (c .before .before .before .before .before .before .before .args .r .now), c .before .before .before .has .ensures, c .before .before .good-common .ensures, c .before .good-outputs .ensures, c .good-counts .ensures) refl
+
+pub good-suite-spec : {M : Type 1} → statement M
+good-suite-spec =
+    tie.close
+    (tie.spec
+    shared-slice-read-bits
+    mul-only
+    add-only
+    has-requires
+    good-common-requires
+    good-outputs-requires
+    good-counts-requires
+    returns)
