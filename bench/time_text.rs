@@ -1,4 +1,4 @@
-// Compares the time printer of crate `clock` with Rust's own formatting of the same float sum.
+// Compares the time printer of crate `time_text` with Rust's own formatting of the same float sum.
 // Build and run: see README.md beside this file.
 use std::fmt::Write;
 

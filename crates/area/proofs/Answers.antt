@@ -3,9 +3,10 @@ use Prim.Native.Nat.{ℕ}
 use mathlib.Core.Path.{_≡_, refl}
 use mathlib.Core.Bool.{Bool, true, false, cond}
 use native.Mathlib.Omega.{arith}
+use Rattle.refusal.specs.declared.Cause.{Cause}
 use Rattle.area.specs.Answer.{gives, refuses}
 
-module _ (t : Bool) (a n : ℕ) where
+module _ (t : Bool) (a : ℕ) (n : Cause) where
   pub given : (b : ℕ) → gives b ≡ cond t (gives a) (refuses n) → (t ≡ true) × (b ≡ a)
   given b e = go t refl e
     where
@@ -13,7 +14,7 @@ module _ (t : Bool) (a n : ℕ) where
       go true q p = (q, cc)
       go false q p = let z : _≡_ {A = ℕ} 0 1 = cc in absurd (omega arith)
 
-  pub refused : (m : ℕ) → refuses m ≡ cond t (gives a) (refuses n) → t ≡ false
+  pub refused : (m : Cause) → refuses m ≡ cond t (gives a) (refuses n) → t ≡ false
   refused m e = go t refl e
     where
       go : (u : Bool) → t ≡ u → refuses m ≡ cond u (gives a) (refuses n) → t ≡ false

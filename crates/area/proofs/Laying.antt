@@ -14,6 +14,7 @@ use Rattle.area.specs.Area.{zeros, storedAnswer, placing, laid}
 use Rattle.area.proofs.Lists.{drop-zeros}
 use Rattle.area.specs.declared.Stored.{Stored}
 use Rattle.area.specs.declared.Stored.the-variants.{Put, Full}
+use Rattle.refusal.specs.declared.Cause.{Cause}
 
 -- an area after a text was put at its front
 module _ (out f : List ℕ) where
@@ -63,7 +64,7 @@ laying-put {out₀} {out} {k} {f} {b} {g} l h = record {
   rest = drop-set-lt (k + 1) out k b (omega arith) ∙ sym (drop-drop 1 k out) ∙ ap (drop 1) (l .rest) ∙ drop-drop 1 k out₀;
 }
 
-pub laying-done : (short : ℕ) {out₀ out : List ℕ} {k : ℕ} {f : List ℕ} → Laying out₀ out k f [] → (gives k ≡ placing short (length out₀) f) × (out ≡ laid out₀ f)
+pub laying-done : (short : Cause) {out₀ out : List ℕ} {k : ℕ} {f : List ℕ} → Laying out₀ out k f [] → (gives k ≡ placing short (length out₀) f) × (out ≡ laid out₀ f)
 laying-done short {out₀} {out} {k} {f} l =
     let e : f ≡ take k out = l .done ∙ append-nil (take k out) in
     let n : length f ≡ k = ap length e ∙ length-take-le k out (l .fits) in
@@ -72,7 +73,7 @@ laying-done short {out₀} {out} {k} {f} l =
       sym (take-append-drop k out) ∙ ap (λ (x : List ℕ). x ++ drop k out) (sym e ∙ sym (take-all (length out₀) f h)) ∙ ap (λ (x : List ℕ). take (length out₀) f ++ x) (l .rest ∙ ap (λ (j : ℕ). drop j out₀) (sym n)),
     )
 
-pub laying-full : (short : ℕ) {out₀ out : List ℕ} {k : ℕ} {f : List ℕ} {b : ℕ} {g : List ℕ} → Laying out₀ out k f (b ∷ g) → length out ≤ k → (refuses short ≡ placing short (length out₀) f) × (out ≡ laid out₀ f)
+pub laying-full : (short : Cause) {out₀ out : List ℕ} {k : ℕ} {f : List ℕ} {b : ℕ} {g : List ℕ} → Laying out₀ out k f (b ∷ g) → length out ≤ k → (refuses short ≡ placing short (length out₀) f) × (out ≡ laid out₀ f)
 laying-full short {out₀} {out} {k} {f} {b} {g} l h =
     let e : f ≡ out ++ (b ∷ g) = l .done ∙ ap (λ (x : List ℕ). x ++ (b ∷ g)) (take-all k out h) in
     let n : length f ≡ length out + suc (length g) = ap length e ∙ length-append out (b ∷ g) in
@@ -108,7 +109,7 @@ module _ {out₀ out : List ℕ} {k : ℕ} {f : List ℕ} (t g : List ℕ) (l : 
             ∙ sym (drop-drop (length t) k out) ∙ ap (drop (length t)) (l .rest) ∙ drop-drop (length t) k out₀;
       }
 
-  pub laying-over : (short : ℕ) (out′ : List ℕ) → out′ ≡ take k out ++ laid (drop k out) t → length out - k < length t → (refuses short ≡ placing short (length out₀) f) × (out′ ≡ laid out₀ f)
+  pub laying-over : (short : Cause) (out′ : List ℕ) → out′ ≡ take k out ++ laid (drop k out) t → length out - k < length t → (refuses short ≡ placing short (length out₀) f) × (out′ ≡ laid out₀ f)
   laying-over short out′ e h =
       let m : length (drop k out) ≡ length out - k = length-drop k out in
       let n : length f ≡ k + (length t + length g) = ap length (l .done) ∙ length-append (take k out) (t ++ g) ∙ ap (λ (j : ℕ). j + length (t ++ g)) at-k ∙ ap (λ (j : ℕ). k + j) (length-append t g) in
@@ -122,7 +123,7 @@ module _ {out₀ out : List ℕ} {k : ℕ} {f : List ℕ} (t g : List ℕ) (l : 
       )
 
 -- what an answer tells
-module _ (short n : ℕ) (f : List ℕ) where
+module _ (short : Cause) (n : ℕ) (f : List ℕ) where
   pub put-fits : (m : ℕ) → gives m ≡ placing short n f → (length f ≤ n) × (m ≡ length f)
   put-fits m e = go (leb (length f) n) refl e
     where
@@ -144,7 +145,7 @@ module _ (short n : ℕ) (f : List ℕ) where
   over-full h = sym (ap (λ (t : Bool). cond t (gives (length f)) (refuses short)) (lt-leb (length f) n h))
 
 -- the same text put into an area of another kind
-pub other-area : (short short′ n : ℕ) (f : List ℕ) (r : Stored) → storedAnswer short r ≡ placing short n f → storedAnswer short′ r ≡ placing short′ n f
+pub other-area : (short short′ : Cause) (n : ℕ) (f : List ℕ) (r : Stored) → storedAnswer short r ≡ placing short n f → storedAnswer short′ r ≡ placing short′ n f
 other-area short short′ n f (Put m) e =
     let p = put-fits short n f m e in ap gives (p .1) ∙ fits-put short′ n f (p .0)
 other-area short short′ n f Full e = over-full short′ n f (full-over short n f e)

@@ -3,3 +3,4 @@ pub mod Ascii
 pub mod Texts
 pub mod Numbers
 pub mod Printing
+pub mod Examples

@@ -6,6 +6,7 @@ ghost use Prim.Native.Nat.{_-_, _≤_, min};
 ghost use lib.ListN.{length};
 ghost use Rattle.area.specs.Area.{zeros, storedAnswer, placing, laid};
 ghost use Rattle.digits.specs.Digits.{digit, numberIn, lastDigits, places, decimal};
+ghost use Rattle.refusal.specs.declared.Cause.the-variants as cause;
 
 // What reading finds: a number of at most the limit asked for, or something else.
 pub enum Number {
@@ -108,7 +109,7 @@ fn at_most_twenty(k: usize) -> usize
 
 // The last k digits of n, leading zeros too: at most twenty, as many as a u64 can have.
 pub fn write_digits(out: &mut [u8], k: usize, n: u64) -> Stored
-    ensures { λ r. ⌜ storedAnswer 16 r ≡ placing 16 (length (now (out .entry))) (lastDigits (min k 20) n) ⌝ }
+    ensures { λ r. ⌜ storedAnswer cause.OutputFull r ≡ placing cause.OutputFull (length (now (out .entry))) (lastDigits (min k 20) n) ⌝ }
     ensures { λ r. ⌜ now (out .exit) ≡ laid (now (out .entry)) (lastDigits (min k 20) n) ⌝ }
 {
     let w = at_most_twenty(k);
@@ -117,7 +118,7 @@ pub fn write_digits(out: &mut [u8], k: usize, n: u64) -> Stored
 }
 
 pub fn write_decimal(out: &mut [u8], n: u64) -> Stored
-    ensures { λ r. ⌜ storedAnswer 16 r ≡ placing 16 (length (now (out .entry))) (decimal n) ⌝ }
+    ensures { λ r. ⌜ storedAnswer cause.OutputFull r ≡ placing cause.OutputFull (length (now (out .entry))) (decimal n) ⌝ }
     ensures { λ r. ⌜ now (out .exit) ≡ laid (now (out .entry)) (decimal n) ⌝ }
 {
     let k = places_of(n);

@@ -4,6 +4,7 @@ ghost use lib.ListN.{length};
 ghost use Rattle.area.specs.Area.{storedAnswer, placing, laid};
 ghost use Rattle.escape.specs.Escape.{marked, letter, escaped};
 use area::Stored;
+ghost use Rattle.refusal.specs.declared.Cause.the-variants as cause;
 
 fn is_marked(b: u8) -> bool
     ensures { λ r. ⌜ r ≡ marked b ⌝ }
@@ -24,7 +25,7 @@ fn letter_of(b: u8) -> u8
 
 // Puts s, escaped, at the front of out.
 pub fn escape_into(out: &mut [u8], s: &[u8]) -> Stored
-    ensures { λ r. ⌜ storedAnswer 16 r ≡ placing 16 (length (now (out .entry))) (escaped (now (s .entry))) ⌝ }
+    ensures { λ r. ⌜ storedAnswer cause.OutputFull r ≡ placing cause.OutputFull (length (now (out .entry))) (escaped (now (s .entry))) ⌝ }
     ensures { λ r. ⌜ now (out .exit) ≡ laid (now (out .entry)) (escaped (now (s .entry))) ⌝ }
 {
     let mut i = 0;

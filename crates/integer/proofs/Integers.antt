@@ -18,6 +18,7 @@ use Rattle.digits.proofs.Numbers.{number-parts, is-number, not-number}
 use Rattle.digits.proofs.Printing.{decimal-digits, decimal-number, decimal-value}
 use Rattle.integer.specs.Integer.{unsigned, isInteger, integerOf}
 use Rattle.digits.proofs.Texts.{digits-utf8}
+use Rattle.refusal.specs.declared.Cause.the-variants as cause
 
 -- behind the sign, or without one
 module _ (s : List ℕ) where
@@ -63,10 +64,10 @@ module _ (s : List ℕ) where
   pub integer-is : isInteger s ≡ true → gives (value 10 (unsigned s)) ≡ integerOf s
   integer-is e = rw (integer-utf8 s e, e) refl
 
-  pub integer-bad : isInteger s ≡ false → utf8 s ≡ true → refuses 3 ≡ integerOf s
+  pub integer-bad : isInteger s ≡ false → utf8 s ≡ true → refuses cause.BadInteger ≡ integerOf s
   integer-bad e u = rw (u, e) refl
 
-  pub integer-not-utf8 : utf8 s ≡ false → refuses 2 ≡ integerOf s
+  pub integer-not-utf8 : utf8 s ≡ false → refuses cause.NotUtf8 ≡ integerOf s
   integer-not-utf8 u = rw u refl
 
 -- a printed number has no sign
@@ -92,5 +93,5 @@ module _ (s p : List ℕ) (e : p ≡ unsigned s) (n : Number) (q : n ≡ numberI
       let k = is-number 10 18446744073709551615 p v (sym t ∙ q) in
       ap gives (k .1 ∙ ap (value 10) e) ∙ integer-is s (ap (isNumber 10 18446744073709551615) (sym e) ∙ k .0)
 
-  pub read-bad : n ≡ number.Not → utf8 s ≡ true → refuses 3 ≡ integerOf s
+  pub read-bad : n ≡ number.Not → utf8 s ≡ true → refuses cause.BadInteger ≡ integerOf s
   read-bad t u = integer-bad s (ap (isNumber 10 18446744073709551615) (sym e) ∙ not-number 10 18446744073709551615 p (sym t ∙ q)) u

@@ -8,12 +8,13 @@ use Rattle.utf8.specs.Utf8.{utf8}
 use Rattle.digits.specs.Digits.{isNumber, value}
 use Rattle.integer.specs.declared.Integer.{Integer}
 use Rattle.integer.specs.declared.Integer.the-variants.{Is, NotUtf8, Bad}
+use Rattle.refusal.specs.declared.Cause.the-variants as cause
 
 -- the value, or 2 for "not UTF-8", 3 for "integer"
 abbrev pub integerAnswer : Integer → Answer ℕ
 integerAnswer (Is n) = gives n
-integerAnswer NotUtf8 = refuses 2
-integerAnswer Bad = refuses 3
+integerAnswer NotUtf8 = refuses cause.NotUtf8
+integerAnswer Bad = refuses cause.BadInteger
 
 -- "optional `+`"
 unfoldable pub unsigned : List ℕ → List ℕ
@@ -25,4 +26,4 @@ abbrev pub isInteger : List ℕ → Bool
 isInteger s = isNumber 10 18446744073709551615 (unsigned s)
 
 abbrev pub integerOf : List ℕ → Answer ℕ
-integerOf s = cond (utf8 s) (cond (isInteger s) (gives (value 10 (unsigned s))) (refuses 3)) (refuses 2)
+integerOf s = cond (utf8 s) (cond (isInteger s) (gives (value 10 (unsigned s))) (refuses cause.BadInteger)) (refuses cause.NotUtf8)

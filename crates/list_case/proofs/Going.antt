@@ -6,10 +6,10 @@ use mathlib.Core.Bool.{Bool, true, false, not, _&&_, and-eq-true-iff}
 use native.Mathlib.Omega.{arith}
 use lib.ListN.{length, take, drop}
 use Rattle.area.specs.declared.Stored.{Stored}
-use Rattle.list_text.specs.Behind.{Filled, filled, isFull, Puts}
+use Rattle.list_text.specs.inside.Behind.{Filled, filled, isFull, Puts}
 use Rattle.list_text.proofs.Putting.{Coming, coming-start, coming-on, coming-puts, coming-done, coming-stop, other, puts-none}
-use Rattle.list_case.specs.Shown.{stands, recordsIn}
-use Rattle.list_case.proofs.Records.{stands-room, records-here, records-over}
+use Rattle.list_sums.specs.inside.Rows.{stands, recordsIn}
+use Rattle.list_sums.proofs.Records.{stands-room, records-here, records-over}
 
 -- the loop goes on, and a record stands there
 pub goes-on : (a b : Bool) {x : Bool} → (a && b) ≡ true → b ≡ x → x ≡ true

@@ -1,5 +1,3 @@
-pub mod Records
 pub mod Going
-pub mod Sums
-pub mod Lines
 pub mod Unrolling
+pub mod Lines

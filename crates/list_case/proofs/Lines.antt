@@ -12,11 +12,11 @@ use Rattle.tree_report.specs.Fields.{kindOf, isMain, isRun, textAt, second, tim
 use Rattle.tree_report.specs.Report.{TestCaseStatus, failure, error}
 use Rattle.tree_report.specs.ReportOf.{only, statusOf}
 use Rattle.list_text.specs.Listing.{Status, RunKind, PublicRun, statusShown, runKindShown, runsShown, quoted, orDash, timed, fields, statusWord, kindWord, runWord, close, runText, runTexts, caseText}
-use Rattle.list_text.proofs.Joining.{three-parts, fields-split}
-use Rattle.list_case.specs.Summed.{own, summary, isSkippedBy, statusBy, kindBy, runsBy, summedOn}
-use Rattle.list_case.specs.Shown.{runListed, runOpened, caseOpened, caseShown}
-use Rattle.list_case.specs.Shown as shown
-use Rattle.list_case.proofs.Sums.{status-summed, kind-summed, runs-summed}
+use Rattle.list_values.proofs.Joining.{three-parts, fields-split}
+use Rattle.list_sums.specs.inside.Summed.{own, summary, isSkippedBy, statusBy, kindBy, runsBy, summedOn, runListed}
+use Rattle.list_case.specs.inside.Shown.{runOpened, caseOpened, caseShown}
+use Rattle.list_case.specs.inside.Shown as shown
+use Rattle.list_sums.proofs.Sums.{status-summed, kind-summed, runs-summed}
 
 pub run-parts : (r : List ℕ) → runOpened (kindOf r) ++ ((32 ∷ orDash timed (time r)) ++ close) ≡ runText (runListed r)
 unfolding runText

@@ -5,9 +5,9 @@ use mathlib.Core.List.{List, [], _∷_, _++_}
 use mathlib.Core.Bool.{true, false}
 use Rattle.tree_report.specs.Fields.{isRun}
 use Rattle.list_text.specs.Listing.{runText}
-use Rattle.list_case.specs.Summed.{endsCase}
-use Rattle.list_case.specs.Shown.{runListed, runsShown}
-use Rattle.list_case.proofs.Sums.{own-end, own-next}
+use Rattle.list_sums.specs.inside.Summed.{endsCase, runListed}
+use Rattle.list_case.specs.inside.Shown.{runsShown}
+use Rattle.list_sums.proofs.Sums.{own-end, own-next}
 
 pub runs-over : runsShown [] ≡ []
 unfolding runsShown

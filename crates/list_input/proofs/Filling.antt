@@ -6,8 +6,10 @@ use native.Mathlib.Omega.{arith}
 use native.Mathlib.Nat.{not-suc-le-zero, le-of-suc-le-suc}
 use native.Mathlib.Numerals.{add-one}
 use lib.ListN.{length, take, drop, set, length-set}
-use lib.Seq.{drop-drop, drop-length, length-take-le, take-at}
+use lib.Seq.{drop-drop, drop-length, length-take-le}
+use Rattle.area.specs.Area.{laid}
 use Rattle.area.proofs.Parts.{rest-part}
+use Rattle.area.proofs.Laying.{laid-fits}
 use Rattle.list_input.specs.Input.{wordOf, wordsOf}
 
 put-suc : (n : ℕ) (s d : List ℕ) → n < length d → set (wordsOf n s ++ drop n d) n (wordOf (drop (n * 4) s)) ≡ wordsOf (suc n) s ++ drop (suc n) d
@@ -44,13 +46,15 @@ filling-done {words₀} {s} {words} {i} k h =
     let e : i ≡ length words₀ = omega (arith, k .same, k .fits) in
     k .done ∙ rw (e, drop-length words₀) (append-nil (wordsOf (length words₀) s))
 
-length-words : (n : ℕ) (s : List ℕ) → length (wordsOf n s) ≡ n
+pub length-words : (n : ℕ) (s : List ℕ) → length (wordsOf n s) ≡ n
 unfolding wordsOf
 length-words zero s = refl
 length-words (suc n) s = ap suc (length-words n (drop 4 s))
 
 -- the front of an area was filled from a place of s on
-pub front-filled : (n at : ℕ) (area s r t : List ℕ) → n ≤ length area → r ≡ wordsOf (length (take n area)) (take (length s - at) (drop at s)) → take n (r ++ t) ≡ wordsOf n (drop at s)
-front-filled n at area s r t h e =
+pub front-filled : (n at : ℕ) (area s r : List ℕ) → n ≤ length area → r ≡ wordsOf (length (take n area)) (take (length s - at) (drop at s)) → r ++ drop n area ≡ laid area (wordsOf n (drop at s))
+front-filled n at area s r h e =
     let f : r ≡ wordsOf n (drop at s) = e ∙ ap (λ (k : ℕ). wordsOf k (take (length s - at) (drop at s))) (length-take-le n area h) ∙ ap (wordsOf n) (rest-part s at) in
-    take-at r t n (ap length f ∙ length-words n (drop at s)) ∙ f
+    let l : length (wordsOf n (drop at s)) ≡ n = length-words n (drop at s) in
+    let g : length (wordsOf n (drop at s)) ≤ length area = omega arith in
+    rw f (ap (λ (k : ℕ). wordsOf n (drop at s) ++ drop k area) (sym l) ∙ sym (laid-fits area (wordsOf n (drop at s)) g))

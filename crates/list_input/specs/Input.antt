@@ -5,6 +5,7 @@ use mathlib.Core.Bool.{Bool, cond, _&&_}
 use mathlib.Core.Option.{Option, none, some}
 use lib.ListN.{length, getD, take, drop}
 use lib.Dec.{leb}
+use Rattle.area.specs.Area.{laid}
 use Rattle.list_input.specs.declared.Found.{Found}
 use Rattle.list_input.specs.declared.Found.the-variants.{Is, Not}
 
@@ -57,7 +58,20 @@ inputOf m n s =
     }))
     none
 
--- what was found: how many words of the two areas, and where the source begins and how long it is
+-- what is answered: how many words of the two areas are used, and where the source begins and how long it is
+unfoldable pub partsIn : ℕ → ℕ → List ℕ → Found
+partsIn m n s = cond (whole m n s) (Is (record { events = eventsIn s * 5; attributes = attributesIn s * 5; at = sourceAt s; source = sourceIn s })) Not
+
+-- the two areas afterwards: the words at the front of what was there; as they were where the input is no table
+abbrev pub eventsLeft : Option Table → List ℕ → List ℕ
+eventsLeft (some t) area = laid area (t .events)
+eventsLeft none area = area
+
+abbrev pub attributesLeft : Option Table → List ℕ → List ℕ
+attributesLeft (some t) area = laid area (t .attributes)
+attributesLeft none area = area
+
+-- the table that an answer and the areas stand for: how many words of the two areas, and where the source begins and how long it is
 abbrev pub foundOf : Found → List ℕ → List ℕ → List ℕ → Option Table
 foundOf (Is x) events attributes s = some (record { events = take (x .events) events; attributes = take (x .attributes) attributes; source = take (x .source) (drop (x .at) s) })
 foundOf Not events attributes s = none

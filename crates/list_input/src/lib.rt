@@ -4,7 +4,8 @@ ghost use mathlib.Core.Bool.{_&&_};
 ghost use Prim.Native.Nat.{_≤_, _<_, _+_, _*_};
 ghost use lib.Dec.{leb};
 ghost use lib.ListN.{length, getD, take, drop};
-ghost use Rattle.list_input.specs.Input.{wordOf, wordsOf, eventsIn, attributesIn, sourceIn, inputOf, foundOf, Lies};
+ghost use Rattle.area.specs.Area.{laid};
+ghost use Rattle.list_input.specs.Input.{wordOf, wordsOf, eventsIn, attributesIn, sourceIn, inputOf, partsIn, eventsLeft, attributesLeft};
 
 const BUFFER: usize = 65536;
 
@@ -26,6 +27,16 @@ struct Numbers {
     events: usize,
     attributes: usize,
     source: usize,
+}
+
+// The first n bytes of s, all of them where there are fewer.
+pub fn front(s: &[u8], n: usize) -> &[u8]
+    ensures { λ r. ⌜ now r ≡ take n (now (s .entry)) ⌝ }
+{
+    if n < s.len() {
+        return &s[..n];
+    }
+    s
 }
 
 fn byte_at(s: &[u8], i: usize) -> u8
@@ -84,7 +95,7 @@ fn fill_words(words: &mut [u32], s: &[u8])
 fn fill_front(area: &mut [u32], n: usize, s: &[u8], at: usize)
     requires { ⌜ n ≤ length (now area) ⌝ }
     requires { ⌜ at + n * 4 ≤ length (now s) ⌝ }
-    ensures { λ _. ⌜ take n (now (area .exit)) ≡ wordsOf n (drop at (now (s .entry))) ⌝ }
+    ensures { λ _. ⌜ now (area .exit) ≡ laid (now (area .entry)) (wordsOf n (drop at (now (s .entry)))) ⌝ }
 {
     fill_words(&mut area[..n], &s[at..]);
 }
@@ -99,10 +110,12 @@ fn is_whole(n: Numbers, m: usize, k: usize, size: usize) -> bool
             & ((n.source <= BUFFER) & (12 + n.events * 20 + n.attributes * 20 + n.source <= size)))
 }
 
-// "input that is cut off or fills more than one buffer for events, attributes or source" is no table.
+// Puts the words of the table that s begins with at the front of the two areas. "Input that is cut off or fills more than one
+// buffer for events, attributes or source" is no table, and leaves the areas as they are.
 pub fn input_of(s: &[u8], events: &mut [u32], attributes: &mut [u32]) -> Found
-    ensures { λ r. ⌜ foundOf r (now (events .exit)) (now (attributes .exit)) (now (s .entry)) ≡ inputOf (length (now (events .entry))) (length (now (attributes .entry))) (now (s .entry)) ⌝ }
-    ensures { λ r. ⌜ Lies r (length (now (events .entry))) (length (now (attributes .entry))) (length (now (s .entry))) ⌝ }
+    ensures { λ r. ⌜ r ≡ partsIn (length (now (events .entry))) (length (now (attributes .entry))) (now (s .entry)) ⌝ }
+    ensures { λ _. ⌜ now (events .exit) ≡ eventsLeft (inputOf (length (now (events .entry))) (length (now (attributes .entry))) (now (s .entry))) (now (events .entry)) ⌝ }
+    ensures { λ _. ⌜ now (attributes .exit) ≡ attributesLeft (inputOf (length (now (events .entry))) (length (now (attributes .entry))) (now (s .entry))) (now (attributes .entry)) ⌝ }
 {
     if s.len() < 12 {
         return Found::Not;

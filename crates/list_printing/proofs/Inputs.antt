@@ -1,6 +1,6 @@
 -- What is left of an input: the same where the same was found in it. Assumes nothing.
 use Prim.Native.Nat.{ℕ, _+_, _-_, _≤_, min}
-use mathlib.Core.Path.{_≡_, sym, ap, _∙_}
+use mathlib.Core.Path.{_≡_, refl, sym, ap, _∙_}
 use mathlib.Core.List.{List}
 use mathlib.Core.Option.{Option, none, some}
 use native.Mathlib.Omega.{arith}
@@ -10,15 +10,15 @@ use Rattle.list_input.specs.Input.{Table, foundOf, Lies}
 use Rattle.list_input.specs.declared.Found.{Found}
 use Rattle.list_input.specs.declared.Found.the-variants.{Is, Not}
 use Rattle.list_input.specs.declared.Parts.{Parts}
-use Rattle.list_printing.specs.Printed.{listingFor, Areas, areasFor}
+use Rattle.list_printing.specs.Printed.{Buffers, buffers, listingFor, printed, programPrints, Areas, areasFor}
 
 -- the output area holds f, n bytes of it fit, and the three areas of reading are a
 abbrev pub Leaves : (k : ℕ) (f : List ℕ) (a : Areas) (out : List ℕ) (n : ℕ) (words text scratch : List ℕ) → Type 0
 Leaves k f a out n words text scratch = (out ≡ laid (zeros k) f) × ((n ≡ min k (length f)) × ((words ≡ a .words) × ((text ≡ a .text) × (scratch ≡ a .scratch))))
 
-pub same-found : (w t s k : ℕ) (o q : Option Table) → o ≡ q → (out : List ℕ) (n : ℕ) (words text scratch : List ℕ) →
-    Leaves k (listingFor w t s k o) (areasFor w t s o) out n words text scratch → Leaves k (listingFor w t s k q) (areasFor w t s q) out n words text scratch
-same-found w t s k o q e out n words text scratch h = rw e at h
+pub same-found : (b : Buffers) (k : ℕ) (o q : Option Table) → o ≡ q → (out : List ℕ) (n : ℕ) (words text scratch : List ℕ) →
+    Leaves k (listingFor b o) (areasFor b o) out n words text scratch → Leaves k (listingFor b q) (areasFor b q) out n words text scratch
+same-found b k o q e out n words text scratch h = rw e at h
 
 module _ (found : Found) (x : Parts) (e : found ≡ Is x) where
   pub found-is : (events attributes input : List ℕ) →
@@ -34,6 +34,11 @@ module _ (found : Found) (x : Parts) (e : found ≡ Is x) where
 pub found-not : (found : Found) → found ≡ Not → (events attributes input : List ℕ) → none ≡ foundOf found events attributes input
 found-not found e events attributes input = sym (ap (λ (f : Found). foundOf f events attributes input) e)
 
--- the areas have the lengths that they had
-pub lies-on : (found : Found) (m m′ n n′ k : ℕ) → m′ ≡ m → n′ ≡ n → Lies found m n k → Lies found m′ n′ k
-lies-on found m m′ n n′ k p q l = rw (p, q) l
+-- areas of the program's sizes; b are those lent
+pub program : (m n : ℕ) (b : Buffers) (out : List ℕ) (k : ℕ) (input : List ℕ) → m ≡ 16384 → n ≡ 16384 → b ≡ buffers →
+    (out ≡ laid (zeros (b .out)) (printed m n b input)) × (k ≡ min (b .out) (length (printed m n b input))) →
+    (out ≡ laid (zeros 65536) (programPrints input)) × (k ≡ min 65536 (length (programPrints input)))
+program m n b out k input p q r h = rw (p, q, r) at h
+
+pub sized : (records text scratch out : ℕ) → records ≡ 16384 → text ≡ 65536 → scratch ≡ 65536 → out ≡ 65536 → record { records = records; text = text; scratch = scratch; out = out } ≡ buffers
+sized records text scratch out p q r t = rw (p, q, r, t) refl

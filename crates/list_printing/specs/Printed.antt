@@ -2,23 +2,37 @@
 use Prim.Native.Nat.{ℕ}
 use mathlib.Core.List.{List}
 use mathlib.Core.Option.{Option, none, some}
+use lib.ListN.{length}
 use Rattle.area.specs.Area.{zeros}
 use Rattle.list_input.specs.Input.{Table, inputOf}
 use Rattle.read_machine.specs.Reading.{reading}
 use Rattle.public_claims.specs.PublicListing.{refusedText, publicListing}
 
--- the public listing of a table; "Any refusal prints `(refused)`, and so does input that is cut off or fills more than one buffer"
-abbrev pub listingFor : (words text scratch out : ℕ) → Option Table → List ℕ
-listingFor words text scratch out none = refusedText
-listingFor words text scratch out (some t) = publicListing (t .events) (t .attributes) (t .source) words text scratch out
+-- how long the lent areas are: the words of records, the bytes of text, scratch and output
+pub record Buffers : Type 0 where
+  pub records : ℕ
+  pub text : ℕ
+  pub scratch : ℕ
+  pub out : ℕ
 
--- what is printed for an input, with areas of m and n words for events and attributes, and of `words`, `text`, `scratch` and `out`
-unfoldable pub printed : (m n words text scratch out : ℕ) → List ℕ → List ℕ
-printed m n words text scratch out input = listingFor words text scratch out (inputOf m n input)
+abbrev pub lent : (records text scratch out : List ℕ) → Buffers
+lent records text scratch out = record { records = length records; text = length text; scratch = length scratch; out = length out }
+
+-- the public listing of a table; "Any refusal prints `(refused)`, and so does input that is cut off or fills more than one buffer"
+abbrev pub listingFor : Buffers → Option Table → List ℕ
+listingFor b none = refusedText
+listingFor b (some t) = publicListing (t .events) (t .attributes) (t .source) (b .records) (b .text) (b .scratch) (b .out)
+
+-- what is printed for an input, with areas of m and n words for events and attributes
+unfoldable pub printed : (m n : ℕ) → Buffers → List ℕ → List ℕ
+printed m n b input = listingFor b (inputOf m n input)
 
 -- "The program's areas are a buffer each": 65,536 bytes or 16,384 words
+abbrev pub buffers : Buffers
+buffers = record { records = 16384; text = 65536; scratch = 65536; out = 65536 }
+
 abbrev pub programPrints : List ℕ → List ℕ
-programPrints input = printed 16384 16384 16384 65536 65536 65536 input
+programPrints input = printed 16384 16384 buffers input
 
 -- the three areas of reading
 pub record Areas : Type 0 where
@@ -27,10 +41,10 @@ pub record Areas : Type 0 where
   pub scratch : List ℕ
 
 -- as reading left them; zero where there is no table to read
-abbrev pub areasFor : (words text scratch : ℕ) → Option Table → Areas
-areasFor words text scratch none = record { words = zeros words; text = zeros text; scratch = zeros scratch }
-areasFor words text scratch (some t) =
-    let r = reading (t .events) (t .attributes) (t .source) words text scratch in record { words = r .words; text = r .text; scratch = r .scratch }
+abbrev pub areasFor : Buffers → Option Table → Areas
+areasFor b none = record { words = zeros (b .records); text = zeros (b .text); scratch = zeros (b .scratch) }
+areasFor b (some t) =
+    let r = reading (t .events) (t .attributes) (t .source) (b .records) (b .text) (b .scratch) in record { words = r .words; text = r .text; scratch = r .scratch }
 
-unfoldable pub areasLeft : (m n words text scratch : ℕ) → List ℕ → Areas
-areasLeft m n words text scratch input = areasFor words text scratch (inputOf m n input)
+unfoldable pub areasLeft : (m n : ℕ) → Buffers → List ℕ → Areas
+areasLeft m n b input = areasFor b (inputOf m n input)

@@ -2,15 +2,16 @@
 use area::clear;
 use area::clear_words;
 use list_input::Found;
+use list_input::front;
 use list_input::input_of;
 use public_call::public_listing;
 use public_call::refuse;
 ghost use mathlib.Core.Path.{_≡_};
 ghost use Prim.Native.Nat.{min};
-ghost use lib.ListN.{length};
+ghost use lib.ListN.{length, take};
 ghost use Rattle.area.specs.Area.{zeros, laid};
 ghost use Rattle.public_claims.specs.PublicListing.{refusedText};
-ghost use Rattle.list_printing.specs.Printed.{listingFor, printed, areasFor, areasLeft};
+ghost use Rattle.list_printing.specs.Printed.{lent, listingFor, printed, programPrints, areasFor, areasLeft};
 ghost use Rattle.list_input.specs.Input.{foundOf, Lies};
 
 // An input that is no table.
@@ -39,11 +40,11 @@ fn print_found(
     out: &mut [u8],
 ) -> usize
     requires { ⌜ Lies found (length (now events)) (length (now attributes)) (length (now input)) ⌝ }
-    ensures out { λ _. ⌜ now (out .exit) ≡ laid (zeros (length (now (out .entry)))) (listingFor (length (now (records .entry))) (length (now (text .entry))) (length (now (scratch .entry))) (length (now (out .entry))) (foundOf found (now (events .entry)) (now (attributes .entry)) (now (input .entry)))) ⌝ }
-    ensures count { λ r. ⌜ r ≡ min (length (now (out .entry))) (length (listingFor (length (now (records .entry))) (length (now (text .entry))) (length (now (scratch .entry))) (length (now (out .entry))) (foundOf found (now (events .entry)) (now (attributes .entry)) (now (input .entry))))) ⌝ }
-    ensures records { λ _. ⌜ now (records .exit) ≡ areasFor (length (now (records .entry))) (length (now (text .entry))) (length (now (scratch .entry))) (foundOf found (now (events .entry)) (now (attributes .entry)) (now (input .entry))) .words ⌝ }
-    ensures text { λ _. ⌜ now (text .exit) ≡ areasFor (length (now (records .entry))) (length (now (text .entry))) (length (now (scratch .entry))) (foundOf found (now (events .entry)) (now (attributes .entry)) (now (input .entry))) .text ⌝ }
-    ensures scratch { λ _. ⌜ now (scratch .exit) ≡ areasFor (length (now (records .entry))) (length (now (text .entry))) (length (now (scratch .entry))) (foundOf found (now (events .entry)) (now (attributes .entry)) (now (input .entry))) .scratch ⌝ }
+    ensures out { λ _. ⌜ now (out .exit) ≡ laid (zeros (length (now (out .entry)))) (listingFor (lent (now (records .entry)) (now (text .entry)) (now (scratch .entry)) (now (out .entry))) (foundOf found (now (events .entry)) (now (attributes .entry)) (now (input .entry)))) ⌝ }
+    ensures count { λ r. ⌜ r ≡ min (length (now (out .entry))) (length (listingFor (lent (now (records .entry)) (now (text .entry)) (now (scratch .entry)) (now (out .entry))) (foundOf found (now (events .entry)) (now (attributes .entry)) (now (input .entry))))) ⌝ }
+    ensures records { λ _. ⌜ now (records .exit) ≡ areasFor (lent (now (records .entry)) (now (text .entry)) (now (scratch .entry)) (now (out .entry))) (foundOf found (now (events .entry)) (now (attributes .entry)) (now (input .entry))) .words ⌝ }
+    ensures text { λ _. ⌜ now (text .exit) ≡ areasFor (lent (now (records .entry)) (now (text .entry)) (now (scratch .entry)) (now (out .entry))) (foundOf found (now (events .entry)) (now (attributes .entry)) (now (input .entry))) .text ⌝ }
+    ensures scratch { λ _. ⌜ now (scratch .exit) ≡ areasFor (lent (now (records .entry)) (now (text .entry)) (now (scratch .entry)) (now (out .entry))) (foundOf found (now (events .entry)) (now (attributes .entry)) (now (input .entry))) .scratch ⌝ }
 {
     match found {
         Found::Is(x) => {
@@ -65,9 +66,11 @@ fn print_found(
     }
 }
 
-// What the program prints for its input, at the front of `out`; the words of the table go to the first two areas, which end zero.
+// What is printed for the first n bytes of an input, at the front of `out`; the words of the table go to the first two areas, which
+// end zero.
 pub fn print_listing(
     input: &[u8],
+    n: usize,
     events: &mut [u32],
     attributes: &mut [u32],
     records: &mut [u32],
@@ -75,18 +78,19 @@ pub fn print_listing(
     scratch: &mut [u8],
     out: &mut [u8],
 ) -> usize
-    ensures out { λ _. ⌜ now (out .exit) ≡ laid (zeros (length (now (out .entry)))) (printed (length (now (events .entry))) (length (now (attributes .entry))) (length (now (records .entry))) (length (now (text .entry))) (length (now (scratch .entry))) (length (now (out .entry))) (now (input .entry))) ⌝ }
-    ensures count { λ r. ⌜ r ≡ min (length (now (out .entry))) (length (printed (length (now (events .entry))) (length (now (attributes .entry))) (length (now (records .entry))) (length (now (text .entry))) (length (now (scratch .entry))) (length (now (out .entry))) (now (input .entry)))) ⌝ }
+    ensures out { λ _. ⌜ now (out .exit) ≡ laid (zeros (length (now (out .entry)))) (printed (length (now (events .entry))) (length (now (attributes .entry))) (lent (now (records .entry)) (now (text .entry)) (now (scratch .entry)) (now (out .entry))) (take n (now (input .entry)))) ⌝ }
+    ensures count { λ r. ⌜ r ≡ min (length (now (out .entry))) (length (printed (length (now (events .entry))) (length (now (attributes .entry))) (lent (now (records .entry)) (now (text .entry)) (now (scratch .entry)) (now (out .entry))) (take n (now (input .entry))))) ⌝ }
     ensures events { λ _. ⌜ now (events .exit) ≡ zeros (length (now (events .entry))) ⌝ }
     ensures attributes { λ _. ⌜ now (attributes .exit) ≡ zeros (length (now (attributes .entry))) ⌝ }
-    ensures records { λ _. ⌜ now (records .exit) ≡ areasLeft (length (now (events .entry))) (length (now (attributes .entry))) (length (now (records .entry))) (length (now (text .entry))) (length (now (scratch .entry))) (now (input .entry)) .words ⌝ }
-    ensures text { λ _. ⌜ now (text .exit) ≡ areasLeft (length (now (events .entry))) (length (now (attributes .entry))) (length (now (records .entry))) (length (now (text .entry))) (length (now (scratch .entry))) (now (input .entry)) .text ⌝ }
-    ensures scratch { λ _. ⌜ now (scratch .exit) ≡ areasLeft (length (now (events .entry))) (length (now (attributes .entry))) (length (now (records .entry))) (length (now (text .entry))) (length (now (scratch .entry))) (now (input .entry)) .scratch ⌝ }
+    ensures records { λ _. ⌜ now (records .exit) ≡ areasLeft (length (now (events .entry))) (length (now (attributes .entry))) (lent (now (records .entry)) (now (text .entry)) (now (scratch .entry)) (now (out .entry))) (take n (now (input .entry))) .words ⌝ }
+    ensures text { λ _. ⌜ now (text .exit) ≡ areasLeft (length (now (events .entry))) (length (now (attributes .entry))) (lent (now (records .entry)) (now (text .entry)) (now (scratch .entry)) (now (out .entry))) (take n (now (input .entry))) .text ⌝ }
+    ensures scratch { λ _. ⌜ now (scratch .exit) ≡ areasLeft (length (now (events .entry))) (length (now (attributes .entry))) (lent (now (records .entry)) (now (text .entry)) (now (scratch .entry)) (now (out .entry))) (take n (now (input .entry))) .scratch ⌝ }
 {
-    let found = input_of(input, events, attributes);
-    let n = print_found(
+    let given = front(input, n);
+    let found = input_of(given, events, attributes);
+    let k = print_found(
         found,
-        input,
+        given,
         events,
         attributes,
         records,
@@ -96,5 +100,28 @@ pub fn print_listing(
     );
     clear_words(events);
     clear_words(attributes);
-    n
+    k
+}
+
+// What the program prints for the n bytes that it read: its buffers are here, so that their sizes are in the promise. Its input has
+// room for three words, and a buffer each for events, attributes and source; "more is ignored".
+pub fn print_input(input: &[u8; 196620], n: usize, out: &mut [u8; 65536]) -> usize
+    ensures out { λ _. ⌜ now (out .exit) ≡ laid (zeros 65536) (programPrints (take n (now (input .entry)))) ⌝ }
+    ensures count { λ r. ⌜ r ≡ min 65536 (length (programPrints (take n (now (input .entry))))) ⌝ }
+{
+    let mut events = [0u32; 16384];
+    let mut attributes = [0u32; 16384];
+    let mut records = [0u32; 16384];
+    let mut text = [0u8; 65536];
+    let mut scratch = [0u8; 65536];
+    print_listing(
+        input,
+        n,
+        &mut events,
+        &mut attributes,
+        &mut records,
+        &mut text,
+        &mut scratch,
+        out,
+    )
 }

@@ -10,10 +10,11 @@ use Rattle.area.specs.Area.{zeros, placing, laid}
 use Rattle.area.specs.declared.Stored.the-variants.{Put, Full}
 use Rattle.tree_report.specs.Layout.{layout}
 use Rattle.list_text.specs.Listing.{listingOf, listingAnswer, outputFor, outputOf}
-use Rattle.list_text.specs.Behind.{Filled, filled, behind, Puts}
+use Rattle.list_text.specs.inside.Behind.{Filled, filled, behind, Puts}
+use Rattle.refusal.specs.declared.Cause.the-variants as cause
 
 -- from the start of an area
-from-start : (out f : List ℕ) → behind (gives 0, out) f ≡ (placing 16 (length out) f, laid out f)
+from-start : (out f : List ℕ) → behind (gives 0, out) f ≡ (placing cause.OutputFull (length out) f, laid out f)
 unfolding behind
 from-start out f =
     let z : length out - 0 ≡ length out = omega arith in
@@ -22,7 +23,7 @@ from-start out f =
 
 module _ (words text : List ℕ) (n : ℕ) where
   -- not a layout
-  pub no-listing : {out : List ℕ} → layout words text ≡ false → out ≡ zeros n → (refuses 15 ≡ listingAnswer words text n) × (out ≡ outputOf words text n)
+  pub no-listing : {out : List ℕ} → layout words text ≡ false → out ≡ zeros n → (refuses cause.NotLayout ≡ listingAnswer words text n) × (out ≡ outputOf words text n)
   unfolding listingAnswer outputOf
   no-listing e z = (rw e refl, rw e z)
 
@@ -30,30 +31,30 @@ module _ (words text : List ℕ) (n : ℕ) where
     abbrev f : List ℕ
     f = listingOf words text
 
-    answered : listingAnswer words text n ≡ placing 16 n f
+    answered : listingAnswer words text n ≡ placing cause.OutputFull n f
     unfolding listingAnswer
     answered = rw e refl
 
-    output : outputOf words text n ≡ outputFor (placing 16 n f) n f
+    output : outputOf words text n ≡ outputFor (placing cause.OutputFull n f) n f
     unfolding outputOf
     output = ap (λ (a : Answer ℕ). outputFor a n f) answered
 
     module _ {out : List ℕ} {t : Filled} (z : out ≡ zeros n) (p : Puts (filled (Put 0) out) f t) where
-      left-behind : t ≡ (placing 16 n f, laid (zeros n) f)
+      left-behind : t ≡ (placing cause.OutputFull n f, laid (zeros n) f)
       left-behind =
           p .same ∙ ap (λ (x : List ℕ). behind (gives 0, x) f) z ∙ from-start (zeros n) f
-          ∙ ap (λ (m : ℕ). (placing 16 m f, laid (zeros n) f)) (length-replicate {A = ℕ} n 0)
+          ∙ ap (λ (m : ℕ). (placing cause.OutputFull m f, laid (zeros n) f)) (length-replicate {A = ℕ} n 0)
 
     -- the listing was put
     pub whole-listing : {out out′ : List ℕ} (m : ℕ) → out ≡ zeros n → Puts (filled (Put 0) out) f (filled (Put m) out′) → (gives m ≡ listingAnswer words text n) × (out′ ≡ outputOf words text n)
     whole-listing m z p =
         let l = left-behind z p in
-        let a : gives m ≡ placing 16 n f = ap (λ (x : Filled). x .0) l in
+        let a : gives m ≡ placing cause.OutputFull n f = ap (λ (x : Filled). x .0) l in
         (a ∙ sym answered, ap (λ (x : Filled). x .1) l ∙ sym (output ∙ ap (λ (x : Answer ℕ). outputFor x n f) (sym a)))
 
     -- it didn't fit
-    pub short-listing : {out out′ out″ : List ℕ} → out ≡ zeros n → Puts (filled (Put 0) out) f (filled Full out′) → out″ ≡ zeros n → (refuses 16 ≡ listingAnswer words text n) × (out″ ≡ outputOf words text n)
+    pub short-listing : {out out′ out″ : List ℕ} → out ≡ zeros n → Puts (filled (Put 0) out) f (filled Full out′) → out″ ≡ zeros n → (refuses cause.OutputFull ≡ listingAnswer words text n) × (out″ ≡ outputOf words text n)
     short-listing z p y =
         let l = left-behind z p in
-        let a : refuses 16 ≡ placing 16 n f = ap (λ (x : Filled). x .0) l in
+        let a : refuses cause.OutputFull ≡ placing cause.OutputFull n f = ap (λ (x : Filled). x .0) l in
         (a ∙ sym answered, y ∙ sym (output ∙ ap (λ (x : Answer ℕ). outputFor x n f) (sym a)))

@@ -1,4 +1,3 @@
 pub mod Putting
-pub mod Cutting
-pub mod Joining
 pub mod Answering
+mod Examples

@@ -17,7 +17,8 @@ use Rattle.area.specs.declared.Stored.{Stored}
 use Rattle.area.specs.declared.Stored.the-variants.{Put, Full}
 use Rattle.area.proofs.Parts.{rest-part, rest-back}
 use Rattle.area.proofs.Laying.{laid-fits, laid-over, laid-append, put-fits, full-over}
-use Rattle.list_text.specs.Behind.{Filled, filled, isFull, behind, Puts}
+use Rattle.list_text.specs.inside.Behind.{Filled, filled, isFull, behind, Puts}
+use Rattle.refusal.specs.declared.Cause.the-variants as cause
 
 leb-less : (a b r : ℕ) → a ≤ r → leb b (r - a) ≡ leb (a + b) r
 leb-less a b r h = go (leb b (r - a)) refl
@@ -35,7 +36,7 @@ module _ (k : ℕ) (out : List ℕ) where
   unfolding behind
   fits-behind f h = rw (le-leb (length f) (length out - k) h, laid-fits (drop k out) f (rw (length-drop k out) h)) refl
 
-  over-behind : (f : List ℕ) → room < length f → behind (gives k, out) f ≡ (refuses 16, take k out ++ take room f)
+  over-behind : (f : List ℕ) → room < length f → behind (gives k, out) f ≡ (refuses cause.OutputFull, take k out ++ take room f)
   unfolding behind
   over-behind f h =
       let d : length (drop k out) ≤ length f = rw (length-drop k out) (omega arith) in
@@ -78,13 +79,13 @@ module _ (k : ℕ) (out : List ℕ) where
           ∙ append-assoc (take k out) f (laid rest g)
           ∙ ap (λ (x : List ℕ). take k out ++ x) (sym (laid-append (drop k out) f g dd))
 
-      answer-then : cond (leb (length g) (length with-f - (k + length f))) (gives (k + length f + length g)) (refuses 16) ≡ cond (leb (length (f ++ g)) room) (gives (k + length (f ++ g))) (refuses 16)
+      answer-then : cond (leb (length g) (length with-f - (k + length f))) (gives (k + length f + length g)) (refuses cause.OutputFull) ≡ cond (leb (length (f ++ g)) room) (gives (k + length (f ++ g))) (refuses cause.OutputFull)
       answer-then =
           let m : length (f ++ g) ≡ length f + length g = length-append f g in
           let w : k + length f + length g ≡ k + length (f ++ g) = omega arith in
-          ap (λ (n : ℕ). cond (leb (length g) n) (gives (k + length f + length g)) (refuses 16)) room-left
-          ∙ ap (λ (b : Bool). cond b (gives (k + length f + length g)) (refuses 16)) (leb-less (length f) (length g) room l ∙ ap (λ (n : ℕ). leb n room) (sym m))
-          ∙ ap (λ (n : ℕ). cond (leb (length (f ++ g)) room) (gives n) (refuses 16)) w
+          ap (λ (n : ℕ). cond (leb (length g) n) (gives (k + length f + length g)) (refuses cause.OutputFull)) room-left
+          ∙ ap (λ (b : Bool). cond b (gives (k + length f + length g)) (refuses cause.OutputFull)) (leb-less (length f) (length g) room l ∙ ap (λ (n : ℕ). leb n room) (sym m))
+          ∙ ap (λ (n : ℕ). cond (leb (length (f ++ g)) room) (gives n) (refuses cause.OutputFull)) w
 
       fits-then : behind (gives (k + length f), with-f) g ≡ behind (gives k, out) (f ++ g)
       unfolding behind
@@ -93,7 +94,7 @@ module _ (k : ℕ) (out : List ℕ) where
     over-then : room < length f → behind (gives k, out) f ≡ behind (gives k, out) (f ++ g)
     over-then h =
         let m : length (f ++ g) ≡ length f + length g = length-append f g in
-        over-behind f h ∙ sym (over-behind (f ++ g) (omega arith) ∙ ap (λ (x : List ℕ). (refuses 16, take k out ++ x)) (take-append-le room f g (omega arith)))
+        over-behind f h ∙ sym (over-behind (f ++ g) (omega arith) ∙ ap (λ (x : List ℕ). (refuses cause.OutputFull, take k out ++ x)) (take-append-le room f g (omega arith)))
 
     over-stays : room < length f → behind (behind (gives k, out) f) g ≡ behind (gives k, out) f
     unfolding behind
@@ -154,18 +155,18 @@ module _ (used from : ℕ) (out out′ f : List ℕ) (e : from ≡ min used (len
       go (yes h) = rw (e, min-eq-left h) refl
       go (no h) = let z : from ≡ length out = e ∙ min-eq-right (omega arith) in omega arith
 
-  pub put-behind : (n : ℕ) → gives n ≡ placing 16 (length (drop from out)) f → Puts (gives used, out) f (gives (used + n), out′)
+  pub put-behind : (n : ℕ) → gives n ≡ placing cause.OutputFull (length (drop from out)) f → Puts (gives used, out) f (gives (used + n), out′)
   unfolding behind
   put-behind n p =
-      let q = put-fits 16 (length (drop from out)) f n p in
+      let q = put-fits cause.OutputFull (length (drop from out)) f n p in
       let m : n ≡ length f = q .1 in
       let l : length f ≤ length out - used = rw room-same at (q .0) in
       record { same = rw (le-leb (length f) (length out - used) l, m, o ∙ same-front) refl }
 
-  pub full-put : refuses 16 ≡ placing 16 (length (drop from out)) f → Puts (gives used, out) f (refuses 16, out′)
+  pub full-put : refuses cause.OutputFull ≡ placing cause.OutputFull (length (drop from out)) f → Puts (gives used, out) f (refuses cause.OutputFull, out′)
   unfolding behind
   full-put p =
-      let l : length out - used < length f = rw room-same at (full-over 16 (length (drop from out)) f p) in
+      let l : length out - used < length f = rw room-same at (full-over cause.OutputFull (length (drop from out)) f p) in
       record { same = rw (lt-leb (length f) (length out - used) l, o ∙ same-front) refl }
 
 -- the same in the code's terms: ys is what the call left of the part that it was lent, r its answer
@@ -175,22 +176,22 @@ full-stays out t e = rw e (puts-full out t)
 abbrev lent : List ℕ → ℕ → List ℕ
 lent out from = take (length out - from) (drop from out)
 
-module _ (r : Stored) (out t ys : List ℕ) (used from : ℕ) (e : from ≡ min used (length out)) (w : ys ≡ laid (lent out from) t) (a : storedAnswer 16 r ≡ placing 16 (length (lent out from)) t) where
+module _ (r : Stored) (out t ys : List ℕ) (used from : ℕ) (e : from ≡ min used (length out)) (w : ys ≡ laid (lent out from) t) (a : storedAnswer cause.OutputFull r ≡ placing cause.OutputFull (length (lent out from)) t) where
   back : putMid from (length out - from) out ys ≡ take from out ++ laid (drop from out) t
   back = rest-back out from ys ∙ ap (λ (z : List ℕ). take from out ++ z) (w ∙ ap (λ (z : List ℕ). laid z t) (rest-part out from))
 
-  answer : storedAnswer 16 r ≡ placing 16 (length (drop from out)) t
-  answer = a ∙ ap (λ (z : List ℕ). placing 16 (length z) t) (rest-part out from)
+  answer : storedAnswer cause.OutputFull r ≡ placing cause.OutputFull (length (drop from out)) t
+  answer = a ∙ ap (λ (z : List ℕ). placing cause.OutputFull (length z) t) (rest-part out from)
 
   pub lent-put : {k : Stored} (n : ℕ) → k ≡ Put used → r ≡ Put n → Puts (filled k out) t (filled (Put (used + n)) (putMid from (length out - from) out ys))
-  lent-put n q p = rw q (put-behind used from out (putMid from (length out - from) out ys) t e back n (sym (ap (storedAnswer 16) p) ∙ answer))
+  lent-put n q p = rw q (put-behind used from out (putMid from (length out - from) out ys) t e back n (sym (ap (storedAnswer cause.OutputFull) p) ∙ answer))
 
   pub lent-full : {k : Stored} → k ≡ Put used → r ≡ Full → Puts (filled k out) t (filled Full (putMid from (length out - from) out ys))
-  lent-full q p = rw q (full-put used from out (putMid from (length out - from) out ys) t e back (sym (ap (storedAnswer 16) p) ∙ answer))
+  lent-full q p = rw q (full-put used from out (putMid from (length out - from) out ys) t e back (sym (ap (storedAnswer cause.OutputFull) p) ∙ answer))
 
   pub lent-most : (n : ℕ) → r ≡ Put n → n ≤ length out - used
   lent-most n p =
-      let q = put-fits 16 (length (drop from out)) t n (sym (ap (storedAnswer 16) p) ∙ answer) in
+      let q = put-fits cause.OutputFull (length (drop from out)) t n (sym (ap (storedAnswer cause.OutputFull) p) ∙ answer) in
       let s : length (drop from out) ≡ length out - used = room-same used from out (putMid from (length out - from) out ys) t e back in
       omega (arith, q .0, q .1)
 

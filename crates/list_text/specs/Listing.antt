@@ -8,11 +8,13 @@ use Rattle.area.specs.Answer.{Answer, gives, refuses}
 use Rattle.area.specs.Area.{zeros, placing, laid}
 use Rattle.names.specs.Bytes.{bytes}
 use Rattle.digits.specs.Digits.{decimal}
-use Rattle.time.specs.Written.{writtenTime}
+use Rattle.time_text.specs.Written.{writtenTime}
 use Rattle.escape.specs.Escape.{escaped}
 use Rattle.tree_report.specs.Report.{Text, Duration, Counts, NonSuccessKind, failure, error, FlakyOrRerun, flaky, rerun, TestRerun, TestCaseStatus, success, nonSuccess, skipped, TestCase, TestSuite, Report}
 use Rattle.tree_report.specs.ReportOf.{reportOf}
 use Rattle.tree_report.specs.Layout.{layout}
+use Rattle.refusal.specs.Refusal.{Outcome, accepted, refused, late}
+use Rattle.refusal.specs.declared.Cause.the-variants as cause
 
 -- ---- what is shown
 pub data Status : Type 0 where
@@ -181,7 +183,15 @@ listingOf words text = renderedOr (reportOf words text)
 
 -- "15: not a layout", then "16: output area too short" of n bytes; the final newline counts
 unfoldable pub listingAnswer : List ℕ → List ℕ → ℕ → Answer ℕ
-listingAnswer words text n = cond (layout words text) (placing 16 n (listingOf words text)) (refuses 15)
+listingAnswer words text n = cond (layout words text) (placing cause.OutputFull n (listingOf words text)) (refuses cause.NotLayout)
+
+-- the same with all that a refusal carries: "all from 15 on an empty one", no event and no attribute
+abbrev pub outcomeOf : Answer ℕ → Outcome ℕ
+outcomeOf (gives k) = accepted k
+outcomeOf (refuses c) = refused (late c)
+
+abbrev pub listed : List ℕ → List ℕ → ℕ → Outcome ℕ
+listed words text n = outcomeOf (listingAnswer words text n)
 
 -- the output area afterwards: the listing with zeros behind it; "Result areas [..] become zero" at a refusal
 abbrev pub outputFor : Answer ℕ → ℕ → List ℕ → List ℕ

@@ -1,15 +1,13 @@
 // Lines of the public listing: texts put one behind the other into the output area. A mark says how many bytes of it are
 // in use; it is Full once a text didn't fit, and then nothing more is put.
-pub mod values;
-
 use area::Stored;
 use area::least;
 ghost use mathlib.Core.Path.{_≡_};
 ghost use mathlib.Core.Bool.{not};
 ghost use Rattle.digits.specs.Digits.{decimal};
-ghost use Rattle.time.specs.Written.{writtenTime};
+ghost use Rattle.time_text.specs.Written.{writtenTime};
 ghost use Rattle.escape.specs.Escape.{escaped};
-ghost use Rattle.list_text.specs.Behind.{filled, isFull, Puts};
+ghost use Rattle.list_text.specs.inside.Behind.{filled, isFull, Puts};
 
 // Whether there may be room for more.
 pub fn is_open(k: Stored) -> bool
@@ -70,7 +68,7 @@ pub fn put_time(out: &mut [u8], k: Stored, secs: u32, nanos: u32) -> Stored
         return Stored::Full;
     };
     let from = least(used, out.len());
-    let put = time::write::write_time(&mut out[from..], secs, nanos);
+    let put = time_text::write_time(&mut out[from..], secs, nanos);
     let Stored::Put(n) = put else {
         return Stored::Full;
     };

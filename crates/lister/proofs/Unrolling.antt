@@ -3,48 +3,20 @@ use Prim.Native.Nat.{ℕ}
 use mathlib.Core.Path.{_≡_, refl, ap}
 use mathlib.Core.List.{List, [], _∷_, _++_}
 use mathlib.Core.Bool.{true, false}
-use Rattle.tree_report.specs.Fields.{live, isSuite, isCase, first, counts}
+use Rattle.tree_report.specs.Fields.{live, first, counts}
 use Rattle.tree_report.specs.Layout.{usedText, recordsOf}
 use Rattle.tree_report.specs.ReportOf.{reportOf}
 use Rattle.list_text.specs.Listing.{PublicSuite, suiteTexts, header, ending, renderPublic, render, listingOf}
-use Rattle.list_case.specs.Shown.{caseShown}
-use Rattle.lister.specs.Shown.{casesShown, suiteShown, suitesShown, wholeShown, reportShown}
+use Rattle.list_suites.specs.inside.Shown.{suitesShown}
+use Rattle.lister.specs.inside.Shown.{wholeShown, reportShown}
 use Rattle.lister.proofs.Dead.{suites-live}
 
 module _ (text : List ℕ) where
-  pub cases-over : casesShown text [] ≡ []
-  unfolding casesShown
-  cases-over = refl
-
-  pub suites-over : suitesShown text [] ≡ []
-  unfolding suitesShown
-  suites-over = refl
-
   pub report-over : reportShown text [] ≡ []
   unfolding reportShown
   report-over = refl
 
   module _ (r : List ℕ) (rs : List (List ℕ)) where
-    pub cases-end : isSuite r ≡ true → casesShown text (r ∷ rs) ≡ []
-    unfolding casesShown
-    cases-end e = rw e refl
-
-    pub cases-case : isSuite r ≡ false → isCase r ≡ true → casesShown text (r ∷ rs) ≡ caseShown text r rs ++ casesShown text rs
-    unfolding casesShown caseShown
-    cases-case e h = rw (e, h) refl
-
-    pub cases-other : isSuite r ≡ false → isCase r ≡ false → casesShown text (r ∷ rs) ≡ casesShown text rs
-    unfolding casesShown
-    cases-other e h = rw (e, h) refl
-
-    pub suites-suite : isSuite r ≡ true → suitesShown text (r ∷ rs) ≡ suiteShown text r rs ++ suitesShown text rs
-    unfolding suitesShown suiteShown
-    suites-suite e = rw e refl
-
-    pub suites-other : isSuite r ≡ false → suitesShown text (r ∷ rs) ≡ suitesShown text rs
-    unfolding suitesShown
-    suites-other e = rw e refl
-
     pub report-dead : live r ≡ false → reportShown text (r ∷ rs) ≡ reportShown text rs
     unfolding reportShown
     report-dead e = rw e refl

@@ -6,11 +6,12 @@ use native.Mathlib.Nat.{min-le-left}
 use native.Mathlib.Omega.{arith}
 use lib.ListN.{length, take, drop, length-take}
 use lib.Seq.{getD-take, take-take, take-nil}
+use Rattle.area.specs.Limits.{mostWords, mostBytes}
 use Rattle.tree_report.specs.Layout.{usedWords, usedText, recordsFrom, recordsOf}
 use Rattle.list_text.specs.Listing.{listingOf}
-use Rattle.list_text.proofs.Cutting.{take-least}
-use Rattle.list_case.specs.Shown.{recordsIn}
-use Rattle.lister.specs.Shown.{reportShown}
+use Rattle.list_values.proofs.Cutting.{take-least}
+use Rattle.list_sums.specs.inside.Rows.{recordsIn}
+use Rattle.lister.specs.inside.Shown.{reportShown}
 use Rattle.lister.proofs.Unrolling.{listing-shown}
 
 drop-take : (a e : ℕ) (l : List ℕ) → drop a (take e l) ≡ take (e - a) (drop a l)
@@ -33,13 +34,13 @@ front-used m w =
 
 pub records-used : (words : List ℕ) → recordsIn (usedWords words) ≡ recordsOf words
 unfolding recordsIn recordsOf
-records-used words = front-used 2097152 words
+records-used words = front-used mostWords words
 
 -- the parts of both areas that are used
-pub used-shown : (words text : List ℕ) (limit bytes : ℕ) → limit ≡ min (length words) 2097152 → bytes ≡ min (length text) 16777216 → reportShown (take bytes text) (recordsIn (take limit words)) ≡ listingOf words text
+pub used-shown : (words text : List ℕ) (limit bytes : ℕ) → limit ≡ min (length words) mostWords → bytes ≡ min (length text) mostBytes → reportShown (take bytes text) (recordsIn (take limit words)) ≡ listingOf words text
 used-shown words text limit bytes p q =
-    let w : take limit words ≡ usedWords words = ap (λ (n : ℕ). take n words) p ∙ take-least words 2097152 in
-    let t : take bytes text ≡ usedText text = ap (λ (n : ℕ). take n text) q ∙ take-least text 16777216 in
+    let w : take limit words ≡ usedWords words = ap (λ (n : ℕ). take n words) p ∙ take-least words mostWords in
+    let t : take bytes text ≡ usedText text = ap (λ (n : ℕ). take n text) q ∙ take-least text mostBytes in
     ap (λ (l : List ℕ). reportShown l (recordsIn (take limit words))) t
     ∙ ap (λ (l : List ℕ). reportShown (usedText text) (recordsIn l)) w
     ∙ ap (reportShown (usedText text)) (records-used words)

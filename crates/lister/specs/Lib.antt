@@ -1,1 +1,2 @@
-pub mod Shown
+pub mod Answer
+pub mod inside

@@ -1,3 +1,4 @@
 mod Comparing
 mod Searching
 pub mod NameLaws
+pub mod Examples

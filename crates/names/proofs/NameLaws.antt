@@ -2,10 +2,10 @@
 use Prim.Native.Nat.{ℕ, zero, suc, _+_, _-_, _≤_, _<_}
 use mathlib.Core.Path.{_≡_, refl, sym}
 use mathlib.Core.List.{List, [], _∷_, map}
-use mathlib.Core.Bool.{Bool, true, false, cond}
+use mathlib.Core.Bool.{Bool, true, false, cond, not, _&&_, and-eq-true-iff}
 use native.Mathlib.Omega.{arith}
-use borrow.Author.Tests.{eq-eqb, eqb-true}
-use lib.Dec.{eqb}
+use borrow.Author.Tests.{eq-eqb, eqb-true, eqb-false}
+use lib.Dec.{leb, eqb}
 use lib.ListN.{length, getD}
 use Rattle.names.specs.Names.{sameBytes, codeFrom, codeIn}
 use Rattle.names.specs.Tags as tag
@@ -123,6 +123,40 @@ pub tag-codes : map tagOf tags ≡ tag.testsuites ∷ tag.testsuite ∷ tag.test
 unfolding tags codeFrom sameBytes
 tag-codes = refl
 
-pub key-codes : map keyOf keys ≡ key.name ∷ key.classname ∷ key.uuid ∷ key.timestamp ∷ key.time ∷ key.tests ∷ key.failures ∷ key.errors ∷ key.skipped ∷ key.disabled ∷ key.assertions ∷ key.message ∷ key.type ∷ key.value ∷ []
+pub key-codes : map keyOf keys ≡ map (λ (r : key.Row). r .code) key.table
 unfolding keys codeFrom sameBytes
 key-codes = refl
+
+-- ---- the public codes are those from 1 to 11
+module _ (f g : ℕ → Bool) where
+  -- they agree on the n numbers from k on
+  agreeing : ℕ → ℕ → Bool
+  agreeing k zero = true
+  agreeing k (suc n) = cond (f k) (g k) (not (g k)) && agreeing (suc k) n
+
+  le-of-ne : (k c : ℕ) → k ≤ c → (k ≡ c → ⊥) → suc k ≤ c
+  le-of-ne k c p n = omega arith
+
+  agreeing-at : (k n : ℕ) → agreeing k n ≡ true → (c : ℕ) → k ≤ c → c < k + n → f c ≡ g c
+  unfolding agreeing
+  agreeing-at k zero e c p q = absurd (omega arith)
+  agreeing-at k (suc n) e c p q =
+      let b = and-eq-true-iff (cond (f k) (g k) (not (g k))) (agreeing (suc k) n) .0 e in
+      go (eqb k c) refl (b .0) (agreeing-at (suc k) n (b .1) c)
+    where
+      one : (x y : Bool) → cond x y (not y) ≡ true → x ≡ y
+      one true y h = sym h
+      one false true h = h
+      one false false h = refl
+
+      go : (t : Bool) → eqb k c ≡ t → cond (f k) (g k) (not (g k)) ≡ true → (suc k ≤ c → c < suc k + n → f c ≡ g c) → f c ≡ g c
+      go true h b r = rw (sym (eqb-true k c h)) (one (f k) (g k) b)
+      go false h b r = let z = eqb-false k c h in r (le-of-ne k c p z) (omega arith)
+
+pub public-codes : (c : ℕ) → c ≤ 14 → key.isPublic c ≡ (leb 1 c && leb c 11)
+unfolding agreeing
+public-codes c h = agreeing-at key.isPublic (λ (c : ℕ). leb 1 c && leb c 11) 0 15 refl c (omega arith) (omega arith)
+
+-- document 01's list: a key is public where its code is one of these
+pub public-key : (s : List ℕ) → key.isPublic (keyOf s) ≡ (leb 1 (keyOf s) && leb (keyOf s) 11)
+public-key s = public-codes (keyOf s) (rw key-count at (code-most keys s))

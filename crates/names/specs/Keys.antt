@@ -1,32 +1,12 @@
--- The attribute keys that reading knows, and their codes. Definitions only.
+-- The attribute keys that reading knows: one table of name, code, and public or not. src/lib.rt has the names in the same order,
+-- src/key.rt the codes. Definitions only.
 use Prim.Native.Nat.{ℕ}
-use mathlib.Core.List.{List, [], _∷_}
+use Prim.Native.String.{String}
+use mathlib.Core.List.{List, [], _∷_, map}
+use mathlib.Core.Bool.{Bool, true, false, cond}
+use lib.Dec.{eqb}
 use Rattle.names.specs.Bytes.{bytes}
 use Rattle.names.specs.Names.{codeIn}
-
--- "Public keys: name, classname, uuid, timestamp, time, tests, failures, errors, skipped, disabled, assertions",
--- then the other keys of deserialize.rs
-unfoldable pub keys : List (List ℕ)
-keys =
-    bytes "name"
-    ∷ bytes "classname"
-    ∷ bytes "uuid"
-    ∷ bytes "timestamp"
-    ∷ bytes "time"
-    ∷ bytes "tests"
-    ∷ bytes "failures"
-    ∷ bytes "errors"
-    ∷ bytes "skipped"
-    ∷ bytes "disabled"
-    ∷ bytes "assertions"
-    ∷ bytes "message"
-    ∷ bytes "type"
-    ∷ bytes "value"
-    ∷ []
-
--- the code of a key, 0 for one that reading doesn't know
-abbrev pub keyOf : List ℕ → ℕ
-keyOf s = codeIn keys s
 
 -- the codes, by name
 abbrev pub name : ℕ
@@ -70,3 +50,47 @@ type = 13
 
 abbrev pub value : ℕ
 value = 14
+
+pub record Row : Type 0 where
+  pub text : List ℕ
+  pub code : ℕ
+  pub public : Bool
+
+abbrev pub row : String → ℕ → Bool → Row
+row text code public = record { text = bytes text; code = code; public = public }
+
+-- "Public keys: name, classname, uuid, timestamp, time, tests, failures, errors, skipped, disabled, assertions",
+-- then the other keys of deserialize.rs. A code is the place in the table, from 1
+abbrev pub table : List Row
+table =
+    row "name" name true
+    ∷ row "classname" classname true
+    ∷ row "uuid" uuid true
+    ∷ row "timestamp" timestamp true
+    ∷ row "time" time true
+    ∷ row "tests" tests true
+    ∷ row "failures" failures true
+    ∷ row "errors" errors true
+    ∷ row "skipped" skipped true
+    ∷ row "disabled" disabled true
+    ∷ row "assertions" assertions true
+    ∷ row "message" message false
+    ∷ row "type" type false
+    ∷ row "value" value false
+    ∷ []
+
+unfoldable pub keys : List (List ℕ)
+keys = map (λ (r : Row). r .text) table
+
+-- the code of a key, 0 for one that reading doesn't know
+abbrev pub keyOf : List ℕ → ℕ
+keyOf s = codeIn keys s
+
+-- whether the rows say so of a code
+abbrev pub publicIn : List Row → ℕ → Bool
+publicIn [] c = false
+publicIn (r ∷ rs) c = cond (eqb (r .code) c) (r .public) (publicIn rs c)
+
+-- whether a code is that of a public key
+abbrev pub isPublic : ℕ → Bool
+isPublic c = publicIn table c

@@ -1,8 +1,12 @@
 -- Both calls, by what reading answered. Assumes nothing.
 use Prim.Native.Nat.{ℕ}
-use mathlib.Core.Path.{_≡_, ap}
+use mathlib.Core.Path.{_≡_, refl, ap}
 use mathlib.Core.List.{List}
-use Rattle.refusal.specs.Refusal.{Refused, Outcome, accepted, refused}
+use native.Mathlib.Omega.{arith}
+use Rattle.refusal.specs.Refusal.{Refused, Outcome, accepted, refused, verdictOf}
+use Rattle.refusal.specs.declared.Verdict.the-variants.{Accepted, Refused as IsRefused}
+use Rattle.reader.specs.declared.Reading.{Reading}
+use Rattle.reader.specs.Answer.{answerOf}
 use Rattle.read_machine.specs.Reading.{reading}
 use Rattle.list_text.specs.Listing.{listingAnswer, outputOf}
 use Rattle.public_claims.specs.PublicListing.{refusedText, behindReading, written, publicListing}
@@ -17,3 +21,22 @@ module _ (events attributes source : List ℕ) (words text scratch out : ℕ) wh
   pub listing-refused : (r : Refused) → refused r ≡ reading events attributes source words text scratch .outcome → refusedText ≡ publicListing events attributes source words text scratch out
   unfolding publicListing
   listing-refused r e = ap (λ (o : Outcome (Unit {0})). behindReading o (written (listingAnswer (reading events attributes source words text scratch .words) (reading events attributes source words text scratch .text) out) (outputOf (reading events attributes source words text scratch .words) (reading events attributes source words text scratch .text) out))) e
+
+-- by the verdict of reading
+module _ (x : Reading) (o : Outcome (Unit {0})) (e : x ≡ answerOf o) where
+  verdict : x .verdict ≡ verdictOf o
+  verdict = ap (λ (y : Reading). y .verdict) e
+
+  pub read-accepted : x .verdict ≡ Accepted → accepted tt ≡ o
+  read-accepted v = go o verdict
+    where
+      go : (q : Outcome (Unit {0})) → x .verdict ≡ verdictOf q → accepted tt ≡ q
+      go (accepted u) h = refl
+      go (refused r) h = let z : _≡_ {A = ℕ} 0 1 = cc in absurd (omega arith)
+
+  pub read-refused : x .verdict ≡ IsRefused → (r : Refused) × (refused r ≡ o)
+  read-refused v = go o verdict
+    where
+      go : (q : Outcome (Unit {0})) → x .verdict ≡ verdictOf q → (r : Refused) × (refused r ≡ q)
+      go (refused r) h = (r, refl)
+      go (accepted u) h = let z : _≡_ {A = ℕ} 0 1 = cc in absurd (omega arith)

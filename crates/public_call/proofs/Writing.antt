@@ -11,8 +11,13 @@ use Rattle.area.specs.Answer.{Answer, gives, refuses}
 use Rattle.area.specs.Area.{zeros, placing, laid}
 use Rattle.area.proofs.Laying.{length-laid, laid-zeros, put-fits, full-over}
 use Rattle.tree_report.specs.Layout.{layout}
-use Rattle.list_text.specs.Listing.{listingOf, listingAnswer, outputFor, outputOf}
+use Rattle.refusal.specs.declared.Cause.{Cause}
+use Rattle.refusal.specs.declared.Verdict.the-variants.{Accepted, Refused}
+use Rattle.list_text.specs.Listing.{listingOf, listingAnswer, outcomeOf, listed, outputFor, outputOf}
+use Rattle.lister.specs.declared.Listing.{Listing}
+use Rattle.lister.specs.Answer.{listingFrom}
 use Rattle.public_claims.specs.PublicListing.{refusedText, written}
+use Rattle.refusal.specs.declared.Cause.the-variants as cause
 
 -- a text put into an area that was cleared: it fits, or it doesn't
 module _ (out₀ x out f : List ℕ) (cleared : x ≡ zeros (length out₀)) (put : out ≡ laid x f) where
@@ -22,15 +27,15 @@ module _ (out₀ x out f : List ℕ) (cleared : x ≡ zeros (length out₀)) (pu
   same : length x ≡ length out₀
   same = ap length cleared ∙ length-replicate (length out₀) 0
 
-  pub put-whole : (n : ℕ) → gives n ≡ placing 16 (length x) f → (out ≡ laid (zeros (length out₀)) f) × (n ≡ min (length out₀) (length f))
+  pub put-whole : (n : ℕ) → gives n ≡ placing cause.OutputFull (length x) f → (out ≡ laid (zeros (length out₀)) f) × (n ≡ min (length out₀) (length f))
   put-whole n e =
-      let p = put-fits 16 (length x) f n e in
+      let p = put-fits cause.OutputFull (length x) f n e in
       let h : length f ≤ length out₀ = (let q = p .0 in omega (arith, same)) in
       (area, p .1 ∙ sym (min-eq-right h))
 
-  pub put-part : refuses 16 ≡ placing 16 (length x) f → (out ≡ laid (zeros (length out₀)) f) × (length out ≡ min (length out₀) (length f))
+  pub put-part : refuses cause.OutputFull ≡ placing cause.OutputFull (length x) f → (out ≡ laid (zeros (length out₀)) f) × (length out ≡ min (length out₀) (length f))
   put-part e =
-      let q = full-over 16 (length x) f e in
+      let q = full-over cause.OutputFull (length x) f e in
       let h : length out₀ ≤ length f = omega (arith, same) in
       (area, ap length put ∙ length-laid x f ∙ same ∙ sym (min-eq-left h))
 
@@ -38,8 +43,8 @@ module _ (out₀ x out f : List ℕ) (cleared : x ≡ zeros (length out₀)) (pu
 front : (k : ℕ) (f : List ℕ) → length f ≤ k → take (length f) (laid (zeros k) f) ≡ f
 front k f h = ap (take (length f)) (laid-zeros k f h) ∙ take-at f (zeros (k - length f)) (length f) refl
 
-fitting : (b : Bool) (k n : ℕ) (f : List ℕ) → gives n ≡ cond b (placing 16 k f) (refuses 15) → (length f ≤ k) × (n ≡ length f)
-fitting true k n f e = put-fits 16 k f n e
+fitting : (b : Bool) (k n : ℕ) (f : List ℕ) → gives n ≡ cond b (placing cause.OutputFull k f) (refuses cause.NotLayout) → (length f ≤ k) × (n ≡ length f)
+fitting true k n f e = put-fits cause.OutputFull k f n e
 fitting false k n f e = let z : _≡_ {A = ℕ} 0 1 = cc in absurd (omega arith)
 
 given : (a : Answer ℕ) (k n : ℕ) (f out : List ℕ) → gives n ≡ a → length f ≤ k → n ≡ length f → out ≡ outputFor a k f →
@@ -51,15 +56,39 @@ given (gives m) k n f out e h q o =
 given (refuses m) k n f out e h q o = let z : _≡_ {A = ℕ} 0 1 = cc in absurd (omega arith)
 
 module _ (words text : List ℕ) (k : ℕ) where
-  pub listed : (n : ℕ) (out : List ℕ) → gives n ≡ listingAnswer words text k → out ≡ outputOf words text k →
+  put : (n : ℕ) (out : List ℕ) → gives n ≡ listingAnswer words text k → out ≡ outputOf words text k →
       (out ≡ laid (zeros k) (written (listingAnswer words text k) (outputOf words text k))) × (n ≡ min k (length (written (listingAnswer words text k) (outputOf words text k))))
   unfolding listingAnswer outputOf
-  listed n out e o =
+  put n out e o =
       let p = fitting (layout words text) k n (listingOf words text) e in
       given (listingAnswer words text k) k n (listingOf words text) out e (p .0) (p .1) o
 
-  pub unlisted : (m : ℕ) → refuses m ≡ listingAnswer words text k → written (listingAnswer words text k) (outputOf words text k) ≡ refusedText
+  unlisted : (m : Cause) → refuses m ≡ listingAnswer words text k → written (listingAnswer words text k) (outputOf words text k) ≡ refusedText
   unlisted m e = ap (λ (a : Answer ℕ). written a (outputOf words text k)) (sym e)
+
+  -- by what listing answered
+  abbrev Answers : Listing → Type 0
+  Answers x = x ≡ listingFrom (listed words text k)
+
+  wrote : (x : Listing) → Answers x → x .verdict ≡ Accepted → gives (x .length) ≡ listingAnswer words text k
+  wrote x e v = go (listingAnswer words text k) e
+    where
+      go : (a : Answer ℕ) → x ≡ listingFrom (outcomeOf a) → gives (x .length) ≡ a
+      go (gives m) q = ap (λ (y : Listing). gives (y .length)) q
+      go (refuses m) q = let w : x .verdict ≡ Refused = ap (λ (y : Listing). y .verdict) q in let z : _≡_ {A = ℕ} 0 1 = cc in absurd (omega arith)
+
+  pub listing-wrote : (x : Listing) (out : List ℕ) → Answers x → x .verdict ≡ Accepted → out ≡ outputOf words text k →
+      (out ≡ laid (zeros k) (written (listingAnswer words text k) (outputOf words text k))) × (x .length ≡ min k (length (written (listingAnswer words text k) (outputOf words text k))))
+  listing-wrote x out e v o = put (x .length) out (wrote x e v) o
+
+  pub listing-refuses : (x : Listing) → Answers x → x .verdict ≡ Refused → written (listingAnswer words text k) (outputOf words text k) ≡ refusedText
+  listing-refuses x e v = go (listingAnswer words text k) refl
+    where
+      go : (a : Answer ℕ) → listingAnswer words text k ≡ a → written (listingAnswer words text k) (outputOf words text k) ≡ refusedText
+      go (refuses m) q = unlisted m (sym q)
+      go (gives m) q =
+          let w : x .verdict ≡ Accepted = ap (λ (y : Listing). y .verdict) e ∙ ap (λ (b : Answer ℕ). listingFrom (outcomeOf b) .verdict) q in
+          let z : _≡_ {A = ℕ} 0 1 = cc in absurd (omega arith)
 
 -- a refusal, put into an area that another call left
 pub left-refused : (k : ℕ) (x out f : List ℕ) (n : ℕ) → length x ≡ k → f ≡ refusedText → out ≡ laid (zeros (length x)) refusedText → n ≡ min (length x) (length refusedText) →

@@ -2,17 +2,15 @@
 use area::Stored;
 use area::clear;
 use area::copy_into;
-use reader::Verdict;
-use reader::read;
-use lister::Listed;
 use lister::list;
+use reader::read;
+use refusal::Verdict;
 ghost use mathlib.Core.Path.{_≡_};
 ghost use Prim.Native.Nat.{min};
 ghost use lib.ListN.{length};
 ghost use Rattle.area.specs.Area.{zeros, laid};
-ghost use Rattle.list_text.specs.Listing.{listingAnswer, outputOf};
-ghost use Rattle.read_machine.specs.Reading.{reading};
-ghost use Rattle.public_claims.specs.PublicListing.{refusedText, written, publicListing};
+ghost use Rattle.public_claims.specs.PublicListing.{refusedText};
+ghost use Rattle.public_call.specs.Called.{listedInto, readInto, listingInto};
 
 // "Any refusal prints `(refused)`"; of a shorter area the part that fits.
 pub fn refuse(out: &mut [u8]) -> usize
@@ -29,14 +27,14 @@ pub fn refuse(out: &mut [u8]) -> usize
 
 // What listing writes, or `(refused)`.
 fn put_listing(records: &[u32], text: &[u8], out: &mut [u8]) -> usize
-    ensures area { λ _. ⌜ now (out .exit) ≡ laid (zeros (length (now (out .entry)))) (written (listingAnswer (now (records .entry)) (now (text .entry)) (length (now (out .entry)))) (outputOf (now (records .entry)) (now (text .entry)) (length (now (out .entry))))) ⌝ }
-    ensures count { λ r. ⌜ r ≡ min (length (now (out .entry))) (length (written (listingAnswer (now (records .entry)) (now (text .entry)) (length (now (out .entry)))) (outputOf (now (records .entry)) (now (text .entry)) (length (now (out .entry)))))) ⌝ }
+    ensures area { λ _. ⌜ now (out .exit) ≡ laid (zeros (length (now (out .entry)))) (listedInto (now (records .entry)) (now (text .entry)) (now (out .entry))) ⌝ }
+    ensures count { λ r. ⌜ r ≡ min (length (now (out .entry))) (length (listedInto (now (records .entry)) (now (text .entry)) (now (out .entry)))) ⌝ }
 {
-    let listed = list(records, text, out);
-    match listed {
-        Listed::Wrote(n) => n,
-        Listed::NotLayout => refuse(out),
-        Listed::TooShort => refuse(out),
+    let listing = list(records, text, out);
+    let verdict = listing.verdict;
+    match verdict {
+        Verdict::Accepted => listing.length,
+        Verdict::Refused => refuse(out),
     }
 }
 
@@ -50,11 +48,11 @@ pub fn public_listing(
     scratch: &mut [u8],
     out: &mut [u8],
 ) -> usize
-    ensures out { λ _. ⌜ now (out .exit) ≡ laid (zeros (length (now (out .entry)))) (publicListing (now (events .entry)) (now (attributes .entry)) (now (source .entry)) (length (now (records .entry))) (length (now (text .entry))) (length (now (scratch .entry))) (length (now (out .entry)))) ⌝ }
-    ensures count { λ r. ⌜ r ≡ min (length (now (out .entry))) (length (publicListing (now (events .entry)) (now (attributes .entry)) (now (source .entry)) (length (now (records .entry))) (length (now (text .entry))) (length (now (scratch .entry))) (length (now (out .entry))))) ⌝ }
-    ensures records { λ _. ⌜ now (records .exit) ≡ reading (now (events .entry)) (now (attributes .entry)) (now (source .entry)) (length (now (records .entry))) (length (now (text .entry))) (length (now (scratch .entry))) .words ⌝ }
-    ensures text { λ _. ⌜ now (text .exit) ≡ reading (now (events .entry)) (now (attributes .entry)) (now (source .entry)) (length (now (records .entry))) (length (now (text .entry))) (length (now (scratch .entry))) .text ⌝ }
-    ensures scratch { λ _. ⌜ now (scratch .exit) ≡ reading (now (events .entry)) (now (attributes .entry)) (now (source .entry)) (length (now (records .entry))) (length (now (text .entry))) (length (now (scratch .entry))) .scratch ⌝ }
+    ensures out { λ _. ⌜ now (out .exit) ≡ laid (zeros (length (now (out .entry)))) (listingInto (now (events .entry)) (now (attributes .entry)) (now (source .entry)) (now (records .entry)) (now (text .entry)) (now (scratch .entry)) (now (out .entry))) ⌝ }
+    ensures count { λ r. ⌜ r ≡ min (length (now (out .entry))) (length (listingInto (now (events .entry)) (now (attributes .entry)) (now (source .entry)) (now (records .entry)) (now (text .entry)) (now (scratch .entry)) (now (out .entry)))) ⌝ }
+    ensures records { λ _. ⌜ now (records .exit) ≡ readInto (now (events .entry)) (now (attributes .entry)) (now (source .entry)) (now (records .entry)) (now (text .entry)) (now (scratch .entry)) .words ⌝ }
+    ensures text { λ _. ⌜ now (text .exit) ≡ readInto (now (events .entry)) (now (attributes .entry)) (now (source .entry)) (now (records .entry)) (now (text .entry)) (now (scratch .entry)) .text ⌝ }
+    ensures scratch { λ _. ⌜ now (scratch .exit) ≡ readInto (now (events .entry)) (now (attributes .entry)) (now (source .entry)) (now (records .entry)) (now (text .entry)) (now (scratch .entry)) .scratch ⌝ }
 {
     let read = read(events, attributes, source, records, text, scratch);
     let verdict = read.verdict;
@@ -75,11 +73,11 @@ pub extern "C" fn kerzhoma_public_listing(
     scratch: &mut [u8],
     out: &mut [u8],
 ) -> usize
-    ensures out { λ _. ⌜ now (out .exit) ≡ laid (zeros (length (now (out .entry)))) (publicListing (now (events .entry)) (now (attributes .entry)) (now (source .entry)) (length (now (records .entry))) (length (now (text .entry))) (length (now (scratch .entry))) (length (now (out .entry)))) ⌝ }
-    ensures count { λ r. ⌜ r ≡ min (length (now (out .entry))) (length (publicListing (now (events .entry)) (now (attributes .entry)) (now (source .entry)) (length (now (records .entry))) (length (now (text .entry))) (length (now (scratch .entry))) (length (now (out .entry))))) ⌝ }
-    ensures records { λ _. ⌜ now (records .exit) ≡ reading (now (events .entry)) (now (attributes .entry)) (now (source .entry)) (length (now (records .entry))) (length (now (text .entry))) (length (now (scratch .entry))) .words ⌝ }
-    ensures text { λ _. ⌜ now (text .exit) ≡ reading (now (events .entry)) (now (attributes .entry)) (now (source .entry)) (length (now (records .entry))) (length (now (text .entry))) (length (now (scratch .entry))) .text ⌝ }
-    ensures scratch { λ _. ⌜ now (scratch .exit) ≡ reading (now (events .entry)) (now (attributes .entry)) (now (source .entry)) (length (now (records .entry))) (length (now (text .entry))) (length (now (scratch .entry))) .scratch ⌝ }
+    ensures out { λ _. ⌜ now (out .exit) ≡ laid (zeros (length (now (out .entry)))) (listingInto (now (events .entry)) (now (attributes .entry)) (now (source .entry)) (now (records .entry)) (now (text .entry)) (now (scratch .entry)) (now (out .entry))) ⌝ }
+    ensures count { λ r. ⌜ r ≡ min (length (now (out .entry))) (length (listingInto (now (events .entry)) (now (attributes .entry)) (now (source .entry)) (now (records .entry)) (now (text .entry)) (now (scratch .entry)) (now (out .entry)))) ⌝ }
+    ensures records { λ _. ⌜ now (records .exit) ≡ readInto (now (events .entry)) (now (attributes .entry)) (now (source .entry)) (now (records .entry)) (now (text .entry)) (now (scratch .entry)) .words ⌝ }
+    ensures text { λ _. ⌜ now (text .exit) ≡ readInto (now (events .entry)) (now (attributes .entry)) (now (source .entry)) (now (records .entry)) (now (text .entry)) (now (scratch .entry)) .text ⌝ }
+    ensures scratch { λ _. ⌜ now (scratch .exit) ≡ readInto (now (events .entry)) (now (attributes .entry)) (now (source .entry)) (now (records .entry)) (now (text .entry)) (now (scratch .entry)) .scratch ⌝ }
 {
     public_listing(events, attributes, source, records, text, scratch, out)
 }

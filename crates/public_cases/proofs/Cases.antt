@@ -10,29 +10,30 @@ use Rattle.names.specs.Tags.{tags}
 use Rattle.digits.specs.Digits as digits
 use Rattle.integer.specs.Integer.{unsigned}
 use Rattle.time.specs.Time.{makeTime}
-use Rattle.time.specs.Written.{timeText, thousandthsOf, floatSum}
-use Rattle.timestamp.specs.Calendar.{isLeap, monthLength}
+use Rattle.time_text.specs.Written.{timeText, thousandthsOf, floatSum}
+use Rattle.calendar.specs.Calendar.{isLeap, monthLength}
 use Rattle.timestamp.specs.Timestamp as stamp
 use Rattle.uuid.specs.Uuid.{isUuid, uuidOf}
 use Rattle.reference.specs.Reference as reference
 use Rattle.escape.specs.Escape.{letter, listed}
 use Rattle.table.specs.Table as table
 use Rattle.table.specs.Event as event
-use Rattle.tree_report.specs.Status.{tallied, ruled}
+use Rattle.tree_status.specs.Status.{tallied, ruled}
 use Rattle.tree_report.specs.Layout as layout
 use Rattle.tree_report.specs.ReportOf.{reportOf}
 use Rattle.read_keys.specs.Roles as role
-use Rattle.tree_put.specs.Put.{marked}
+use Rattle.tree_record.specs.Record.{marked}
 use Rattle.read_element.specs.Outcome as outcome
 use Rattle.read_element.specs.Attributes as attributes
 use Rattle.read_state.specs.Control as control
+use Rattle.read_rules.specs.Rules as rules
 use Rattle.read_place.specs.Marks.{marksAfter}
 use Rattle.read_content.specs.Content as content
 use Rattle.read_machine.specs.Machine as machine
 use Rattle.read_machine.specs.Reading as reading
 use Rattle.list_text.specs.Listing as listing
 use Rattle.public_claims.specs.PublicListing as public
-use Rattle.public_cases.specs.Cases.{All, no-case, one-case, worked, cases}
+use Rattle.public_cases.specs.Cases.{All, no-case, one-case, worked, agreeing, cases}
 
 -- the first case is document 01's example, letter by letter
 pub worked-source
@@ -45,7 +46,7 @@ unfolding utf8.need utf8.low utf8.high codeFrom sameBytes keys tags
     digits.digit digits.isNumber digits.places digits.decimal unsigned makeTime
     timeText thousandthsOf floatSum add sum div ofInt round units odd size span climb trailingZeros
     isLeap monthLength stamp.isTimestamp stamp.timestampOf isUuid uuidOf
-    reference.entities reference.isEntity reference.isCharRef reference.refAt letter listed
+    reference.entities reference.entityChars reference.isEntity reference.entityChar reference.isCharRef reference.refAt letter listed
     table.goodAttribute table.goodShape table.badFrom table.checkEvent table.checkFrom table.goodSizes table.checkOf
     event.attributesFrom event.eventOf event.eventAt event.resolveFrom event.resolve tallied ruled
     layout.goodText layout.goodTextAt layout.goodCommon layout.goodOutputs layout.goodCounts layout.goodReport layout.goodSuite layout.goodCase
@@ -54,11 +55,11 @@ unfolding utf8.need utf8.low utf8.high codeFrom sameBytes keys tags
     role.roleIn role.reportRole role.suiteRole role.caseRole role.statusRole role.roleOf marked
     outcome._>>=_ outcome.there outcome.need outcome.fits
     attributes.readText attributes.newExtra attributes.readExtra attributes.byRole attributes.readAttributes attributes.complete attributes.readElement
-    control.outputs control.atTop control.atSuite control.atCase control.inText control.planAt control.planEof control.gathers control.turn marksAfter
-    content.pieceOf content.gather content.adding content.keeping content.outputting content.perform
-    machine.act machine.step machine.run reading.readAs reading.reading reading.deserialize
+    rules.outputs rules.atTop rules.atSuite rules.atCase rules.atStatus rules.inText rules.planAt rules.planEof control.gathers control.turn marksAfter
+    content.pieceOf content.gather content.adding content.keeping content.describing content.outputting content.perform
+    machine.act machine.step machine.run reading.readAs reading.reading
     listing.runText listing.caseText listing.suiteText listing.header listing.renderPublic listing.render listing.listingOf listing.listingAnswer
     listing.outputOf public.publicListing
 proved-cases =
     one-case refl (one-case refl (one-case refl (one-case refl (one-case refl (one-case refl (one-case refl
-    (one-case refl (one-case refl (one-case refl (one-case refl (one-case refl (one-case refl (one-case refl no-case)))))))))))))
+    (one-case refl (one-case refl (one-case refl (one-case refl (one-case refl (one-case refl (one-case refl (one-case {c = agreeing} (refl, refl, refl) no-case))))))))))))))

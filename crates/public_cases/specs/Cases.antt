@@ -4,24 +4,30 @@ use Prim.Native.Nat.{ℕ}
 use Prim.Native.String.{String}
 use mathlib.Core.Path.{_≡_}
 use mathlib.Core.List.{List, [], _∷_, _++_}
-use mathlib.Core.Option.{none, some}
+use mathlib.Core.Option.{Option, none, some}
 use Rattle.names.specs.Bytes.{bytes}
-use Rattle.refusal.specs.Refusal.{accepted, refused}
+use Rattle.refusal.specs.Refusal.{Outcome, accepted, refused, nowhere, number}
+use Rattle.refusal.specs.declared.Cause.{Cause}
+use Rattle.refusal.specs.declared.Cause.the-variants as cause
 use Rattle.refusal.specs.declared.PathElement.{PathElement}
 use Rattle.table.specs.Event.{resolve}
 use Rattle.tree_report.specs.Report.{Counts, TestSuite, Report}
-use Rattle.read_machine.specs.Reading.{reading, deserialize}
+use Rattle.tree_report.specs.ReportOf.{reportOf}
+use Rattle.read_machine.specs.Reading.{Read, reading}
+use Rattle.public_claims.specs.Agree.{agree}
 use Rattle.public_claims.specs.PublicListing.{publicListing}
-use Rattle.public_cases.specs.Document.{Markup, _≔_, start, empty, end, text, eventsOf, attributesOf, sourceOf}
+use Rattle.public_cases.specs.Document.{Markup, _≔_, start, empty, end, text, cdata, ref, comment, indent, eventsOf, attributesOf, sourceOf}
 
 -- ---- a case: a table, and what is expected of it
 pub data Expected : Type 0 where
   -- accepted, with this public listing
   lists : List ℕ → Expected
-  -- accepted, with this report
+  -- accepted, with this report left in the areas
   reads : Report → Expected
-  -- refused: number, path, event, attribute
-  refuses : ℕ → List PathElement → ℕ → ℕ → Expected
+  -- refused: number, cause, path, event, attribute
+  refuses : ℕ → Cause → List PathElement → ℕ → ℕ → Expected
+  -- accepted, and agrees with the table of this document; both have this public listing
+  agrees : List Markup → List ℕ → Expected
 
 pub record Case : Type 0 where
   pub events : List ℕ
@@ -30,11 +36,19 @@ pub record Case : Type 0 where
   pub expected : Expected
 
 -- the areas have 10 records of 32 words, 64 bytes of text, 64 of scratch and 256 of output, which is enough for each case
+abbrev pub readIn : List ℕ → List ℕ → List ℕ → Read
+readIn events attributes source = reading events attributes source 320 64 64
+
 abbrev pub HoldsOf : List ℕ → List ℕ → List ℕ → Expected → Type 0
 HoldsOf events attributes source (lists t) = publicListing events attributes source 320 64 64 256 ≡ t
-HoldsOf events attributes source (reads r) = deserialize (resolve events attributes source) ≡ accepted (some r)
-HoldsOf events attributes source (refuses n p e a) =
-    reading events attributes source 320 64 64 .outcome ≡ refused (record { number = n; path = p; event = e; attribute = a })
+HoldsOf events attributes source (reads r) =
+    _≡_ {A = Outcome (Unit {0}) × Option Report} (readIn events attributes source .outcome, reportOf (readIn events attributes source .words) (readIn events attributes source .text)) (accepted tt, some r)
+HoldsOf events attributes source (refuses n c p e a) =
+    _≡_ {A = Outcome (Unit {0}) × ℕ} (readIn events attributes source .outcome, number c) (refused (record { cause = c; path = p; event = e; attribute = a }), n)
+HoldsOf events attributes source (agrees ms t) =
+    agree (resolve events attributes source) (resolve (eventsOf ms) (attributesOf ms) (sourceOf ms))
+    × (publicListing events attributes source 320 64 64 256 ≡ t)
+    × (publicListing (eventsOf ms) (attributesOf ms) (sourceOf ms) 320 64 64 256 ≡ t)
 
 abbrev pub Holds : Case → Type 0
 Holds c = HoldsOf (c .events) (c .attributes) (c .source) (c .expected)
@@ -51,10 +65,6 @@ document ms e = record { events = eventsOf ms; attributes = attributesOf ms; sou
 abbrev pub lines : List String → List ℕ
 lines [] = []
 lines (s ∷ ss) = bytes s ++ (10 ∷ lines ss)
-
--- "4294967295 stands where none is concerned"
-abbrev pub nowhere : ℕ
-nowhere = 4294967295
 
 -- the elements of paths by docs/REFUSALS.md: kind, index, event
 abbrev pub testsuites : PathElement
@@ -100,13 +110,13 @@ notUtf8 =
     ∷ empty "testsuite" (record { key = bytes "name"; value = 0xFF ∷ [] } ∷ [])
     ∷ end "testsuites"
     ∷ [])
-    (refuses 2 (testsuites ∷ testsuite 0 nowhere ∷ attribute 1 ∷ []) 1 0)
+    (refuses 2 cause.NotUtf8 (testsuites ∷ testsuite 0 nowhere ∷ attribute 1 ∷ []) 1 0)
 
 -- 3, "tests `-0`": testsuites/@tests
 abbrev pub badInteger : Case
 badInteger =
     document (empty "testsuites" ("tests" ≔ "-0" ∷ []) ∷ [])
-    (refuses 3 (testsuites ∷ attribute 6 ∷ []) 0 0)
+    (refuses 3 cause.BadInteger (testsuites ∷ attribute 6 ∷ []) 0 0)
 
 -- 4: testsuites/testsuite[0]/@timestamp
 abbrev pub badTimestamp : Case
@@ -115,7 +125,7 @@ badTimestamp =
     ∷ empty "testsuite" ("name" ≔ "s" ∷ "timestamp" ≔ "2023-02-29T00:00:00Z" ∷ [])
     ∷ end "testsuites"
     ∷ [])
-    (refuses 4 (testsuites ∷ testsuite 0 nowhere ∷ attribute 4 ∷ []) 1 1)
+    (refuses 4 cause.BadTimestamp (testsuites ∷ testsuite 0 nowhere ∷ attribute 4 ∷ []) 1 1)
 
 -- 5: testsuites/testsuite[0]("s")/testcase[1]/@time
 abbrev pub badTime : Case
@@ -127,13 +137,13 @@ badTime =
     ∷ end "testsuite"
     ∷ end "testsuites"
     ∷ [])
-    (refuses 5 (testsuites ∷ testsuite 0 1 ∷ testcase 1 nowhere ∷ attribute 5 ∷ []) 3 3)
+    (refuses 5 cause.BadTime (testsuites ∷ testsuite 0 1 ∷ testcase 1 nowhere ∷ attribute 5 ∷ []) 3 3)
 
 -- 6: testsuites/@uuid
 abbrev pub badUuid : Case
 badUuid =
     document (empty "testsuites" ("uuid" ≔ "1" ∷ []) ∷ [])
-    (refuses 6 (testsuites ∷ attribute 3 ∷ []) 0 0)
+    (refuses 6 cause.BadUuid (testsuites ∷ attribute 3 ∷ []) 0 0)
 
 -- 7: testsuites/testsuite[0]("s")/testcase[0]/@name
 abbrev pub missingName : Case
@@ -144,11 +154,11 @@ missingName =
     ∷ end "testsuite"
     ∷ end "testsuites"
     ∷ [])
-    (refuses 7 (testsuites ∷ testsuite 0 1 ∷ testcase 0 nowhere ∷ attribute 1 ∷ []) 2 nowhere)
+    (refuses 7 cause.MissingAttribute (testsuites ∷ testsuite 0 1 ∷ testcase 0 nowhere ∷ attribute 1 ∷ []) 2 nowhere)
 
 -- 8, "no events": not even an Eof
 abbrev pub noEvents : Case
-noEvents = record { events = []; attributes = []; source = []; expected = refuses 8 [] 0 nowhere }
+noEvents = record { events = []; attributes = []; source = []; expected = refuses 8 cause.MissingReport [] 0 nowhere }
 
 -- 9, "`a` twice": testsuites/testsuite[0]("s")/testcase[0], no Attribute
 abbrev pub twice : Case
@@ -159,13 +169,13 @@ twice =
     ∷ end "testsuite"
     ∷ end "testsuites"
     ∷ [])
-    (refuses 9 (testsuites ∷ testsuite 0 1 ∷ testcase 0 nowhere ∷ []) 2 3)
+    (refuses 9 cause.RepeatedKey (testsuites ∷ testsuite 0 1 ∷ testcase 0 nowhere ∷ []) 2 3)
 
 -- 10, "name `&x;`": testsuites/@name
 abbrev pub badReference : Case
 badReference =
     document (empty "testsuites" ("name" ≔ "&x;" ∷ []) ∷ [])
-    (refuses 10 (testsuites ∷ attribute 1 ∷ []) 0 0)
+    (refuses 10 cause.BadReference (testsuites ∷ attribute 1 ∷ []) 0 0)
 
 -- ---- "`+5` is 5"
 abbrev pub plusFive : Case
@@ -230,6 +240,39 @@ output =
     ∷ [])
     (reads (record { name = none; uuid = none; timestamp = none; time = none; counts = noCounts; suites = spaceKept ∷ [] }))
 
+-- ---- "Two tables agree if, after the removals, they have equally many events, with the same kinds, tag names and attributes in order"
+-- the other table has Text, CData, Ref, Other and Indent, another message, and all else at other places of its source
+abbrev pub agreeing : Case
+agreeing =
+    document (start "testsuites" ("name" ≔ "r" ∷ [])
+    ∷ start "testsuite" ("name" ≔ "s" ∷ [])
+    ∷ start "testcase" ("name" ≔ "t" ∷ [])
+    ∷ start "failure" ("message" ≔ "m" ∷ [])
+    ∷ end "failure"
+    ∷ end "testcase"
+    ∷ end "testsuite"
+    ∷ end "testsuites"
+    ∷ [])
+    (agrees (comment "by hand"
+    ∷ start "testsuites" ("name" ≔ "r" ∷ [])
+    ∷ indent
+    ∷ start "testsuite" ("name" ≔ "s" ∷ [])
+    ∷ text "x"
+    ∷ start "testcase" ("name" ≔ "t" ∷ [])
+    ∷ start "failure" ("message" ≔ "private" ∷ [])
+    ∷ text "y"
+    ∷ cdata "<z>"
+    ∷ ref "lt"
+    ∷ end "failure"
+    ∷ end "testcase"
+    ∷ end "testsuite"
+    ∷ end "testsuites"
+    ∷ [])
+    (lines ("(report \"r\" 0 0 0 0 -"
+    ∷ "(suite \"s\" 0 0 0 0 -"
+    ∷ "(case \"t\" - - failure rerun 0)))"
+    ∷ [])))
+
 -- ---- the table
 abbrev pub cases : List Case
 cases =
@@ -247,4 +290,5 @@ cases =
     ∷ exact
     ∷ flakyAlone
     ∷ output
+    ∷ agreeing
     ∷ []

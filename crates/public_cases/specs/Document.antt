@@ -17,7 +17,8 @@ _≔_ k v = record { key = bytes k; value = bytes v }
 
 pub data Markup : Type 0 where
   start empty : String → List Named → Markup
-  end text : String → Markup
+  end text cdata ref comment : String → Markup
+  indent : Markup
 
 -- ---- the source
 abbrev pub namedText : Named → List ℕ
@@ -32,6 +33,10 @@ markupText (start n xs) = bytes "<" ++ (bytes n ++ (namedTexts xs ++ bytes ">"))
 markupText (empty n xs) = bytes "<" ++ (bytes n ++ (namedTexts xs ++ bytes "/>"))
 markupText (end n) = bytes "</" ++ (bytes n ++ bytes ">")
 markupText (text s) = bytes s
+markupText (cdata s) = bytes "<![CDATA[" ++ (bytes s ++ bytes "]]>")
+markupText (ref s) = bytes "&" ++ (bytes s ++ bytes ";")
+markupText (comment s) = bytes "<!--" ++ (bytes s ++ bytes "-->")
+markupText indent = bytes "\n"
 
 abbrev pub sourceOf : List Markup → List ℕ
 sourceOf [] = []
@@ -46,6 +51,10 @@ namedOf (start n xs) = xs
 namedOf (empty n xs) = xs
 namedOf (end n) = []
 namedOf (text s) = []
+namedOf (cdata s) = []
+namedOf (ref s) = []
+namedOf (comment s) = []
+namedOf indent = []
 
 -- the number of the first attribute, j, where there is one
 abbrev pub first : ℕ → List Named → ℕ
@@ -53,12 +62,17 @@ first j [] = 0
 first j (x ∷ xs) = j
 
 -- "An event is five words: kind, start and length in the source, first attribute, attribute count. Kinds: 0 Start, 1 Empty, 2 End (the
--- bytes are the tag name), 3 Text"; the text of the tag begins at place p of the source, j attributes come before it
+-- bytes are the tag name), 3 Text, 4 CData, 5 Ref (the name between `&` and `;`), 6 Other [..] 9 Indent"; the text of the tag begins at
+-- place p of the source, j attributes come before it
 abbrev pub event : ℕ → ℕ → Markup → List ℕ
 event p j (start n xs) = 0 ∷ (p + 1) ∷ size n ∷ first j xs ∷ length xs ∷ []
 event p j (empty n xs) = 1 ∷ (p + 1) ∷ size n ∷ first j xs ∷ length xs ∷ []
 event p j (end n) = 2 ∷ (p + 2) ∷ size n ∷ 0 ∷ 0 ∷ []
 event p j (text s) = 3 ∷ p ∷ size s ∷ 0 ∷ 0 ∷ []
+event p j (cdata s) = 4 ∷ (p + 9) ∷ size s ∷ 0 ∷ 0 ∷ []
+event p j (ref s) = 5 ∷ (p + 1) ∷ size s ∷ 0 ∷ 0 ∷ []
+event p j (comment s) = 6 ∷ (p + 4) ∷ size s ∷ 0 ∷ 0 ∷ []
+event p j indent = 9 ∷ p ∷ 0 ∷ 0 ∷ 0 ∷ []
 
 -- the last event is Eof, kind 7
 abbrev pub eventsFrom : ℕ → ℕ → List Markup → List ℕ
@@ -81,6 +95,10 @@ before (start n xs) = size n + 1
 before (empty n xs) = size n + 1
 before (end n) = 0
 before (text s) = 0
+before (cdata s) = 0
+before (ref s) = 0
+before (comment s) = 0
+before indent = 0
 
 abbrev pub attributesFrom : ℕ → List Markup → List ℕ
 attributesFrom p [] = []

@@ -29,12 +29,13 @@ use Rattle.public_claims.specs.PublicListing.{refusedText, isAccepted, w
 use Rattle.public_claims.specs.Demand3.{fitted}
 use Rattle.public_claims.proofs.Acts.{impossible}
 use Rattle.public_claims.proofs.AcceptedRun.{reportLeft}
+use Rattle.refusal.specs.declared.Cause.the-variants as cause
 
 -- ---- what listing writes
-put-whole : (n : ℕ) (f : List ℕ) → written (placing 16 n f) (outputFor (placing 16 n f) n f) ≡ fitted n f
+put-whole : (n : ℕ) (f : List ℕ) → written (placing cause.OutputFull n f) (outputFor (placing cause.OutputFull n f) n f) ≡ fitted n f
 put-whole n f = go (leb (length f) n) refl
   where
-    go : (b : Bool) → leb (length f) n ≡ b → written (cond b (gives (length f)) (refuses 16)) (outputFor (cond b (gives (length f)) (refuses 16)) n f) ≡ cond b f refusedText
+    go : (b : Bool) → leb (length f) n ≡ b → written (cond b (gives (length f)) (refuses cause.OutputFull)) (outputFor (cond b (gives (length f)) (refuses cause.OutputFull)) n f) ≡ cond b f refusedText
     go true e = ap (take (length f)) (laid-zeros n f (leb-true (length f) n e)) ∙ take-at f (zeros (n - length f)) (length f) refl
     go false e = refl
 
@@ -42,7 +43,7 @@ written-text : (words text : List ℕ) (n : ℕ) → layout words text ≡ true 
 unfolding listingAnswer outputOf
 written-text words text n e =
     let f : List ℕ = listingOf words text in
-    ap (λ (b : Bool). written (cond b (placing 16 n f) (refuses 15)) (outputFor (cond b (placing 16 n f) (refuses 15)) n f)) e ∙ put-whole n f
+    ap (λ (b : Bool). written (cond b (placing cause.OutputFull n f) (refuses cause.NotLayout)) (outputFor (cond b (placing cause.OutputFull n f) (refuses cause.NotLayout)) n f)) e ∙ put-whole n f
 
 -- ---- reading's answer
 whole-answer : (o : Outcome (Unit {0})) → isAccepted o ≡ true → o ≡ accepted tt

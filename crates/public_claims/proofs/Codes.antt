@@ -5,7 +5,7 @@ use mathlib.Core.List.{List, []}
 use mathlib.Core.Bool.{Bool, true, false, cond}
 use borrow.Author.Tests.{eqb-true}
 use lib.Dec.{eqb}
-use Rattle.public_claims.specs.Agree.{isPublicCode}
+use Rattle.names.specs.Keys.{isPublic}
 use Rattle.public_claims.specs.PublicMachine.{Said, notListed, fieldOf, say}
 
 -- a key that has none of the fourteen codes
@@ -61,7 +61,7 @@ unfolding fieldOf
 field-other c o = rw (o .is1, o .is2, o .is5, o .is6, o .is7, o .is8, o .is9, o .is10)
 
 -- a value that is blanked is not listed
-pub blank-same : (c : ℕ) → Code c → (v : List ℕ) (s : Said) → say (fieldOf c) (cond (isPublicCode c) v []) s ≡ say (fieldOf c) v s
+pub blank-same : (c : ℕ) → Code c → (v : List ℕ) (s : Said) → say (fieldOf c) (cond (isPublic c) v []) s ≡ say (fieldOf c) v s
 unfolding fieldOf
 blank-same c code1 v s = refl
 blank-same c code2 v s = refl

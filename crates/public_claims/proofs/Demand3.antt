@@ -1,23 +1,25 @@
 -- Demand 3, whole: each of its claims holds. Assumes nothing.
-use Prim.Native.Nat.{ℕ, _<_}
+use Prim.Native.Nat.{ℕ, _≤_, _<_}
 use mathlib.Core.Path.{_≡_, refl, sym, ap, subst, _∙_}
 use mathlib.Core.List.{List, []}
-use mathlib.Core.Bool.{Bool, true, false, cond}
+use mathlib.Core.Bool.{Bool, true, false, cond, true≢false}
 use mathlib.Core.Option.{Option, some}
 use mathlib.Core.Logic.{_⊎_, inl, inr}
 use native.Mathlib.Omega.{arith}
 use borrow.Author.Tests.{leb-false, lt-leb}
 use lib.Dec.{leb}
 use lib.ListN.{length, getD}
-use Rattle.refusal.specs.Refusal.{Outcome, accepted}
+use Rattle.refusal.specs.Refusal.{Refused, Outcome, accepted, refused, number}
+use Rattle.refusal.specs.declared.Cause.the-variants.{BadTable}
 use Rattle.tree_report.specs.Report.{Report}
 use Rattle.read_element.specs.Outcome.{roomsOf}
+use Rattle.read_machine.proofs.RoomsReading.{reading-refuses, deserialize-refuses}
 use Rattle.list_text.specs.Listing.{renderPublic, header, render, renderedOr}
 use Rattle.public_claims.specs.Agree.{public}
 use Rattle.public_claims.specs.PublicMachine.{publicText}
 use Rattle.public_claims.specs.OwnStatus.{ownStatuses, casesListed, Ruled}
-use Rattle.public_claims.specs.PublicListing.{refusedText}
-use Rattle.public_claims.specs.Demand3.{Table, Areas, eventsOf, isRead, listing, Agreeing, fitted, TooShort, Listed, Demand3}
+use Rattle.public_claims.specs.PublicListing.{refusedText, isAccepted}
+use Rattle.public_claims.specs.Demand3.{Table, Areas, eventsOf, answerTo, isRead, listing, Agreeing, fitted, TooShort, RefusesTable, RefusesEvents, LacksRoom, Listed, Demand3}
 use Rattle.public_claims.proofs.Trees.{publicOr}
 use Rattle.public_claims.proofs.AcceptedRun.{listing-public, listed-ruled}
 use Rattle.public_claims.proofs.BothCalls.{Accepted, table-whole, accepted-table, refused-table}
@@ -84,6 +86,35 @@ module _ (t : Table) (a : Areas) where
           c .shown ∙ ap (λ (r : Report). fitted (a .output) (render r)) (same-report _ (c .report) (s .0) (c .read) (s .1))
           ∙ fitted-short (a .output) (render (s .0)) (s .2)
 
+-- ---- why reading refuses
+was-refused : (o : Outcome (Unit {0})) → isAccepted o ≡ false → (r : Refused) × (o ≡ refused r)
+was-refused (accepted u) e = absurd (true≢false e)
+was-refused (refused r) e = (r, refl)
+
+module _ (t : Table) (a : Areas) where
+  refuses-alike : (r : Refused) → answerTo t a ≡ refused r → RefusesTable t r ⊎ (RefusesEvents t r ⊎ LacksRoom r)
+  refuses-alike r e = go (reading-refuses (t .events) (t .attributes) (t .source) (a .words) (a .text) (a .scratch) r e)
+    where
+      go : (RefusesTable t r × (r .cause ≡ BadTable)) ⊎ (LacksRoom r ⊎ (RefusesEvents t r × (number (r .cause) ≤ 10))) → RefusesTable t r ⊎ (RefusesEvents t r ⊎ LacksRoom r)
+      go (inl h) = inl (h .0)
+      go (inr (inl h)) = inr (inr h)
+      go (inr (inr h)) = inr (inl (h .0))
+
+  why-not-read : isRead t a ≡ false → (r : Refused) × (RefusesTable t r ⊎ (RefusesEvents t r ⊎ ((answerTo t a ≡ refused r) × LacksRoom r)))
+  why-not-read e = let h = was-refused (answerTo t a) e in (h .0, go (h .0) (h .1) (refuses-alike (h .0) (h .1)))
+    where
+      go : (r : Refused) → answerTo t a ≡ refused r → RefusesTable t r ⊎ (RefusesEvents t r ⊎ LacksRoom r) → RefusesTable t r ⊎ (RefusesEvents t r ⊎ ((answerTo t a ≡ refused r) × LacksRoom r))
+      go r q (inl h) = inl h
+      go r q (inr (inl h)) = inr (inl h)
+      go r q (inr (inr h)) = inr (inr (q, h))
+
+  not-read : (r : Refused) × (RefusesTable t r ⊎ (RefusesEvents t r ⊎ ((answerTo t a ≡ refused r) × LacksRoom r))) → isRead t a ≡ false
+  not-read (r, inl h) = either (isRead t a)
+      (λ y. let w = table-whole (t .events) (t .attributes) (t .source) (a .words) (a .text) (a .scratch) (a .output) y in let z : _≡_ {A = ℕ} 0 1 = cc in absurd (omega arith))
+      (λ n. n)
+  not-read (r, inr (inl h)) = let q = deserialize-refuses (t .events) (t .attributes) (t .source) (a .words) (a .text) (a .scratch) r h in ap isAccepted (q .1)
+  not-read (r, inr (inr h)) = ap isAccepted (h .0)
+
 same-listing : (t u : Table) (a b : Areas) → Agreeing t u → isRead t a ≡ isRead u b → a .output ≡ b .output → listing t a ≡ listing u b
 same-listing t u a b agreed same long = either (isRead t a) both-read both-refused
   where
@@ -106,4 +137,6 @@ demand-3 =
       sameListing = same-listing;
       listed = is-listed;
       refusedExactly = λ t a. (why-refused t a, is-refused t a);
+      readRefuses = λ t a. (why-not-read t a, not-read t a);
+      refusesAlike = refuses-alike;
     }

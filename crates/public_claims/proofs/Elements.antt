@@ -88,7 +88,7 @@ module _ (rooms : Rooms) (kind : ℕ) (σ : Sort) (wide : (c : ℕ) → Wide kin
   unfolding readAttributes said
   attributes-sim p used t before j [] g s b m = accept (b, m)
   attributes-sim p used t before j (x ∷ xs) g s b m =
-      bind (needing _ _ _ (effect rooms (numbered p j) used kind (keyOf (x .key)) (roleOf kind (keyOf (x .key))) x g))
+      bind (needing _ _ _ (needing _ _ _ (effect rooms (numbered p j) used kind (keyOf (x .key)) (roleOf kind (keyOf (x .key))) x g)))
       λ h e.
       subst (λ (z : Said). Holds (λ h. Base kind t h × Shows σ (h .texts) (h .main) (said (map blanked xs) z)) (readAttributes rooms p used kind (before ++ (x .key ∷ [])) (j + 1) xs h))
       (sym (blank-same (keyOf (x .key)) (codeOf (keyOf (x .key))) (x .value) s))

@@ -1,9 +1,9 @@
 -- What holds of an outcome wherever it accepts. Assumes nothing.
-use Prim.Native.Nat.{ℕ}
 use mathlib.Core.Path.{_≡_, refl}
 use mathlib.Core.Bool.{Bool, true, false, cond}
 use Rattle.area.specs.Answer.{gives, refuses}
 use Rattle.refusal.specs.Refusal.{Refused, Outcome, accepted, refused}
+use Rattle.refusal.specs.declared.Cause.{Cause}
 use Rattle.read_element.specs.Outcome.{_>>=_, Place, there, need}
 
 pub data Holds {A : Type 0} (Q : A → Type 0) : Outcome A → Type 0 where
@@ -23,13 +23,13 @@ pub weaken : {A : Type 0} {Q R : A → Type 0} {m : Outcome A} → Holds Q m →
 weaken (accept h) k = accept (k _ h)
 weaken refusing k = refusing
 
-pub needing : {A : Type 0} {Q : A → Type 0} (b : Bool) (p : Place) (n : ℕ) {m : Outcome A} → Holds Q m → Holds Q (need b p n m)
+pub needing : {A : Type 0} {Q : A → Type 0} (b : Bool) (p : Place) (n : Cause) {m : Outcome A} → Holds Q m → Holds Q (need b p n m)
 unfolding need
 needing true p n h = h
 needing false p n h = refusing
 
 -- with what the test says
-pub testing : {A : Type 0} {Q : A → Type 0} (b : Bool) (p : Place) (n : ℕ) {m : Outcome A} → (b ≡ true → Holds Q m) → Holds Q (need b p n m)
+pub testing : {A : Type 0} {Q : A → Type 0} (b : Bool) (p : Place) (n : Cause) {m : Outcome A} → (b ≡ true → Holds Q m) → Holds Q (need b p n m)
 unfolding need
 testing true p n h = h refl
 testing false p n h = refusing
@@ -43,7 +43,7 @@ anything (accepted a) = accept tt
 anything (refused r) = refusing
 
 -- an answer of the shape of document 01's leaves: the value where both tests pass
-pub answered : {A : Type 0} (p : Place) (b c : Bool) (a : A) (m n : ℕ) → Holds (λ x. x ≡ a) (there p (cond b (cond c (gives a) (refuses m)) (refuses n)))
+pub answered : {A : Type 0} (p : Place) (b c : Bool) (a : A) (m n : Cause) → Holds (λ x. x ≡ a) (there p (cond b (cond c (gives a) (refuses m)) (refuses n)))
 unfolding there
 answered p true true a m n = accept refl
 answered p true false a m n = refusing

@@ -1,4 +1,5 @@
 pub mod WorkedListing
+mod Examples
 mod Holding
 mod Words
 mod Codes

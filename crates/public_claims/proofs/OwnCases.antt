@@ -10,10 +10,12 @@ use Rattle.names.specs.Tags.{tagOf}
 use Rattle.refusal.specs.Refusal.{accepted}
 use Rattle.table.specs.Event.{Attribute, TagKind, Start, Empty, End, PieceKind, Event, Tag, Piece, Eof, Fault}
 use Rattle.tree_report.specs.Report.{Text, Duration}
-use Rattle.tree_report.specs.Status.{Tally, noStatus, tallied, ruled}
+use Rattle.tree_status.specs.declared.Tally.{Tally}
+use Rattle.tree_status.specs.Status.{noStatus, tallied, ruled}
 use Rattle.read_element.specs.Outcome.{Place, Rooms}
 use Rattle.read_state.specs.Control.{Level, top, suite, case, status, Mode, at, gathering, listing, skipping, finished, Control}
-use Rattle.read_state.specs.Control.{Act, pass, openReport, openSuite, openCase, openStatus, closeSuite, closeCase, closeStatus, openText, closeText, openList, readProperty, stop, missing, broken, isStatus, planAt, planEof, planFault, turn}
+use Rattle.read_state.specs.Control.{Act, pass, openReport, openSuite, openCase, openStatus, closeSuite, closeCase, closeStatus, openText, closeText, openList, readProperty, stop, missing, broken, isStatus, turn}
+use Rattle.read_rules.specs.Rules.{planAt, planEof, planFault}
 use Rattle.read_place.specs.Marks.{Marks}
 use Rattle.read_content.specs.Content.{Content, perform}
 use Rattle.read_machine.specs.Machine.{Machine, act, step, run, begin}

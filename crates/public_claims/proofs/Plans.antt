@@ -11,8 +11,10 @@ use Rattle.table.specs.Event.{Attribute, TagKind, Start, Empty, End, PieceKind,
 use Rattle.read_element.specs.Outcome.{_>>=_, Place, Rooms}
 use Rattle.read_state.specs.Control.{Level, top, suite, case, status, Output, Mode, at, gathering, listing, skipping, finished, Control}
 use Rattle.read_state.specs.Control.{Act, pass, openReport, openSuite, openCase, openStatus, closeSuite, closeCase, closeStatus, openText, closeText, openList, readProperty, stop, missing, broken}
-use Rattle.read_state.specs.Control.{isStatus, orSkip, outputs, atTop, atSuite, atCase, child, atStatus, inText, inList, inSkip, shallower, planAt, planEof, planFault, gathers, turn, tagOfOutput}
-use Rattle.read_place.specs.Marks.{Marks, onward, actPlace}
+use Rattle.read_state.specs.Control.{isStatus, orSkip, gathers, turn}
+use Rattle.read_rules.specs.Rules.{outputs, atTop, atSuite, atCase, child, atStatus, inText, inList, inSkip, shallower, planAt, planEof, planFault, tagOfOutput}
+use Rattle.read_place.specs.Marks.{Marks, onward}
+use Rattle.read_path.specs.Paths.{actPlace}
 use Rattle.read_content.specs.Content.{Content, joinPiece, gather, perform}
 use Rattle.read_machine.specs.Machine.{Machine, act, step, run, begin}
 use Rattle.public_claims.specs.Agree.{blanked, public}

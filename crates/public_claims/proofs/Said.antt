@@ -16,16 +16,19 @@ use Rattle.uuid.specs.declared.Words.{Words}
 use Rattle.timestamp.specs.declared.Moment.{Moment}
 use Rattle.table.specs.Event.{Attribute}
 use Rattle.tree_report.specs.Report.{Text}
-use Rattle.tree_report.specs.Fields.{kindOf, bit, flakyBit, textAt, first, second, time, counts}
+use Rattle.tree_record.specs.Bits as bit
+use Rattle.tree_report.specs.Fields.{kindOf, hasBit, textAt, first, second, time, counts}
 use Rattle.read_element.specs.Outcome.{Place, Rooms}
 use Rattle.read_keys.specs.declared.Role.{Role}
 use Rattle.read_keys.specs.declared.Role.the-variants as role
-use Rattle.tree_put.specs.Put.{marked, putText, putCount, putUuid, putMoment, putTime, putPair, blank}
+use Rattle.tree_record.specs.Record.{marked}
+use Rattle.tree_put.specs.Put.{putText, putCount, putUuid, putMoment, putTime, putPair, blank}
 use Rattle.read_element.specs.Attributes.{Given, keep, byRole, readText, readExtra, oldExtra, newExtra, changed, extraKind, placeOf}
 use Rattle.public_claims.specs.PublicMachine.{Said, integerValue, Node, Sort, aReport, aSuite, aCase, aMain, aRun, unlisted, orEmpty}
 use Rattle.public_claims.proofs.Holding.{Holds, accept, bind, needing, choosing, anything, answered}
 use Rattle.public_claims.proofs.Words.{Keeps, keeps-all, keeps-then, marked-keeps, pair-keeps, text-keeps, words-keep}
 use Rattle.public_claims.proofs.View.{lookAs, look, looks, look-outputs, looks-append, looks-changed, keeps-text, keeps-first, keeps-second, keeps-time, keeps-counts, sort-dead}
+use Rattle.refusal.specs.declared.Cause.the-variants as cause
 
 -- ---- what an attribute does to what is given
 abbrev pub Added : Given → Given → Type 0
@@ -33,7 +36,7 @@ Added g h = (v : List ℕ) × (h .texts ≡ g .texts ++ v)
 
 -- a record has words, and no flaky bit: reading never sets it
 abbrev pub Firm : List ℕ → Type 0
-Firm r = (1 ≤ length r) × (bit flakyBit r ≡ false)
+Firm r = (1 ≤ length r) × (hasBit bit.flaky r ≡ false)
 
 abbrev pub Solid : List (List ℕ) → Type 0
 Solid [] = Unit {0}
@@ -131,15 +134,15 @@ module _ (rooms : Rooms) (p : Place) (used kind : ℕ) where
   unfolding byRole Effect
   effect key (role.Text o k) x g = text-effect _ o k (x .value) g
   effect key (role.Count o) x g =
-      bind (answered _ (utf8 (x .value)) (isInteger (x .value)) (integerValue (x .value)) 3 2)
+      bind (answered _ (utf8 (x .value)) (isInteger (x .value)) (integerValue (x .value)) cause.BadInteger cause.NotUtf8)
       λ n e. accept (ap (λ (n : ℕ). putCount o n (g .main)) e, sym (append-nil (g .texts)), refl)
   effect key (role.Number o k) x g =
-      bind (answered _ (utf8 (x .value)) (isInteger (x .value)) (integerValue (x .value)) 3 2)
+      bind (answered _ (utf8 (x .value)) (isInteger (x .value)) (integerValue (x .value)) cause.BadInteger cause.NotUtf8)
       λ n e. accept (ap (λ (n : ℕ). marked k (putCount o n (g .main))) e, sym (append-nil (g .texts)), refl)
   effect key role.Uuid x g = bind (anything _) λ w _. accept ((w, refl), sym (append-nil (g .texts)), refl)
   effect key (role.Timestamp kept) x g = bind (anything _) λ m _. accept ((m, refl), sym (append-nil (g .texts)), refl)
   effect key (role.Time kept) x g =
-      bind (answered _ (utf8 (x .value)) (isTime (x .value)) (secondsOf (x .value), nanosOf (x .value)) 5 2)
+      bind (answered _ (utf8 (x .value)) (isTime (x .value)) (secondsOf (x .value), nanosOf (x .value)) cause.BadTime cause.NotUtf8)
       λ t e. accept (ap (λ (t : ℕ × ℕ). keep kept (putTime t (g .main)) (g .main)) e, sym (append-nil (g .texts)), refl)
   effect key role.Extra x g = extra-effect x g
   effect key role.Ignored x g = accept (refl, sym (append-nil (g .texts)), refl)
@@ -150,7 +153,7 @@ pub record Base (kind : ℕ) (t : List ℕ) (g : Given) : Type 0 where
   pub grown : g .texts ≡ t ++ added
   pub long : length (g .main) ≡ 32
   pub kindly : kindOf (g .main) ≡ kind
-  pub plain : bit flakyBit (g .main) ≡ false
+  pub plain : hasBit bit.flaky (g .main) ≡ false
   pub hidden : Hidden (g .extras)
 
 -- extras are read by suite and case only
@@ -194,7 +197,7 @@ module _ {kind : ℕ} {t : List ℕ} {g : Given} (v : List ℕ) (h : Given) (b :
         grown = f ∙ ap (_++ u) (b .grown) ∙ append-assoc t (b .added) u;
         long = ap length e ∙ c .long ∙ b .long;
         kindly = ap kindOf e ∙ c .kind ∙ b .kindly;
-        plain = ap (bit flakyBit) e ∙ c .bits 9 n ∙ b .plain;
+        plain = ap (hasBit bit.flaky) e ∙ c .bits 9 n ∙ b .plain;
         hidden = d;
       }
 

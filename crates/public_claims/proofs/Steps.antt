@@ -10,11 +10,12 @@ use lib.ListN.{length}
 use Rattle.time.specs.Time.{secondsOf, nanosOf}
 use Rattle.text.specs.Value.{valueText}
 use Rattle.tree_report.specs.Report.{Text, Counts}
-use Rattle.tree_report.specs.Fields.{bit, given, numberAt, first, second, time, counts}
+use Rattle.tree_report.specs.Fields.{hasBit, given, numberAt, first, second, time, counts}
 use Rattle.read_keys.specs.declared.Role.{Role}
 use Rattle.read_keys.specs.declared.Role.the-variants as role
 use Rattle.read_keys.specs.Roles.{roleIn, reportRole, suiteRole, caseRole, statusRole}
-use Rattle.tree_put.specs.Put.{marked, putText, putCount, putTime}
+use Rattle.tree_record.specs.Record.{marked}
+use Rattle.tree_put.specs.Put.{putText, putCount, putTime}
 use Rattle.read_element.specs.Attributes.{Given}
 use Rattle.public_claims.specs.PublicMachine.{Said, Field, theTests, theFailures, theErrors, theSkipped, theDisabled, fieldOf, say, integerValue, aReport, aSuite, aCase, aRun}
 use Rattle.public_claims.proofs.Words.{Keeps, keeps-all, pair-keeps, text-keeps, marked-there, marked-first, marked-second, count-there, number-there, text-there}
@@ -34,25 +35,25 @@ time-there a b r l =
     rw (marked-there 16 a b r l (omega arith) (omega arith) 4, marked-first 16 a b r l (omega arith) (omega arith) 4, marked-second 16 a b r l (omega arith) (omega arith) 4)
 
 counts-tests : (n : ℕ) (r : List ℕ) → length r ≡ 32 →
-    counts (putCount 18 n r) ≡ record { tests = n; failures = numberAt r 20; errors = numberAt r 22; skipped = numberAt r 24; disabled = given (bit 8 r) (numberAt r 26) }
+    counts (putCount 18 n r) ≡ record { tests = n; failures = numberAt r 20; errors = numberAt r 22; skipped = numberAt r 24; disabled = given (hasBit 8 r) (numberAt r 26) }
 counts-tests n r l =
     let c : Keeps 1 18 20 r (putCount 18 n r) = pair-keeps 1 18 (n % 4294967296) (n / 4294967296) r (omega arith) in
     rw (count-there 18 n r l (omega arith) (omega arith), keeps-number c 20 (omega arith) (inr (omega arith)), keeps-number c 22 (omega arith) (inr (omega arith)), keeps-number c 24 (omega arith) (inr (omega arith)), keeps-disabled c (λ e. omega arith) (inr (omega arith)))
 
 counts-failures : (n : ℕ) (r : List ℕ) → length r ≡ 32 →
-    counts (putCount 20 n r) ≡ record { tests = numberAt r 18; failures = n; errors = numberAt r 22; skipped = numberAt r 24; disabled = given (bit 8 r) (numberAt r 26) }
+    counts (putCount 20 n r) ≡ record { tests = numberAt r 18; failures = n; errors = numberAt r 22; skipped = numberAt r 24; disabled = given (hasBit 8 r) (numberAt r 26) }
 counts-failures n r l =
     let c : Keeps 1 20 22 r (putCount 20 n r) = pair-keeps 1 20 (n % 4294967296) (n / 4294967296) r (omega arith) in
     rw (keeps-number c 18 (omega arith) (inl (omega arith)), count-there 20 n r l (omega arith) (omega arith), keeps-number c 22 (omega arith) (inr (omega arith)), keeps-number c 24 (omega arith) (inr (omega arith)), keeps-disabled c (λ e. omega arith) (inr (omega arith)))
 
 counts-errors : (n : ℕ) (r : List ℕ) → length r ≡ 32 →
-    counts (putCount 22 n r) ≡ record { tests = numberAt r 18; failures = numberAt r 20; errors = n; skipped = numberAt r 24; disabled = given (bit 8 r) (numberAt r 26) }
+    counts (putCount 22 n r) ≡ record { tests = numberAt r 18; failures = numberAt r 20; errors = n; skipped = numberAt r 24; disabled = given (hasBit 8 r) (numberAt r 26) }
 counts-errors n r l =
     let c : Keeps 1 22 24 r (putCount 22 n r) = pair-keeps 1 22 (n % 4294967296) (n / 4294967296) r (omega arith) in
     rw (keeps-number c 18 (omega arith) (inl (omega arith)), keeps-number c 20 (omega arith) (inl (omega arith)), count-there 22 n r l (omega arith) (omega arith), keeps-number c 24 (omega arith) (inr (omega arith)), keeps-disabled c (λ e. omega arith) (inr (omega arith)))
 
 counts-skipped : (n : ℕ) (r : List ℕ) → length r ≡ 32 →
-    counts (putCount 24 n r) ≡ record { tests = numberAt r 18; failures = numberAt r 20; errors = numberAt r 22; skipped = n; disabled = given (bit 8 r) (numberAt r 26) }
+    counts (putCount 24 n r) ≡ record { tests = numberAt r 18; failures = numberAt r 20; errors = numberAt r 22; skipped = n; disabled = given (hasBit 8 r) (numberAt r 26) }
 counts-skipped n r l =
     let c : Keeps 1 24 26 r (putCount 24 n r) = pair-keeps 1 24 (n % 4294967296) (n / 4294967296) r (omega arith) in
     rw (keeps-number c 18 (omega arith) (inl (omega arith)), keeps-number c 20 (omega arith) (inl (omega arith)), keeps-number c 22 (omega arith) (inl (omega arith)), count-there 24 n r l (omega arith) (omega arith), keeps-disabled c (λ e. omega arith) (inr (omega arith)))

@@ -8,7 +8,8 @@ use native.Mathlib.Omega.{arith}
 use borrow.Author.Tests.{eqb-true, leb-true, lt-leb, ltb-false}
 use lib.Dec.{eqb, leb}
 use Rattle.tree_report.specs.Report.{failure, error, flaky, rerun, nonSuccess, skipped, Report}
-use Rattle.tree_report.specs.Fields.{kindOf, live, isSuite, isCase, isMain, isRun, bit, flakyBit, textAt, first, second, time, counts}
+use Rattle.tree_record.specs.Bits as bit
+use Rattle.tree_report.specs.Fields.{kindOf, live, isSuite, isCase, isMain, isRun, hasBit, textAt, first, second, time, counts}
 use Rattle.tree_report.specs.ReportOf.{only, until, branches, runOf, kindOfRuns, statusOf, reasonOf, caseOf, suiteOf, reportFrom}
 use Rattle.list_text.specs.Listing.{Status, isFailure, isError, isSkipped, RunKind, noKind, flakyKind, rerunKind, PublicRun, PublicCase, PublicSuite, PublicReport, publicRun, kindShown, statusShown, runKindShown, runsShown, publicCase, publicSuite, publicPart}
 use Rattle.public_claims.specs.PublicMachine.{Node, reportNode, suiteNode, caseNode, mainNode, runNode, Sort, aReport, aSuite, aCase, aMain, aRun, unlisted, sortOf, isSuiteNode, isCaseNode, upToNext, mainsIn, runsIn, runCodesIn, nodeStatus, familyOf, nodeKind, nodeRuns, caseFrom, casesIn, suitesIn, reportIn}
@@ -183,7 +184,7 @@ module _ (t : List ℕ) where
       go false true = refl
       go false false = refl
 
-  family-same : (m : List ℕ) (rs : List (List ℕ)) → bit flakyBit m ≡ false → kindShown (kindOfRuns t m rs) ≡ familyOf (map kindOf rs)
+  family-same : (m : List ℕ) (rs : List (List ℕ)) → hasBit bit.flaky m ≡ false → kindShown (kindOfRuns t m rs) ≡ familyOf (map kindOf rs)
   family-same m [] e = ap (λ (b : Bool). kindShown (cond b flaky rerun)) e
   family-same m (r ∷ rs) e = go (leb (kindOf r) 10)
     where

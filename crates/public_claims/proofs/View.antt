@@ -10,7 +10,7 @@ use borrow.Author.Tests.{eqb-true, ne-eqb, leb-true, leb-false, le-leb, lt-leb, 
 use lib.Dec.{eqb, leb, ltb}
 use lib.ListN.{getD, set}
 use Rattle.tree_report.specs.Report.{Text, Counts, Duration}
-use Rattle.tree_report.specs.Fields.{kindOf, bit, given, textAt, numberAt, first, second, time, counts}
+use Rattle.tree_report.specs.Fields.{kindOf, hasBit, given, textAt, numberAt, first, second, time, counts}
 use Rattle.read_element.specs.Attributes.{changed}
 use Rattle.read_content.specs.Content.{killed, killAll, killKind}
 use Rattle.public_claims.specs.PublicMachine.{Node, reportNode, suiteNode, caseNode, mainNode, runNode, Sort, aReport, aSuite, aCase, aMain, aRun, unlisted, sortOf}
@@ -88,7 +88,7 @@ module _ {k lo hi : ℕ} {r s : List ℕ} (c : Keeps k lo hi r s) where
   keeps-time n (inl h) = rw (c .bits 4 n, c .word 16 (omega arith) (inl (omega arith)), c .word 17 (omega arith) (inl h))
   keeps-time n (inr h) = rw (c .bits 4 n, c .word 16 (omega arith) (inr h), c .word 17 (omega arith) (inr (omega arith)))
 
-  pub keeps-disabled : (8 ≡ k → ⊥) → (27 < lo) ⊎ (hi ≤ 26) → given (bit 8 s) (numberAt s 26) ≡ given (bit 8 r) (numberAt r 26)
+  pub keeps-disabled : (8 ≡ k → ⊥) → (27 < lo) ⊎ (hi ≤ 26) → given (hasBit 8 s) (numberAt s 26) ≡ given (hasBit 8 r) (numberAt r 26)
   keeps-disabled n h = ap₂ (λ (b : Bool) (v : ℕ). given b v) (c .bits 8 n) (keeps-number 26 (omega arith) h)
 
   pub keeps-counts : (8 ≡ k → ⊥) → (27 < lo) ⊎ (hi ≤ 18) → counts s ≡ counts r

@@ -10,7 +10,8 @@ use Rattle.names.specs.Tags.{tagOf, properties}
 use Rattle.table.specs.Event.{TagKind, Start, Empty, End}
 use Rattle.read_state.specs.Control.{Level, top, suite, case, status, Output, trace, out, err, Mode, at, gathering, listing, skipping, finished, Control}
 use Rattle.read_state.specs.Control.{Act, pass, openReport, openSuite, openCase, openStatus, closeSuite, closeCase, closeStatus, openText, closeText, openList, readProperty, stop, missing, broken}
-use Rattle.read_state.specs.Control.{isStatus, orSkip, outputs, atTop, atSuite, atCase, child, atStatus, inText, inList, inSkip, shallower, planAt, turn, tagOfOutput}
+use Rattle.read_state.specs.Control.{isStatus, orSkip, turn}
+use Rattle.read_rules.specs.Rules.{outputs, atTop, atSuite, atCase, child, atStatus, inText, inList, inSkip, shallower, planAt, tagOfOutput}
 use Rattle.public_claims.specs.Agree.{PublicEvent}
 use Rattle.public_claims.specs.OwnStatus.{Spot, atReport, inSuite, inCase, inStatus, over, upTo, past, held, heldByStatus, leaveSkip, move, ownAt, ownFrom, beginsReport, caseAt}
 use Rattle.public_claims.proofs.Acts.{impossible}

@@ -10,8 +10,9 @@ use lib.Dec.{eqb}
 use lib.ListN.{length, getD, take, drop, set, length-set}
 use lib.Seq.{getD-set-same, getD-set-other, drop-at, take-at}
 use Rattle.tree_report.specs.Fields.{kindOf, textAt, numberAt}
-use Rattle.tree_put.specs.Put.{maskOf, hasBit, marked, putPair, putText, putCount, putWords}
-use Rattle.tree_put.proofs.Marks.{marked-length, marked-other, marked-bit, marked-bits}
+use Rattle.tree_record.specs.Record.{maskOf, hasBit, marked}
+use Rattle.tree_put.specs.Put.{putPair, putText, putCount, putWords}
+use Rattle.tree_record.proofs.Marks.{marked-length, marked-other, marked-bit, marked-bits}
 
 -- ---- a change of the words from lo to below hi, and of the bit k, which is at most 9
 pub record Keeps (k lo hi : ℕ) (r s : List ℕ) : Type 0 where

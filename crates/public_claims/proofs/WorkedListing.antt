@@ -12,12 +12,13 @@ use Rattle.names.specs.Keys.{keys}
 use Rattle.names.specs.Tags.{tags}
 use Rattle.digits.specs.Digits.{digit, decimal, places}
 use Rattle.integer.specs.Integer.{unsigned}
-use Rattle.time.specs.Written.{timeText, thousandthsOf, floatSum}
+use Rattle.time_text.specs.Written.{timeText, thousandthsOf, floatSum}
 use Rattle.escape.specs.Escape.{letter, listed}
 use Rattle.table.specs.Event.{Attribute, Start, Empty, End}
 use Rattle.tree_report.specs.Report.{Counts, failure, rerun, TestRerun, success, nonSuccess, TestCase, TestSuite, Report}
-use Rattle.tree_report.specs.Status.{tallied}
-use Rattle.read_state.specs.Control.{orSkip, outputs, atTop, atSuite, atCase, planAt, planEof, turn}
+use Rattle.tree_status.specs.Status.{tallied}
+use Rattle.read_state.specs.Control.{orSkip, turn}
+use Rattle.read_rules.specs.Rules.{outputs, atTop, atSuite, atCase, planAt, planEof}
 use Rattle.list_text.specs.Listing.{isFailure, rerunKind, render, renderPublic, header, suiteText, caseText, runText}
 use Rattle.public_claims.specs.Agree.{isPublicKey, PublicEvent, PublicTag, PublicEof}
 use Rattle.public_claims.specs.PublicMachine.{fieldOf, said, sortOf, publicAct, acting, ending, publicStep, publicRun, nodesRead, publicReport, publicText}

@@ -2,19 +2,15 @@
 use Prim.Native.Nat.{ℕ}
 use mathlib.Core.Path.{_≡_}
 use mathlib.Core.List.{List, [], _∷_, map}
-use mathlib.Core.Bool.{Bool, cond, _&&_}
-use lib.Dec.{leb}
-use Rattle.names.specs.Keys.{keyOf}
+use mathlib.Core.Bool.{Bool, cond}
+use Rattle.names.specs.Keys.{keyOf, isPublic}
 use Rattle.refusal.specs.Refusal.{accepted}
 use Rattle.table.specs.Event.{Attribute, TagKind, Event, Tag, Piece, Eof, Fault, resolve}
 use Rattle.table.specs.Table.{tableOf}
 
--- "Public keys: name, classname, uuid, timestamp, time, tests, failures, errors, skipped, disabled, assertions": codes 1 to 11
-abbrev pub isPublicCode : ℕ → Bool
-isPublicCode c = leb 1 c && leb c 11
-
+-- whether a key is public: the table of keys says so
 abbrev pub isPublicKey : List ℕ → Bool
-isPublicKey key = isPublicCode (keyOf key)
+isPublicKey key = isPublic (keyOf key)
 
 -- "the same marks, the same key bytes, and the same value bytes under public keys"
 abbrev pub blanked : Attribute → Attribute

@@ -2,10 +2,10 @@
 --
 -- Whoever wants to be sure that this is what document 01 asks for reads these definitions, each beside the sentence of 01 that it states:
 --   tableOf, resolve (crate table: Table, Event)       refusal 11; a table's events with their bytes and attributes
---   reading (crate machine: Reading)                   what reading answers and leaves in its areas: the promise of the call
---   deserialize (crate machine: Reading)               the report that the rules of reading give for events, with no areas
---   render (crate line: Listing)                       the text of a report's listing
---   listingAnswer, outputOf (crate line: Listing)      what listing answers and leaves in the output area: the promise of the call
+--   reading (crate read_machine: Reading)                   what reading answers and leaves in its areas: the promise of the call
+--   deserialize (crate read_machine: Reading)               the report that the rules of reading give for events, with no areas
+--   render (crate list_text: Listing)                       the text of a report's listing
+--   listingAnswer, outputOf (crate list_text: Listing)      what listing answers and leaves in the output area: the promise of the call
 --   refusedText, publicListing (PublicListing)         both calls, one behind the other
 --   public, tablesAgree (Agree)                        the public part of a table; when two tables agree
 --   publicText (PublicMachine)                         the listing as read from public events alone, with no areas and no private text
@@ -20,8 +20,10 @@ use mathlib.Core.Option.{some}
 use mathlib.Core.Logic.{_⊎_, _↔_}
 use lib.Dec.{leb}
 use lib.ListN.{length}
-use Rattle.refusal.specs.Refusal.{accepted}
+use Rattle.refusal.specs.Refusal.{Refused, Outcome, accepted, refused}
+use Rattle.refusal.specs.declared.Cause.the-variants.{RecordsSpent, TextFull, ScratchFull}
 use Rattle.table.specs.Event.{Event, resolve}
+use Rattle.table.specs.Table.{tableOf}
 use Rattle.tree_report.specs.Report.{Report}
 use Rattle.read_machine.specs.Reading.{reading, deserialize}
 use Rattle.list_text.specs.Listing.{PublicCase, publicPart, render}
@@ -47,9 +49,13 @@ pub record Areas : Type 0 where
 abbrev pub eventsOf : Table → List Event
 eventsOf t = resolve (t .events) (t .attributes) (t .source)
 
+-- what reading answers
+abbrev pub answerTo : Table → Areas → Outcome (Unit {0})
+answerTo t a = reading (t .events) (t .attributes) (t .source) (a .words) (a .text) (a .scratch) .outcome
+
 -- "Accepted means not refused by reading."
 abbrev pub isRead : Table → Areas → Bool
-isRead t a = isAccepted (reading (t .events) (t .attributes) (t .source) (a .words) (a .text) (a .scratch) .outcome)
+isRead t a = isAccepted (answerTo t a)
 
 -- "The public listing of a table"
 abbrev pub listing : Table → Areas → List ℕ
@@ -75,6 +81,18 @@ casesOf r = casesOfAll (publicPart r .suites)
 abbrev pub TooShort : Table → Areas → Type 0
 TooShort t a = (r : Report) × IsReport t r × (a .output < length (render r))
 
+-- why reading refuses with r: 11, "Refusal 11 comes first"
+abbrev pub RefusesTable : Table → Refused → Type 0
+RefusesTable t r = tableOf (t .events) (t .attributes) (t .source) ≡ refused r
+
+-- the rules of reading refuse the table's events, whatever the areas
+abbrev pub RefusesEvents : Table → Refused → Type 0
+RefusesEvents t r = deserialize (eventsOf t) ≡ refused r
+
+-- room is short: 12, 13, 14
+abbrev pub LacksRoom : Refused → Type 0
+LacksRoom r = (r .cause ≡ RecordsSpent) ⊎ ((r .cause ≡ TextFull) ⊎ (r .cause ≡ ScratchFull))
+
 -- an accepted table's report, and what is listed
 pub record Listed (t : Table) (a : Areas) : Type 0 where
   pub report : Report
@@ -95,3 +113,8 @@ pub record Demand3 : Type 0 where
   pub listed : (t : Table) (a : Areas) → isRead t a ≡ true → Listed t a
   -- D. The answer is `(refused)` exactly where reading refuses or the output area is too short.
   pub refusedExactly : (t : Table) (a : Areas) → (listing t a ≡ refusedText) ↔ ((isRead t a ≡ false) ⊎ TooShort t a)
+  -- D. Reading refuses exactly if 11 does, or the rules of reading do, or room is short.
+  pub readRefuses : (t : Table) (a : Areas) →
+      (isRead t a ≡ false) ↔ ((r : Refused) × (RefusesTable t r ⊎ (RefusesEvents t r ⊎ ((answerTo t a ≡ refused r) × LacksRoom r))))
+  -- D. What it answers then is that refusal.
+  pub refusesAlike : (t : Table) (a : Areas) (r : Refused) → answerTo t a ≡ refused r → RefusesTable t r ⊎ (RefusesEvents t r ⊎ LacksRoom r)

@@ -9,10 +9,11 @@ use Rattle.refusal.specs.Refusal.{nowhere}
 use Rattle.refusal.specs.declared.Cause.{Cause}
 use Rattle.refusal.specs.declared.Cause.the-variants.{MissingReport, StatusRule}
 use Rattle.table.specs.Event.{Attribute}
-use Rattle.tree_report.specs.Status.{Tally, ruled}
+use Rattle.tree_status.specs.declared.Tally.{Tally}
+use Rattle.tree_status.specs.Status.{ruled}
 use Rattle.read_element.specs.Outcome.{Place, Rooms, need}
 use Rattle.read_state.specs.Control.{Level, top, suite, case, status, Output, at, gathering, listing, Control, control, openList, readProperty, orSkip, turn}
-use Rattle.read_state.specs.Coded.{modeAt, closing, actIn, isStep}
+use Rattle.read_state.specs.inside.Coded.{modeAt, closing, actIn, isStep}
 use Rattle.read_state.specs.declared.Mode.{Mode as CodedMode}
 use Rattle.read_state.specs.declared.Mode.the-variants as mode
 use Rattle.read_state.specs.declared.Output.{Output as CodedOutput}
@@ -20,13 +21,13 @@ use Rattle.read_state.specs.declared.Act.{Act as CodedAct}
 use Rattle.read_state.specs.declared.Act.the-variants as act
 use Rattle.read_place.specs.Marks.{Marks, marksAfter}
 use Rattle.read_content.specs.Content.{Content, propertyKind, recordOf, adding, describing, outputting, perform}
-use Rattle.read_content.specs.Holds.{killWords, Holds, Listed, Opened, Lists, isAt, isText, isList, hasList, came, Performs, faultOf, listOf, withList, statusEnd}
+use Rattle.read_content.specs.inside.Holds.{killWords, Holds, Listed, Opened, Lists, isAt, isText, isList, hasList, came, Performs, faultOf, listOf, withList, statusEnd}
 use Rattle.read_content.specs.declared.List.{List as CodedList}
 use Rattle.read_content.specs.declared.Content.{Content as CodedContent}
 use Rattle.read_content.specs.declared.Performed.{Performed}
 use Rattle.read_content.specs.declared.Performed.the-variants.{To, Not}
 use Rattle.read_content.proofs.Areas.{fits-words}
-use Rattle.read_content.proofs.Keeping.{halts}
+use Rattle.read_content.proofs.Refusing.{halts}
 use Rattle.read_opening.proofs.Opening.{comes-on, list-opened}
 
 no : {A : Type 0} → _≡_ {A = Bool} false true → A
@@ -97,9 +98,9 @@ module _ (k : CodedMode) (l : Level) (o : Output) (seen closed : Bool) (t : Tall
     unfolding perform
     acted-missing q = halts p MissingReport pa refl q
 
-    pub acted-broken : (cause : Cause) → r ≡ Not (faultOf cause) → Acted (act.Broken cause) k l o seen closed t name m p rooms j xs words text scratch attributes source s r
+    pub acted-broken : (why : Cause) → r ≡ Not (faultOf why) → Acted (act.Broken why) k l o seen closed t name m p rooms j xs words text scratch attributes source s r
     unfolding perform
-    acted-broken cause q = halts p cause pa refl q
+    acted-broken why q = halts p why pa refl q
 
   -- ---- acts of one mode
   module _ {r : Performed} (li : Lists (modeAt k l o) m c s) where

@@ -9,10 +9,11 @@ use Rattle.refusal.specs.Refusal.{nowhere}
 use Rattle.refusal.specs.declared.Cause.{Cause}
 use Rattle.refusal.specs.declared.Cause.the-variants.{MissingReport, StatusRule}
 use Rattle.table.specs.Event.{Attribute}
-use Rattle.tree_report.specs.Status.{Tally, ruled}
+use Rattle.tree_status.specs.declared.Tally.{Tally}
+use Rattle.tree_status.specs.Status.{ruled}
 use Rattle.read_element.specs.Outcome.{Place, Rooms, need}
 use Rattle.read_state.specs.Control.{Level, top, suite, case, status, Output, at, gathering, listing, Control, control, orSkip, turn}
-use Rattle.read_state.specs.Coded.{levelOf, modeAt, opening, closing, actIn, isStep}
+use Rattle.read_state.specs.inside.Coded.{levelOf, modeAt, opening, closing, actIn, isStep}
 use Rattle.read_state.specs.declared.Level.{Level as CodedLevel}
 use Rattle.read_state.specs.declared.Level.the-variants as level
 use Rattle.read_state.specs.declared.Mode.{Mode as CodedMode}
@@ -22,12 +23,12 @@ use Rattle.read_state.specs.declared.Act.{Act as CodedAct}
 use Rattle.read_state.specs.declared.Act.the-variants as act
 use Rattle.read_place.specs.Marks.{Marks, marksAfter}
 use Rattle.read_content.specs.Content.{Content, propertyKind, recordOf, adding, describing, outputting, perform}
-use Rattle.read_content.specs.Holds.{killWords, Holds, Opened, Lists, Carries, Holding, opens, isAt, isText, isList, hasList, apt, came, Performs, faultOf, listOf, withList, statusEnd}
+use Rattle.read_content.specs.inside.Holds.{killWords, Holds, Opened, Lists, Carries, Holding, opens, isAt, isText, isList, hasList, apt, came, Performs, faultOf, listOf, withList, statusEnd}
 use Rattle.read_content.specs.declared.Content.{Content as CodedContent}
 use Rattle.read_content.specs.declared.Performed.{Performed}
 use Rattle.read_content.specs.declared.Performed.the-variants.{To, Not}
 use Rattle.read_content.proofs.Areas.{fits-words, fits-text, fits-scratch}
-use Rattle.read_content.proofs.Keeping.{halts}
+use Rattle.read_content.proofs.Refusing.{halts}
 use Rattle.read_opening.proofs.Opening.{comes-on, list-opened, opens-bounds, few-properties}
 
 no : {A : Type 0} → _≡_ {A = Bool} false true → A
@@ -155,9 +156,9 @@ module _ (l : Level) (o : Output) (seen closed : Bool) (t : Tally) (name : List 
   unfolding perform
   missing-in k pa q = halts p MissingReport pa refl q
 
-  broken-in : (k : CodedMode) (cause : Cause) → p .attribute ≡ nowhere → r ≡ Not (faultOf cause) → In k (act.Broken cause)
+  broken-in : (k : CodedMode) (why : Cause) → p .attribute ≡ nowhere → r ≡ Not (faultOf why) → In k (act.Broken why)
   unfolding perform
-  broken-in k cause pa q = halts p cause pa refl q
+  broken-in k why pa q = halts p why pa refl q
 
   close-in : (k : CodedMode) → isAt (modeAt k l o) ≡ true → Lists (modeAt k l o) m c s
       → (Lists (at l) m c s → Performs (turn (closing l) (standing k l o seen closed t) .mode) (marksAfter (closing l) (length (s .records)) m) p words text scratch attributes source (perform rooms p (closing l) j xs (standing k l o seen closed t) m s) r)
@@ -234,8 +235,8 @@ module _ (l : Level) (o : Output) (seen closed : Bool) (t : Tally) (name : List 
       pub acted-missing : a ≡ act.Missing → r ≡ Not (faultOf MissingReport) → In k a
       acted-missing e q = turn-to e (λ x. missing-in k pa q) h
 
-      pub acted-broken : {cause : Cause} → a ≡ act.Broken cause → r ≡ Not (faultOf cause) → In k a
-      acted-broken {cause} e q = turn-to e (λ x. broken-in k cause pa q) h
+      pub acted-broken : {why : Cause} → a ≡ act.Broken why → r ≡ Not (faultOf why) → In k a
+      acted-broken {why} e q = turn-to e (λ x. broken-in k why pa q) h
 
 -- ---- closing
 module _ (cl : CodedLevel) (k : Control) (m : Marks) (p : Place) (rooms : Rooms) (j : ℕ) (xs : List Attribute)

@@ -1,20 +1,20 @@
 // What each action does.
-use read_attributes::Range;
+use read_attribute::Range;
 use read_content::Content;
 use read_content::Performed;
-use read_content::kill::open_list;
 use read_content::refused;
-use read_content::texts::close_status;
-use read_content::texts::close_text;
+use read_lists::open_list;
+use read_opening::open_element;
+use read_opening::read_property;
+use read_place::Marks;
 use read_state::Act;
 use read_state::Control;
 use read_state::Level;
-use read_state::Tally;
-use read_state::is_ruled;
-use read_place::Marks;
-use read_opening::open_element;
-use read_opening::read_property;
+use read_texts::close_status;
+use read_texts::close_text;
 use refusal::Cause;
+use tree_status::Tally;
+use tree_status::is_ruled;
 ghost use mathlib.Core.Path.{_≡_};
 ghost use mathlib.Core.Bool.{true};
 ghost use mathlib.Core.List.{List as Series};
@@ -25,11 +25,11 @@ ghost use Rattle.table.specs.Event.{Attribute, attributesFrom};
 ghost use Rattle.read_element.specs.Outcome.{Place, Rooms};
 ghost use Rattle.read_state.specs.Control.{at, turn};
 ghost use Rattle.read_state.specs.Control as plan;
-ghost use Rattle.read_state.specs.Coded.{levelOf, modeOf, tallyOf, controlOf, closing, actOf, turned};
+ghost use Rattle.read_state.specs.inside.Coded.{levelOf, modeOf, controlOf, closing, actOf, turned};
 ghost use Rattle.read_place.specs.Marks.{marksAfter};
-ghost use Rattle.read_place.specs.Coded.{marksOf};
+ghost use Rattle.read_place.specs.inside.Coded.{marksOf};
 ghost use Rattle.read_content.specs.Content as done;
-ghost use Rattle.read_content.specs.Holds.{Holds, Lists, Sized, Carries, Performs, apt, statusEnd};
+ghost use Rattle.read_content.specs.inside.Holds.{Holds, Lists, Sized, Carries, Performs, apt, statusEnd};
 
 fn close(
     level: Level,
@@ -44,7 +44,7 @@ fn close(
     requires { ⌜ content .fill ≤ length (now text) ⌝ }
     requires { ⌜ content .description ≤ length (now scratch) ⌝ }
     requires { ⌜ statusEnd (levelOf level) (marksOf marks) * 32 ≤ length (now records) ⌝ }
-    ensures { λ r. ⌜ ((rooms : Rooms) (p : Place) (s : done.Content) (k : plan.Control) (j : ℕ) (xs : Series Attribute) (attributes source : Series ℕ) → p .attribute ≡ nowhere → k .tally ≡ tallyOf tally → Holds (now (records .entry)) (now (text .entry)) (now (scratch .entry)) attributes source content s → Lists (at (levelOf level)) (marksOf marks) content s → Sized rooms (length (now (records .entry))) (length (now (text .entry))) (length (now (scratch .entry))) → Performs (turn (closing (levelOf level)) k .mode) (marksAfter (closing (levelOf level)) (length (s .records)) (marksOf marks)) p (now (records .exit)) (now (text .exit)) (now (scratch .entry)) attributes source (done.perform rooms p (closing (levelOf level)) j xs k (marksOf marks) s) r) ⌝ }
+    ensures { λ r. ⌜ ((rooms : Rooms) (p : Place) (s : done.Content) (k : plan.Control) (j : ℕ) (xs : Series Attribute) (attributes source : Series ℕ) → p .attribute ≡ nowhere → k .tally ≡ tally → Holds (now (records .entry)) (now (text .entry)) (now (scratch .entry)) attributes source content s → Lists (at (levelOf level)) (marksOf marks) content s → Sized rooms (length (now (records .entry))) (length (now (text .entry))) (length (now (scratch .entry))) → Performs (turn (closing (levelOf level)) k .mode) (marksAfter (closing (levelOf level)) (length (s .records)) (marksOf marks)) p (now (records .exit)) (now (text .exit)) (now (scratch .entry)) attributes source (done.perform rooms p (closing (levelOf level)) j xs k (marksOf marks) s) r) ⌝ }
 {
     match level {
         Level::Top => Performed::To(content),

@@ -11,10 +11,11 @@ use Rattle.names.specs.Names.{sameBytes}
 use Rattle.table.specs.Event.{keyAt, markAt, attributesFrom}
 use Rattle.read_element.specs.Outcome.{Place, Rooms}
 use Rattle.read_element.specs.Attributes.{Given, among, numbered, readAttributes}
-use Rattle.read_element.specs.Held.{keysOf}
-use Rattle.read_attributes.specs.Steps.{Free, knownOf}
-use Rattle.read_attributes.specs.declared.Range.{Range}
+use Rattle.read_element.specs.inside.Held.{keysOf}
+use Rattle.read_attributes.specs.inside.Elements.{Free, knownOf}
+use Rattle.read_attribute.specs.declared.Range.{Range}
 use Rattle.read_element.proofs.TreeOutcome.{Holds, accept, refuse, bind, weaken, needed}
+use Rattle.refusal.specs.declared.Cause.the-variants as cause
 
 or-false : (a b : Bool) → (a || b) ≡ false → (a ≡ false) × (b ≡ false)
 or-false true b e = let z : _≡_ {A = ℕ} 0 1 = cc in absurd (omega arith)
@@ -108,7 +109,7 @@ module _ (attributes source : List ℕ) (rooms : Rooms) (p : Place) (used kind f
   free-from (suc n) j g h f =
       let key : List ℕ = keyAt attributes source j in
       let keys : List (List ℕ) = keysOf (attributesFrom attributes source (j - first) first) in
-      bind (needed (markAt attributes j && not (among key keys)) (numbered p j) 9 (λ e. always _ (not-true (among key keys) (and-true (markAt attributes j) (not (among key keys)) e .1))))
+      bind (needed (markAt attributes j) (numbered p j) cause.FaultyAttribute λ _. needed (not (among key keys)) (numbered p j) cause.RepeatedKey (λ e. always _ (not-true (among key keys) e)))
       (λ g′ q. subst (λ (ks : List (List ℕ)). Holds (λ _. Free attributes source first (j + suc n)) (readAttributes rooms p used kind ks (j + 1) (attributesFrom attributes source n (j + 1)) g′))
       (keys-next attributes source first j h)
       (weaken (free-from n (j + 1) g′ (omega arith) (free-more attributes source first j f q)) (λ _ r i k a b c. r i k a b (omega arith))))

@@ -1,7 +1,7 @@
 -- An element's attributes, one after the other, against the definition. Assumes nothing.
 use Prim.Native.Nat.{ℕ, _+_, _-_, _*_, _/_, _≤_, _<_}
 use mathlib.Core.Path.{_≡_, refl, sym, ap, subst, _∙_}
-use mathlib.Core.Bool.{Bool, true, false, not, _&&_}
+use mathlib.Core.Bool.{Bool, true, false, not}
 use mathlib.Core.List.{List, [], _∷_, _++_}
 use mathlib.Core.Option.{none, some}
 use native.Mathlib.Omega.{arith}
@@ -15,14 +15,16 @@ use Rattle.table.specs.Event.{Attribute, markAt, keyAt, attributeAt, attributes
 use Rattle.table.proofs.Resolving.{attributes-end, attributes-next}
 use Rattle.read_element.specs.Outcome.{_>>=_, Place, Rooms, need, fits}
 use Rattle.read_element.specs.Attributes.{Given, byRole, among, numbered, readAttributes}
-use Rattle.read_element.specs.Held.{keysOf, Held, Roomy}
-use Rattle.read_attributes.specs.Steps.{Free, faultAt, Matches, went, stopped}
-use Rattle.read_extras.specs.declared.Given.{Given as Counted}
-use Rattle.read_attributes.specs.declared.Fault.{Fault}
-use Rattle.read_attributes.specs.declared.Step.{Step}
-use Rattle.read_attributes.specs.declared.Step.the-variants as step
+use Rattle.read_element.specs.inside.Held.{keysOf, Held, Roomy}
+use Rattle.read_attribute.specs.inside.Steps.{faultAt, Matches, went, stopped}
+use Rattle.read_attributes.specs.inside.Elements.{Free}
+use Rattle.read_extra_record.specs.declared.Given.{Given as Counted}
+use Rattle.read_attribute.specs.declared.Fault.{Fault}
+use Rattle.read_attribute.specs.declared.Step.{Step}
+use Rattle.read_attribute.specs.declared.Step.the-variants as step
 use Rattle.read_attributes.proofs.HeldBounds.{held-fill, held-extras}
 use Rattle.read_attributes.proofs.FreeKeys.{keys-next, free-key}
+use Rattle.refusal.specs.declared.Cause.the-variants as cause
 
 -- areas of any lengths have rooms
 abbrev pub spacious : ℕ → ℕ → Rooms
@@ -54,8 +56,9 @@ halted stopped = refl
 -- the definition's attribute j
 abbrev attributeStep : List ℕ → List ℕ → ℕ → ℕ → Rooms → Place → ℕ → ℕ → Given → Outcome Given
 attributeStep attributes source kind first rooms p used j g =
-    need (markAt attributes j && not (among (keyAt attributes source j) (keysOf (attributesFrom attributes source (j - first) first)))) (numbered p j) 9
-    (byRole rooms (numbered p j) used kind (keyOf (keyAt attributes source j)) (roleOf kind (keyOf (keyAt attributes source j))) (attributeAt attributes source j) g)
+    need (markAt attributes j) (numbered p j) cause.FaultyAttribute
+    (need (not (among (keyAt attributes source j) (keysOf (attributesFrom attributes source (j - first) first)))) (numbered p j) cause.RepeatedKey
+    (byRole rooms (numbered p j) used kind (keyOf (keyAt attributes source j)) (roleOf kind (keyOf (keyAt attributes source j))) (attributeAt attributes source j) g))
 
 -- what `step_attribute` says of attribute j
 abbrev Stepped : List ℕ → List ℕ → ℕ → ℕ → Bool → ℕ → Counted → List ℕ → List ℕ → List ℕ → List ℕ → Step → Type 0

@@ -12,22 +12,25 @@ use Rattle.area.specs.Area.{zeros}
 use Rattle.refusal.specs.Refusal.{nowhere, Outcome, accepted, refused}
 use Rattle.refusal.specs.declared.Cause.the-variants.{MissingAttribute, RecordsSpent}
 use Rattle.table.specs.Event.{Attribute, attributesFrom}
-use Rattle.tree_put.specs.Put.{maskOf, hasBit}
+use Rattle.tree_record.specs.Record.{maskOf, hasBit}
 use Rattle.read_element.specs.Outcome.{_>>=_, Place, Rooms, need, within, fits}
 use Rattle.read_element.specs.Attributes.{Given, Grown, readAttributes, complete, readElement}
-use Rattle.read_element.specs.Held.{flat, Held, Roomy}
-use Rattle.read_attributes.specs.Steps.{faultAt, faultElement, missingOf, Free, knownOf, fresh, Matches, Becomes, became, faulted}
-use Rattle.read_extras.specs.declared.Given.{Given as Counted}
-use Rattle.read_attributes.specs.declared.Fault.{Fault}
-use Rattle.read_attributes.specs.declared.Range.{Range}
-use Rattle.read_attributes.specs.declared.Step.{Step}
-use Rattle.read_attributes.specs.declared.Step.the-variants as step
+use Rattle.utf8.specs.Characters.{joined}
+use Rattle.read_element.specs.inside.Held.{Held, Roomy}
+use Rattle.read_attribute.specs.inside.Steps.{faultAt, Matches}
+use Rattle.read_attributes.specs.inside.Elements.{faultElement, missingOf, Free, knownOf, fresh, Becomes, became, faulted}
+use Rattle.read_extra_record.specs.declared.Given.{Given as Counted}
+use Rattle.read_attribute.specs.declared.Fault.{Fault}
+use Rattle.read_attribute.specs.declared.Range.{Range}
+use Rattle.read_attribute.specs.declared.Step.{Step}
+use Rattle.read_attribute.specs.declared.Step.the-variants as step
 use Rattle.read_attributes.specs.declared.Element.{Element}
 use Rattle.read_attributes.specs.declared.Element.the-variants as element
 use Rattle.read_element.proofs.TreeOutcome.{Holds, held}
 use Rattle.read_attributes.proofs.HeldBounds.{held-extras}
 use Rattle.read_attributes.proofs.FreeKeys.{free-read, free-either}
 use Rattle.read_attributes.proofs.Going.{spacious, somewhere, roomy-spacious, Gone, gone, halted}
+use Rattle.refusal.specs.declared.Cause.the-variants as cause
 
 -- the areas before the first attribute, with the kind put
 pub begun : (kind fill : ℕ) (own text : List ℕ) → own ≡ zeros (length own) → 32 ≤ length own → fill ≤ length text → drop fill text ≡ zeros (length text - fill)
@@ -54,7 +57,7 @@ lacking k = record { cause = MissingAttribute; key = k; attribute = nowhere }
 
 module _ (p : Place) (g : Given) where
   lacks : p .attribute ≡ nowhere → (a b c d : Bool) (k : ℕ) → k ≡ cond (a && not b) 1 (cond (c && not d) 14 0) → (k ≡ 0 → ⊥)
-      → need (not a || b) (within p 1) 7 (need (not c || d) (within p 14) 7 (accepted g)) ≡ refused (faultAt p (lacking k))
+      → need (not a || b) (within p 1) cause.MissingAttribute (need (not c || d) (within p 14) cause.MissingAttribute (accepted g)) ≡ refused (faultAt p (lacking k))
   unfolding need
   lacks w true true true true k e h = absurd (h e)
   lacks w true true true false k e h = rw (e, w) refl
@@ -65,7 +68,7 @@ module _ (p : Place) (g : Given) where
   lacks w false b false d k e h = absurd (h e)
 
   lacks-none : (a b c d : Bool) (k : ℕ) → k ≡ cond (a && not b) 1 (cond (c && not d) 14 0) → k ≡ 0
-      → need (not a || b) (within p 1) 7 (need (not c || d) (within p 14) 7 (accepted g)) ≡ accepted g
+      → need (not a || b) (within p 1) cause.MissingAttribute (need (not c || d) (within p 14) cause.MissingAttribute (accepted g)) ≡ accepted g
   unfolding need
   lacks-none true true true true k e h = refl
   lacks-none true true true false k e h = absurd (omega arith)
@@ -80,7 +83,7 @@ missing-held : (kind : ℕ) {own text : List ℕ} {extras fill : ℕ} {g : Given
 missing-held kind {own} {text} {extras} {fill} {g} hd =
     let m = hd .main-words in
     ap (λ (w : ℕ). cond ((leb 2 kind && leb kind 5) && not (eqb (w / maskOf 0 % 2) 1)) 1 (cond ((leb 4 kind && leb kind 5) && not (eqb (w / maskOf 1 % 2) 1)) 14 0))
-    (ap (λ (x : List ℕ). getD x 1 0) (hd .records) ∙ List·getD-append (g .main) (flat (g .extras) ++ zeros (hd .room)) 0 1 (omega arith))
+    (ap (λ (x : List ℕ). getD x 1 0) (hd .records) ∙ List·getD-append (g .main) (joined (g .extras) ++ zeros (hd .room)) 0 1 (omega arith))
 
 -- ---- an element's outcome
 abbrev rest : Place → ℕ → List (List ℕ) → Given → Outcome Grown
@@ -88,16 +91,16 @@ rest p kind before g = complete p kind g >>= λ h. accepted (record { records = 
 
 module _ {rooms : Rooms} (p : Place) (before : List (List ℕ)) {n m : ℕ} (ro : Roomy rooms (length before) n m) (kind j : ℕ) (xs : List Attribute) (texts : List ℕ) where
   opened : {b : Bool} → fits (rooms .records) (length before + 1) ≡ b
-      → readElement rooms p kind j xs before texts ≡ (need b p 12 (readAttributes rooms p (length before) kind [] j xs (fresh kind texts)) >>= rest p kind before)
+      → readElement rooms p kind j xs before texts ≡ (need b p cause.RecordsSpent (readAttributes rooms p (length before) kind [] j xs (fresh kind texts)) >>= rest p kind before)
   unfolding readElement
-  opened e = ap (λ (t : Bool). need t p 12 (readAttributes rooms p (length before) kind [] j xs (fresh kind texts)) >>= rest p kind before) e
+  opened e = ap (λ (t : Bool). need t p cause.RecordsSpent (readAttributes rooms p (length before) kind [] j xs (fresh kind texts)) >>= rest p kind before) e
 
   pub element-spent : n < 32 → p .attribute ≡ nowhere → {own text attributes source : List ℕ} {t : Element} → t ≡ faultElement RecordsSpent 0 nowhere
       → Becomes p before own text attributes source (readElement rooms p kind j xs before texts) t
   unfolding need _>>=_
   element-spent h w {own} {text} {attributes} {source} {t} q =
       let f : Fault = record { cause = RecordsSpent; key = 0; attribute = nowhere } in
-      let e : (need false p 12 (readAttributes rooms p (length before) kind [] j xs (fresh kind texts)) >>= rest p kind before) ≡ refused (faultAt p f) = rw w refl in
+      let e : (need false p cause.RecordsSpent (readAttributes rooms p (length before) kind [] j xs (fresh kind texts)) >>= rest p kind before) ≡ refused (faultAt p f) = rw w refl in
       subst (λ (t : Element). Becomes p before own text attributes source (readElement rooms p kind j xs before texts) t) (sym q)
       (subst (λ (o : Outcome Grown). Becomes p before own text attributes source o (element.Not f)) (sym (opened (ro .for-records 1 ∙ lt-leb (1 * 32) n (omega arith)) ∙ e)) faulted)
 

@@ -4,9 +4,9 @@ use mathlib.Core.List.{List}
 use native.Mathlib.Omega.{arith}
 use lib.ListN.{length}
 use Rattle.read_element.specs.Attributes.{Given}
-use Rattle.read_element.specs.Held.{Held}
-use Rattle.read_extras.proofs.Storing.{text-size}
-use Rattle.read_extras.proofs.NewExtras.{own-size}
+use Rattle.read_element.specs.inside.Held.{Held}
+use Rattle.read_extra_record.proofs.Storing.{text-size}
+use Rattle.read_extra_record.proofs.NewExtras.{own-size}
 
 pub held-fill : {own text : List ℕ} {extras fill : ℕ} {g : Given} → Held own text extras fill g → fill ≤ length text
 held-fill {own} {text} {extras} {fill} {g} hd =

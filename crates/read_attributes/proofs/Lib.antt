@@ -1,9 +1,5 @@
 pub mod Missing
-pub mod Valuing
 pub mod HeldBounds
-pub mod ValueRoles
-pub mod RoleKeys
-pub mod Matching
 pub mod FreeKeys
 pub mod Going
 pub mod Growing

@@ -4,8 +4,8 @@ use mathlib.Core.Path.{_≡_, sym, ap, _∙_}
 use mathlib.Core.Bool.{Bool, true, false, cond, not, _&&_}
 use mathlib.Core.List.{List}
 use lib.Dec.{leb}
-use Rattle.tree_put.specs.Put.{hasBit}
-use Rattle.read_attributes.specs.Steps.{missingOf}
+use Rattle.tree_record.specs.Record.{hasBit}
+use Rattle.read_attributes.specs.inside.Elements.{missingOf}
 
 module _ (kind : ℕ) (r : List ℕ) {t : Bool} (e : t ≡ hasBit 0 r) where
   first : {b : Bool} → ((leb 2 kind && leb kind 5) && not t) ≡ b → missingOf kind r ≡ cond b 1 (cond ((leb 4 kind && leb kind 5) && not (hasBit 1 r)) 14 0)

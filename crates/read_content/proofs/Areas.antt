@@ -9,7 +9,7 @@ use Rattle.area.specs.Area.{zeros}
 use Rattle.area.proofs.Parts.{rest-part}
 use Rattle.utf8.specs.Characters.{joined}
 use Rattle.read_content.specs.Content.{Content}
-use Rattle.read_content.specs.Holds.{Holds}
+use Rattle.read_content.specs.inside.Holds.{Holds}
 use Rattle.read_content.specs.declared.Content.{Content as CodedContent}
 use Rattle.read_content.proofs.Records.{joined-size}
 

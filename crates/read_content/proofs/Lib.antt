@@ -2,7 +2,6 @@ pub mod Records
 pub mod Killing
 pub mod Listing
 pub mod Areas
-pub mod Keeping
-pub mod Gathering
+pub mod Refusing
 pub mod Plans
-pub mod Beginning
+pub mod Examples

@@ -1,5 +1,5 @@
 -- Properties lists: their records stay those of the kind. Assumes nothing.
-use Prim.Native.Nat.{ℕ, _+_, _-_, _≤_, _<_}
+use Prim.Native.Nat.{ℕ, _+_, _≤_, _<_}
 use mathlib.Core.Path.{_≡_, refl, sym, ap, _∙_}
 use mathlib.Core.Bool.{Bool, true, false}
 use mathlib.Core.List.{List, [], _∷_}
@@ -8,10 +8,11 @@ use lib.Dec.{ltb, leb, eqb, lit≤}
 use lib.ListN.{length, getD}
 use borrow.Author.Tests.{ltb-true, ltb-false, leb-true, leb-false, eqb-true, eqb-false}
 use Rattle.read_element.specs.Attributes.{extraKind}
-use Rattle.read_state.specs.Control.{Level, top, suite, case, status}
+use Rattle.read_state.specs.Control.{Level, top, suite, case, status, Mode, at, gathering, listing, skipping, finished}
 use Rattle.read_place.specs.Marks.{Marks}
+use Rattle.read_place.specs.inside.Coded.{goTo}
 use Rattle.read_content.specs.Content.{Content, killed, killAll, killKind}
-use Rattle.read_content.specs.Holds.{Whole, kindIn, Dead, Listed, Opened, Added, noList}
+use Rattle.read_content.specs.inside.Holds.{Whole, kindIn, Dead, Listed, Opened, Lists, Added, noList}
 use Rattle.read_content.specs.declared.List.{List as CodedList}
 use Rattle.read_content.specs.declared.Content.{Content as CodedContent}
 use Rattle.read_content.proofs.Records.{killed-kind, kind-past, whole-at}
@@ -199,3 +200,18 @@ module _ (m : Marks) {kind : ℕ} {c c′ : CodedContent} {s s′ : Content} (a 
     rw (a .suite-list) (added-listed a d4 no-suite (lit≤ tt) (o .0)),
     (rw (a .case-list) (added-listed a d5 no-case (lit≤ tt) (o .1 .0)), let h = o .1 .1 in let x = a .more in omega arith),
   )
+
+-- ---- from event to event
+-- only the records of the open elements count
+opened-at : (l : Level) (e : ℕ) (m : Marks) (c : CodedContent) (s : Content) → Opened l m c s → Opened l (goTo e m) c s
+opened-at top e m c s o = o
+opened-at suite e m c s o = o
+opened-at case e m c s o = o
+opened-at status e m c s o = o
+
+pub lists-at : (mode : Mode) (e : ℕ) (m : Marks) (c : CodedContent) (s : Content) → Lists mode m c s → Lists mode (goTo e m) c s
+lists-at (at l) e m c s li = (opened-at l e m c s (li .0), li .1)
+lists-at (gathering l o) e m c s li = opened-at l e m c s li
+lists-at (listing l) e m c s li = (opened-at l e m c s (li .0), li .1)
+lists-at (skipping l name depth) e m c s li = li
+lists-at finished e m c s li = li

@@ -7,13 +7,14 @@ use native.Mathlib.Omega.{arith}
 use lib.Dec.{eqb}
 use Rattle.names.specs.Tags.{tagOf, testsuites, testsuite, testcase, properties, property, stackTrace, system-out, system-err}
 use Rattle.table.specs.Event.{TagKind, Start, Empty, End}
-use Rattle.read_state.specs.Control.{Level, top, suite, case, status, Output, Mode, at, gathering, listing, skipping, finished, Act, pass, openReport, openSuite, openCase, openStatus, closeSuite, closeCase, closeStatus, openText, closeText, openList, readProperty, stop, missing, broken, isStatus, orSkip, outputs, atTop, atSuite, atCase, child, atStatus, tagOfOutput, inText, inList, planAt, planEof}
-use Rattle.read_state.specs.Coded.{modeAt, opening, closing, actIn}
+use Rattle.read_state.specs.Control.{Level, top, suite, case, status, Output, Mode, at, gathering, listing, skipping, finished, Act, pass, openReport, openSuite, openCase, openStatus, closeSuite, closeCase, closeStatus, openText, closeText, openList, readProperty, stop, missing, broken, isStatus, orSkip}
+use Rattle.read_rules.specs.Rules.{outputs, atTop, atSuite, atCase, child, atStatus, tagOfOutput, inText, inList, planAt, planEof}
+use Rattle.read_state.specs.inside.Coded.{modeAt, opening, closing, actIn}
 use Rattle.read_state.specs.declared.Mode.{Mode as CodedMode}
 use Rattle.read_state.specs.declared.Mode.the-variants as mode
 use Rattle.read_state.specs.declared.Act.{Act as CodedAct}
 use Rattle.read_state.specs.declared.Act.the-variants as act
-use Rattle.read_content.specs.Holds.{apt}
+use Rattle.read_content.specs.inside.Holds.{apt}
 
 no : {A : Type 0} → _≡_ {A = Bool} false true → A
 no e = absurd (let z : _≡_ {A = ℕ} 0 1 = ap (λ (b : Bool). cond b 1 0) e in omega arith)
@@ -230,7 +231,7 @@ fit-apt mode.Text l o name act.ReadProperty h = no h
 fit-apt mode.List l o name act.ReadProperty h = refl
 fit-apt m l o name act.Stop h = refl
 fit-apt m l o name act.Missing h = refl
-fit-apt m l o name (act.Broken cause) h = refl
+fit-apt m l o name (act.Broken why) h = refl
 
 pub plan-apt : (m : CodedMode) (l : Level) (o : Output) (seen : Bool) (k : TagKind) (name : List ℕ) (a : CodedAct) → actIn (modeAt m l o) name a ≡ planAt (modeAt m l o) seen k name → apt a (modeAt m l o) ≡ true
 plan-apt m l o seen k name a e = fit-apt m l o name a (ap (fit m l) e ∙ fitted (plan-fit m l o seen k name))

@@ -1,5 +1,5 @@
 -- Records one behind the other in an area: what a change at one of them does to all. Assumes nothing.
-use Prim.Native.Nat.{ℕ, zero, suc, _+_, _-_, _*_, _≤_, _<_}
+use Prim.Native.Nat.{ℕ, zero, suc, _+_, _*_, _≤_, _<_}
 use mathlib.Core.Path.{_≡_, refl, sym, ap, _∙_}
 use mathlib.Core.Bool.{Bool, true, false, cond}
 use mathlib.Core.List.{List, [], _∷_, _++_, append-assoc}
@@ -7,19 +7,16 @@ use native.Mathlib.Omega.{arith}
 use lib.Dec.{ltb}
 use lib.ListN.{length, getD, set, take, drop, length-append, length-set, take-append-drop, List·getD-append, List·getD-eq-default}
 use lib.Seq.{take-at, drop-at, drop-drop, take-add, set-append-left, getD-append-add}
-use borrow.Author.Tests.{ltb-false, le-ltb, lt-ltb}
+use borrow.Author.Tests.{ltb-false, le-ltb}
 use Rattle.utf8.specs.Characters.{joined}
-use Rattle.tree_put.specs.Put.{marked, putPair, putText}
+use Rattle.tree_record.specs.Record.{marked}
+use Rattle.tree_put.specs.Put.{putPair, putText}
 use Rattle.tree_put.proofs.Puts.{pair-length, pair-other, text-length}
-use Rattle.tree_put.proofs.Marks.{marked-front, marked-behind, marked-other}
+use Rattle.tree_record.proofs.Marks.{marked-front, marked-behind, marked-other}
 use Rattle.read_element.specs.Attributes.{changed}
-use Rattle.read_element.specs.Held.{flat, Keyed}
+use Rattle.read_element.specs.inside.Held.{Keyed}
 use Rattle.read_content.specs.Content.{killed, kept}
-use Rattle.read_content.specs.Holds.{inRecord, Whole, kindIn}
-
-pub flat-joined : (rs : List (List ℕ)) → flat rs ≡ joined rs
-flat-joined [] = refl
-flat-joined (r ∷ rs) = ap (λ (l : List ℕ). r ++ l) (flat-joined rs)
+use Rattle.read_content.specs.inside.Holds.{inRecord, Whole, kindIn}
 
 pub joined-append : (rs qs : List (List ℕ)) → joined (rs ++ qs) ≡ joined rs ++ joined qs
 joined-append [] qs = refl
@@ -119,15 +116,6 @@ killed-size r = go (ltb (getD r 0 0) 16)
 -- ---- kinds of records killed
 pub killed-dead : (r : List ℕ) → 16 ≤ getD r 0 0 → killed r ≡ r
 killed-dead r h = ap (λ (b : Bool). cond b (set r 0 (getD r 0 0 + 16)) r) (le-ltb (getD r 0 0) 16 h)
-
--- as the code does it
-pub kill-put : (r : List ℕ) {kind : ℕ} {r′ : List ℕ} → kind ≡ getD r 0 0 → kind < 16 → r′ ≡ set r 0 (kind + 16) → r′ ≡ killed r
-kill-put r {kind} {r′} e h o =
-    let l : getD r 0 0 < 16 = omega arith in
-    o ∙ ap (λ (k : ℕ). set r 0 (k + 16)) e ∙ sym (ap (λ (b : Bool). cond b (set r 0 (getD r 0 0 + 16)) r) (lt-ltb (getD r 0 0) 16 l))
-
-pub kill-not : (r : List ℕ) {kind : ℕ} → kind ≡ getD r 0 0 → 16 ≤ kind → r ≡ killed r
-kill-not r e h = sym (killed-dead r (omega arith))
 
 -- a record that has words is dead then
 pub killed-kind : (r : List ℕ) → 1 ≤ length r → 16 ≤ getD (killed r) 0 0

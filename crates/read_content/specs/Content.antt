@@ -2,8 +2,8 @@
 use Prim.Native.Nat.{ℕ, zero, suc, _+_}
 use mathlib.Core.List.{List, [], _∷_, _++_}
 use mathlib.Core.Bool.{Bool, true, false, cond}
-use lib.ListN.{length, getD, set}
-use lib.Dec.{leb, ltb, eqb}
+use lib.ListN.{length, set}
+use lib.Dec.{leb, eqb}
 use Rattle.area.specs.Answer.{Answer, gives, refuses}
 use Rattle.utf8.specs.Utf8.{utf8}
 use Rattle.trim.specs.Trim.{trimmed}
@@ -11,13 +11,18 @@ use Rattle.text.specs.Filter.{filtered}
 use Rattle.reference.specs.Reference.{refsOk, decoded, isEntity, entityChar}
 use Rattle.refusal.specs.Refusal.{Outcome, accepted}
 use Rattle.table.specs.Event.{Attribute, PieceKind, Text, CData, Ref, Other, Indent}
-use Rattle.tree_report.specs.Status.{ruled}
+use Rattle.tree_record.specs.Words as word
+use Rattle.tree_record.specs.Bits as bit
+use Rattle.tree_record.specs.Kinds as kind
+use Rattle.tree_record.specs.Record.{kindOf, live}
+use Rattle.tree_status.specs.Status.{ruled}
 use Rattle.read_element.specs.Outcome.{_>>=_, Place, refusedAt, there, need, Rooms, fits}
 use Rattle.tree_put.specs.Put.{putText}
 use Rattle.read_element.specs.Attributes.{changed, storing, Grown, readElement}
 use Rattle.read_state.specs.Control.{Level, top, suite, case, status, Output, trace, out, err, Mode, at, gathering, listing, skipping, finished, Control}
 use Rattle.read_state.specs.Control.{Act, pass, openReport, openSuite, openCase, openStatus, closeSuite, closeCase, closeStatus, openText, closeText, openList, readProperty, stop, missing, broken}
 use Rattle.read_place.specs.Marks.{Marks}
+use Rattle.refusal.specs.declared.Cause.the-variants as cause
 
 -- the records, the texts stored, the open description and the text of a child: "An open description stays in scratch, with
 -- its child's text behind it."
@@ -30,7 +35,7 @@ pub record Content : Type 0 where
 -- ---- records
 -- "Replaced records are marked dead"
 abbrev pub killed : List ℕ → List ℕ
-killed r = cond (ltb (getD r 0 0) 16) (set r 0 (getD r 0 0 + 16)) r
+killed r = cond (live r) (set r word.kind (kindOf r + kind.dead)) r
 
 abbrev pub killAll : List (List ℕ) → List (List ℕ)
 killAll [] = []
@@ -38,16 +43,15 @@ killAll (r ∷ rs) = killed r ∷ killAll rs
 
 -- of the records from number i on, those of a kind
 abbrev pub killKind : ℕ → ℕ → List (List ℕ) → List (List ℕ)
-killKind kind i [] = []
-killKind kind zero (r ∷ rs) = cond (eqb (getD r 0 0) kind) (killed r) r ∷ killKind kind zero rs
-killKind kind (suc i) (r ∷ rs) = r ∷ killKind kind i rs
+killKind k i [] = []
+killKind k zero (r ∷ rs) = cond (eqb (kindOf r) k) (killed r) r ∷ killKind k zero rs
+killKind k (suc i) (r ∷ rs) = r ∷ killKind k i rs
 
--- a suite's property is 4, a case's 5
 abbrev pub propertyKind : Level → ℕ
-propertyKind suite = 4
-propertyKind case = 5
-propertyKind top = 4
-propertyKind status = 5
+propertyKind suite = kind.suiteProperty
+propertyKind case = kind.caseProperty
+propertyKind top = kind.suiteProperty
+propertyKind status = kind.caseProperty
 
 abbrev pub recordOf : Level → Marks → ℕ
 recordOf suite m = m .suiteAt
@@ -57,18 +61,18 @@ recordOf top m = 0
 
 -- the word and presence bit of an output
 abbrev pub wordOf : Output → ℕ
-wordOf out = 4
-wordOf err = 6
-wordOf trace = 22
+wordOf out = word.out
+wordOf err = word.err
+wordOf trace = word.stackTrace
 
 abbrev pub bitOf : Output → ℕ
-bitOf out = 1
-bitOf err = 2
-bitOf trace = 7
+bitOf out = bit.out
+bitOf err = bit.err
+bitOf trace = bit.stackTrace
 
 -- "The main's stack trace, outputs [..] are dropped": its record doesn't take them
 abbrev pub takes : Level → Marks → Bool
-takes status m = leb 9 (m .statusKind)
+takes status m = leb kind.flakyFailure (m .statusKind)
 takes suite m = true
 takes case m = true
 takes top m = false
@@ -80,9 +84,9 @@ kept false f r = r
 -- ---- pieces of text
 -- "pieces decoded one by one (2, 10, 14; CData has no references)", "A Ref event takes the five names only, else 8"
 unfoldable pub pieceOf : PieceKind → List ℕ → Answer (List ℕ)
-pieceOf Text s = cond (utf8 s) (cond (refsOk s 0) (gives (decoded s 0)) (refuses 10)) (refuses 2)
-pieceOf CData s = cond (utf8 s) (gives s) (refuses 2)
-pieceOf Ref s = cond (utf8 s) (cond (isEntity s) (gives (entityChar s ∷ [])) (refuses 8)) (refuses 2)
+pieceOf Text s = cond (utf8 s) (cond (refsOk s 0) (gives (decoded s 0)) (refuses cause.BadReference)) (refuses cause.NotUtf8)
+pieceOf CData s = cond (utf8 s) (gives s) (refuses cause.NotUtf8)
+pieceOf Ref s = cond (utf8 s) (cond (isEntity s) (gives (entityChar s ∷ [])) (refuses cause.UnknownEntity)) (refuses cause.NotUtf8)
 pieceOf Indent s = gives s
 pieceOf Other s = gives []
 
@@ -99,14 +103,14 @@ joinPiece finished v c = c
 unfoldable pub gather : Rooms → Place → Mode → PieceKind → List ℕ → Content → Outcome Content
 gather rooms p mode k s c =
     there p (pieceOf k s) >>= λ v.
-    need (fits (rooms .scratch) (length (c .description) + length (c .gathered) + length v)) p 14 (accepted (joinPiece mode v c))
+    need (fits (rooms .scratch) (length (c .description) + length (c .gathered) + length v)) p cause.ScratchFull (accepted (joinPiece mode v c))
 
 -- ---- actions
 abbrev pub grown : Content → Grown → Content
 grown c g = record { records = g .records; texts = g .texts; description = c .description; gathered = c .gathered }
 
 unfoldable pub adding : Rooms → Place → ℕ → ℕ → List Attribute → Content → Outcome Content
-adding rooms p kind j xs c = readElement rooms p kind j xs (c .records) (c .texts) >>= λ g. accepted (grown c g)
+adding rooms p k j xs c = readElement rooms p k j xs (c .records) (c .texts) >>= λ g. accepted (grown c g)
 
 abbrev pub withRecords : Content → List (List ℕ) → Content
 withRecords c rs = record { records = rs; texts = c .texts; description = c .description; gathered = c .gathered }
@@ -133,7 +137,7 @@ isEmpty (b ∷ s) = false
 unfoldable pub describing : Rooms → Place → Marks → Content → Outcome Content
 describing rooms p m c =
     cond (isEmpty (trimmed (c .description))) (accepted (withTexts c [] []))
-    (keeping rooms p true (m .statusAt) 20 6 (c .description) c >>= λ d. accepted (withTexts d [] []))
+    (keeping rooms p true (m .statusAt) word.description bit.description (c .description) c >>= λ d. accepted (withTexts d [] []))
 
 -- "an output is kept empty"
 unfoldable pub outputting : Rooms → Place → Level → Output → Marks → Content → Outcome Content
@@ -143,13 +147,13 @@ outputting rooms p l o m c =
 -- what an action does; j is the number of the tag's first attribute
 unfoldable pub perform : Rooms → Place → Act → ℕ → List Attribute → Control → Marks → Content → Outcome Content
 perform rooms p (pass n) j xs k m c = accepted c
-perform rooms p (openReport e) j xs k m c = adding rooms p 1 j xs (withRecords c (killAll (c .records)))
-perform rooms p (openSuite e) j xs k m c = adding rooms p 2 j xs c
-perform rooms p (openCase e) j xs k m c = adding rooms p 3 j xs c
+perform rooms p (openReport e) j xs k m c = adding rooms p kind.report j xs (withRecords c (killAll (c .records)))
+perform rooms p (openSuite e) j xs k m c = adding rooms p kind.suite j xs c
+perform rooms p (openCase e) j xs k m c = adding rooms p kind.case j xs c
 perform rooms p (openStatus s e) j xs k m c = adding rooms p s j xs c
 perform rooms p closeSuite j xs k m c = accepted c
 -- the status rule (8)
-perform rooms p closeCase j xs k m c = need (ruled (k .tally)) p 8 (accepted c)
+perform rooms p closeCase j xs k m c = need (ruled (k .tally)) p cause.StatusRule (accepted c)
 perform rooms p closeStatus j xs k m c = describing rooms p m c
 perform rooms p (openText l o) j xs k m c = accepted c
 perform rooms p (closeText l o) j xs k m c = outputting rooms p l o m c
@@ -157,5 +161,5 @@ perform rooms p (closeText l o) j xs k m c = outputting rooms p l o m c
 perform rooms p (openList l) j xs k m c = accepted (withRecords c (killKind (propertyKind l) (recordOf l m) (c .records)))
 perform rooms p (readProperty l) j xs k m c = adding rooms p (propertyKind l) j xs c
 perform rooms p stop j xs k m c = accepted c
-perform rooms p missing j xs k m c = refusedAt p 8
-perform rooms p (broken n) j xs k m c = refusedAt p n
+perform rooms p missing j xs k m c = refusedAt p cause.MissingReport
+perform rooms p (broken why) j xs k m c = refusedAt p why

@@ -1,2 +1,2 @@
 pub mod Content
-pub mod Holds
+pub mod inside

@@ -7,3 +7,4 @@ pub mod TreeGood
 pub mod TreeRoles
 pub mod TreeElement
 pub mod Taking
+pub mod Examples

@@ -17,16 +17,18 @@ use Rattle.read_keys.specs.declared.Role.{Role}
 use Rattle.read_keys.specs.declared.Role.the-variants as role
 use Rattle.read_keys.specs.Roles.{roleOf}
 use Rattle.read_element.specs.Attributes.{Given, placeOf, numbered, readText, oldExtra, newExtra, readExtra, byRole, readAttributes, readElement}
+use Rattle.refusal.specs.declared.Cause.the-variants as cause
+use Rattle.refusal.specs.declared.Cause.{Cause}
 
--- the numbers of records spent, text area too short, scratch too short
-abbrev pub IsShort : ℕ → Type 0
-IsShort n = (n ≡ 12) ⊎ ((n ≡ 13) ⊎ (n ≡ 14))
+-- records spent (12), text area too short (13), scratch too short (14)
+abbrev pub IsShort : Cause → Type 0
+IsShort why = (why ≡ cause.RecordsSpent) ⊎ ((why ≡ cause.TextFull) ⊎ (why ≡ cause.ScratchFull))
 
--- a refusal with such a number
+-- a refusal with such a cause
 pub data Short {A : Type 0} : Outcome A → Type 0 where
-  lacking : {r : Refused} → IsShort (r .number) → Short (refused r)
+  lacking : {r : Refused} → IsShort (r .cause) → Short (refused r)
 
-pub short-refusal : {A : Type 0} {m : Outcome A} → Short m → (r : Refused) × (m ≡ refused r) × IsShort (r .number)
+pub short-refusal : {A : Type 0} {m : Outcome A} → Short m → (r : Refused) × (m ≡ refused r) × IsShort (r .cause)
 short-refusal (lacking {r = r} h) = (r, refl, h)
 
 -- m is n, or m is short
@@ -44,9 +46,9 @@ accepts a same e = e
 accepts a (lacks (lacking h)) e = let z : _≡_ {A = ℕ} 0 1 = cc in absurd (omega arith)
 
 -- where m refuses, it is short, or n refuses alike
-pub refuses-so : {A : Type 0} {m n : Outcome A} (r : Refused) → Agrees m n → m ≡ refused r → IsShort (r .number) ⊎ (n ≡ refused r)
+pub refuses-so : {A : Type 0} {m n : Outcome A} (r : Refused) → Agrees m n → m ≡ refused r → IsShort (r .cause) ⊎ (n ≡ refused r)
 refuses-so r same e = inr e
-refuses-so r (lacks (lacking {r = q} h)) e = let z : q ≡ r = cc in inl (subst (λ (x : Refused). IsShort (x .number)) z h)
+refuses-so r (lacks (lacking {r = q} h)) e = let z : q ≡ r = cc in inl (subst (λ (x : Refused). IsShort (x .cause)) z h)
 
 -- where n refuses, m refuses alike, or it is short
 pub refuses-too : {A : Type 0} {m n : Outcome A} (r : Refused) → Agrees m n → n ≡ refused r → (m ≡ refused r) ⊎ Short m
@@ -70,10 +72,10 @@ bind (same {m = m}) k = then-bind m k
 bind (lacks (lacking h)) k = lacks (lacking h)
 
 -- ---- tests
-needing : {A : Type 0} (b : Bool) (p : Place) (number : ℕ) {m n : Outcome A} → Agrees m n → Agrees (need b p number m) (need b p number n)
+needing : {A : Type 0} (b : Bool) (p : Place) (why : Cause) {m n : Outcome A} → Agrees m n → Agrees (need b p why m) (need b p why n)
 unfolding need
-needing true p number h = h
-needing false p number h = same
+needing true p why h = h
+needing false p why h = same
 
 pub choosing : {A : Type 0} (b : Bool) {m n k l : Outcome A} → Agrees m n → Agrees k l → Agrees (cond b m k) (cond b n l)
 choosing true h j = h
@@ -107,28 +109,28 @@ unfolding fits
 fits-more unbounded n h = tt
 fits-more (larger {most = a} {most′ = b} l) n h = le→leb n b (let k : n ≤ a = leb→le n a h in omega arith)
 
-need-more : {A : Type 0} (b c : Bool) → (T b → T c) → (p : Place) (number : ℕ) → IsShort number → {m n : Outcome A} → Agrees m n →
-    Agrees (need b p number m) (need c p number n)
+need-more : {A : Type 0} (b c : Bool) → (T b → T c) → (p : Place) (why : Cause) → IsShort why → {m n : Outcome A} → Agrees m n →
+    Agrees (need b p why m) (need c p why n)
 unfolding need
-need-more true true e p number s h = h
-need-more true false e p number s h = absurd (e tt)
-need-more false c e p number s h = lacks (lacking s)
+need-more true true e p why s h = h
+need-more true false e p why s h = absurd (e tt)
+need-more false c e p why s h = lacks (lacking s)
 
--- the law of all three areas: where n are needed, by the area's number
-fitting : {A : Type 0} {most most′ : Option ℕ} → AtLeast most most′ → (n : ℕ) (p : Place) (number : ℕ) → IsShort number → {k l : Outcome A} → Agrees k l →
-    Agrees (need (fits most n) p number k) (need (fits most′ n) p number l)
-fitting {most} {most′} w n p number s h = need-more (fits most n) (fits most′ n) (fits-more w n) p number s h
+-- the law of all three areas: where n are needed, by the area's cause
+fitting : {A : Type 0} {most most′ : Option ℕ} → AtLeast most most′ → (n : ℕ) (p : Place) (why : Cause) → IsShort why → {k l : Outcome A} → Agrees k l →
+    Agrees (need (fits most n) p why k) (need (fits most′ n) p why l)
+fitting {most} {most′} w n p why s h = need-more (fits most n) (fits most′ n) (fits-more w n) p why s h
 
 -- ---- an element
 module _ (rooms rooms′ : Rooms) (w : Wider rooms rooms′) where
-  records-fit : {A : Type 0} (n : ℕ) (p : Place) {k l : Outcome A} → Agrees k l → Agrees (need (fits (rooms .records) n) p 12 k) (need (fits (rooms′ .records) n) p 12 l)
-  records-fit n p h = fitting (w .records) n p 12 (inl refl) h
+  records-fit : {A : Type 0} (n : ℕ) (p : Place) {k l : Outcome A} → Agrees k l → Agrees (need (fits (rooms .records) n) p cause.RecordsSpent k) (need (fits (rooms′ .records) n) p cause.RecordsSpent l)
+  records-fit n p h = fitting (w .records) n p cause.RecordsSpent (inl refl) h
 
-  pub text-fits : {A : Type 0} (n : ℕ) (p : Place) {k l : Outcome A} → Agrees k l → Agrees (need (fits (rooms .text) n) p 13 k) (need (fits (rooms′ .text) n) p 13 l)
-  text-fits n p h = fitting (w .text) n p 13 (inr (inl refl)) h
+  pub text-fits : {A : Type 0} (n : ℕ) (p : Place) {k l : Outcome A} → Agrees k l → Agrees (need (fits (rooms .text) n) p cause.TextFull k) (need (fits (rooms′ .text) n) p cause.TextFull l)
+  text-fits n p h = fitting (w .text) n p cause.TextFull (inr (inl refl)) h
 
-  pub scratch-fits : {A : Type 0} (n : ℕ) (p : Place) {k l : Outcome A} → Agrees k l → Agrees (need (fits (rooms .scratch) n) p 14 k) (need (fits (rooms′ .scratch) n) p 14 l)
-  scratch-fits n p h = fitting (w .scratch) n p 14 (inr (inr refl)) h
+  pub scratch-fits : {A : Type 0} (n : ℕ) (p : Place) {k l : Outcome A} → Agrees k l → Agrees (need (fits (rooms .scratch) n) p cause.ScratchFull k) (need (fits (rooms′ .scratch) n) p cause.ScratchFull l)
+  scratch-fits n p h = fitting (w .scratch) n p cause.ScratchFull (inr (inr refl)) h
 
   text-agrees : (p : Place) (o k : ℕ) (value : List ℕ) (g : Given) → Agrees (readText rooms p o k value g) (readText rooms′ p o k value g)
   unfolding readText
@@ -166,7 +168,7 @@ module _ (rooms rooms′ : Rooms) (w : Wider rooms rooms′) where
   unfolding readAttributes
   attributes-agree p used kind before j [] g = same
   attributes-agree p used kind before j (x ∷ xs) g =
-      bind (needing _ (numbered p j) 9 (role-agrees (numbered p j) used kind (keyOf (x .key)) (roleOf kind (keyOf (x .key))) x g)) λ h.
+      bind (needing _ (numbered p j) cause.FaultyAttribute (needing _ (numbered p j) cause.RepeatedKey (role-agrees (numbered p j) used kind (keyOf (x .key)) (roleOf kind (keyOf (x .key))) x g))) λ h.
       attributes-agree p used kind (before ++ (x .key ∷ [])) (j + 1) xs h
 
   pub element-agrees : (p : Place) (kind j : ℕ) (xs : List Attribute) (records : List (List ℕ)) (texts : List ℕ) →

@@ -9,7 +9,7 @@ use lib.Dec.{leb, lit≤}
 use Rattle.area.specs.Answer.{gives, refuses}
 use Rattle.utf8.specs.Utf8.{utf8}
 use Rattle.names.specs.Keys.{keyOf}
-use Rattle.refusal.specs.Refusal.{Refused, Outcome, accepted, refused}
+use Rattle.refusal.specs.Refusal.{number, Refused, Outcome, accepted, refused}
 use Rattle.table.specs.Event.{Attribute}
 use Rattle.integer.specs.Integer.{isInteger}
 use Rattle.time.specs.Time.{isTime}
@@ -22,37 +22,39 @@ use Rattle.read_keys.specs.declared.Role.{Role}
 use Rattle.read_keys.specs.declared.Role.the-variants as role
 use Rattle.read_keys.specs.Roles.{roleOf}
 use Rattle.read_element.specs.Attributes.{Given, placeOf, numbered, readText, oldExtra, newExtra, readExtra, byRole, readAttributes, complete, readElement}
+use Rattle.refusal.specs.declared.Cause.the-variants as cause
+use Rattle.refusal.specs.declared.Cause.{Cause}
 
 -- m accepts, or refuses with a number up to 10
 pub data UpToTen {A : Type 0} : Outcome A → Type 0 where
   fine : {a : A} → UpToTen (accepted a)
-  low : {r : Refused} → r .number ≤ 10 → UpToTen (refused r)
+  low : {r : Refused} → number (r .cause) ≤ 10 → UpToTen (refused r)
 
-pub low-number : {A : Type 0} {m : Outcome A} (r : Refused) → UpToTen m → m ≡ refused r → r .number ≤ 10
+pub low-number : {A : Type 0} {m : Outcome A} (r : Refused) → UpToTen m → m ≡ refused r → number (r .cause) ≤ 10
 low-number r fine e = let z : _≡_ {A = ℕ} 0 1 = cc in absurd (omega arith)
-low-number r (low {r = q} h) e = let z : q ≡ r = cc in subst (λ (x : Refused). x .number ≤ 10) z h
+low-number r (low {r = q} h) e = let z : q ≡ r = cc in subst (λ (x : Refused). number (x .cause) ≤ 10) z h
 
 pub low-bind : {A B : Type 0} {m : Outcome A} {f : A → Outcome B} → UpToTen m → ((a : A) → UpToTen (f a)) → UpToTen (m >>= f)
 unfolding _>>=_
 low-bind (fine {a = a}) k = k a
 low-bind (low h) k = low h
 
-pub low-need : {A : Type 0} (b : Bool) (p : Place) (n : ℕ) → n ≤ 10 → {m : Outcome A} → UpToTen m → UpToTen (need b p n m)
+pub low-need : {A : Type 0} (b : Bool) (p : Place) (why : Cause) → number why ≤ 10 → {m : Outcome A} → UpToTen m → UpToTen (need b p why m)
 unfolding need
-low-need true p n l h = h
-low-need false p n l h = low l
+low-need true p why l h = h
+low-need false p why l h = low l
 
 pub low-cond : {A : Type 0} (b : Bool) {m n : Outcome A} → UpToTen m → UpToTen n → UpToTen (cond b m n)
 low-cond true h k = h
 low-cond false h k = k
 
 -- no limit is never passed
-pub low-room : {A : Type 0} (n : ℕ) (p : Place) (k : ℕ) {m : Outcome A} → UpToTen m → UpToTen (need (fits (unlimited .text) n) p k m)
+pub low-room : {A : Type 0} (n : ℕ) (p : Place) (k : Cause) {m : Outcome A} → UpToTen m → UpToTen (need (fits (unlimited .text) n) p k m)
 unfolding need fits
 low-room n p k h = h
 
 -- a leaf's answer: of a text that is not UTF-8, of one that fails its test, and else
-pub low-leaf : {A : Type 0} (p : Place) (b c : Bool) (a : A) (n : ℕ) → n ≤ 10 → UpToTen (there p (cond b (cond c (gives a) (refuses n)) (refuses 2)))
+pub low-leaf : {A : Type 0} (p : Place) (b c : Bool) (a : A) (n : Cause) → number n ≤ 10 → UpToTen (there p (cond b (cond c (gives a) (refuses n)) (refuses cause.NotUtf8)))
 unfolding there
 low-leaf p true true a n l = fine
 low-leaf p true false a n l = low l
@@ -60,23 +62,23 @@ low-leaf p false c a n l = low (lit≤ tt)
 
 low-text : (p : Place) (o k : ℕ) (value : List ℕ) (g : Given) → UpToTen (readText unlimited p o k value g)
 unfolding readText
-low-text p o k value g = low-bind (low-leaf p (utf8 value) (refsOk value 0) tt 10 (lit≤ tt)) λ _. low-room _ p 13 fine
+low-text p o k value g = low-bind (low-leaf p (utf8 value) (refsOk value 0) tt cause.BadReference (lit≤ tt)) λ _. low-room _ p cause.TextFull fine
 
 low-extra : (p : Place) (used kind : ℕ) (x : Attribute) (g : Given) → UpToTen (readExtra unlimited p used kind x g)
 unfolding readExtra newExtra oldExtra
 low-extra p used kind x g =
-    low-bind (low-leaf p (utf8 (x .key)) (refsOk (x .key) 0) tt 10 (lit≤ tt)) λ _.
-    low-bind (low-leaf p (utf8 (x .value)) (refsOk (x .value) 0) tt 10 (lit≤ tt)) λ _.
-    low-cond (leb (length (g .extras)) (placeOf (g .texts) (valueText (x .key)) (g .extras))) (low-room _ p 12 (low-room _ p 13 (low-room _ p 13 fine))) (low-room _ p 13 fine)
+    low-bind (low-leaf p (utf8 (x .key)) (refsOk (x .key) 0) tt cause.BadReference (lit≤ tt)) λ _.
+    low-bind (low-leaf p (utf8 (x .value)) (refsOk (x .value) 0) tt cause.BadReference (lit≤ tt)) λ _.
+    low-cond (leb (length (g .extras)) (placeOf (g .texts) (valueText (x .key)) (g .extras))) (low-room _ p cause.RecordsSpent (low-room _ p cause.TextFull (low-room _ p cause.TextFull fine))) (low-room _ p cause.TextFull fine)
 
 low-role : (p : Place) (used kind key : ℕ) (role : Role) (x : Attribute) (g : Given) → UpToTen (byRole unlimited p used kind key role x g)
 unfolding byRole timestampOf uuidOf
 low-role p used kind key (role.Text o k) x g = low-text (within p key) o k (x .value) g
-low-role p used kind key (role.Count o) x g = low-bind (low-leaf (within p key) (utf8 (x .value)) (isInteger (x .value)) _ 3 (lit≤ tt)) λ n. fine
-low-role p used kind key (role.Number o k) x g = low-bind (low-leaf (within p key) (utf8 (x .value)) (isInteger (x .value)) _ 3 (lit≤ tt)) λ n. fine
-low-role p used kind key role.Uuid x g = low-bind (low-leaf (within p key) (utf8 (x .value)) (isUuid (x .value)) _ 6 (lit≤ tt)) λ w. fine
-low-role p used kind key (role.Timestamp kept) x g = low-bind (low-leaf (within p key) (utf8 (x .value)) (isTimestamp (x .value)) _ 4 (lit≤ tt)) λ m. fine
-low-role p used kind key (role.Time kept) x g = low-bind (low-leaf (within p key) (utf8 (x .value)) (isTime (x .value)) _ 5 (lit≤ tt)) λ t. fine
+low-role p used kind key (role.Count o) x g = low-bind (low-leaf (within p key) (utf8 (x .value)) (isInteger (x .value)) _ cause.BadInteger (lit≤ tt)) λ n. fine
+low-role p used kind key (role.Number o k) x g = low-bind (low-leaf (within p key) (utf8 (x .value)) (isInteger (x .value)) _ cause.BadInteger (lit≤ tt)) λ n. fine
+low-role p used kind key role.Uuid x g = low-bind (low-leaf (within p key) (utf8 (x .value)) (isUuid (x .value)) _ cause.BadUuid (lit≤ tt)) λ w. fine
+low-role p used kind key (role.Timestamp kept) x g = low-bind (low-leaf (within p key) (utf8 (x .value)) (isTimestamp (x .value)) _ cause.BadTimestamp (lit≤ tt)) λ m. fine
+low-role p used kind key (role.Time kept) x g = low-bind (low-leaf (within p key) (utf8 (x .value)) (isTime (x .value)) _ cause.BadTime (lit≤ tt)) λ t. fine
 low-role p used kind key role.Extra x g = low-extra p used kind x g
 low-role p used kind key role.Ignored x g = fine
 
@@ -84,11 +86,11 @@ low-attributes : (p : Place) (used kind : ℕ) (before : List (List ℕ)) (j : �
 unfolding readAttributes
 low-attributes p used kind before j [] g = fine
 low-attributes p used kind before j (x ∷ xs) g =
-    low-bind (low-need _ (numbered p j) 9 (lit≤ tt) (low-role (numbered p j) used kind (keyOf (x .key)) (roleOf kind (keyOf (x .key))) x g)) λ h.
+    low-bind (low-need _ (numbered p j) cause.FaultyAttribute (lit≤ tt) (low-need _ (numbered p j) cause.RepeatedKey (lit≤ tt) (low-role (numbered p j) used kind (keyOf (x .key)) (roleOf kind (keyOf (x .key))) x g))) λ h.
     low-attributes p used kind (before ++ (x .key ∷ [])) (j + 1) xs h
 
 pub low-element : (p : Place) (kind j : ℕ) (xs : List Attribute) (records : List (List ℕ)) (texts : List ℕ) → UpToTen (readElement unlimited p kind j xs records texts)
 unfolding readElement complete
 low-element p kind j xs records texts =
-    low-bind (low-room _ p 12 (low-attributes p (length records) kind [] j xs _)) λ g.
-    low-bind (low-need _ (within p 1) 7 (lit≤ tt) (low-need _ (within p 14) 7 (lit≤ tt) fine)) λ h. fine
+    low-bind (low-room _ p cause.RecordsSpent (low-attributes p (length records) kind [] j xs _)) λ g.
+    low-bind (low-need _ (within p 1) cause.MissingAttribute (lit≤ tt) (low-need _ (within p 14) cause.MissingAttribute (lit≤ tt) fine)) λ h. fine

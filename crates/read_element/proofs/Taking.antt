@@ -16,14 +16,16 @@ use Rattle.text.specs.Value.{valueText, checkedOf, valueOf, valueLaid}
 use Rattle.text.proofs.Checking.{checked-good}
 use Rattle.text.proofs.Putting.{put-both, both-yes}
 use Rattle.read_element.specs.Attributes.{keep}
-use Rattle.read_element.specs.Held.{unmoved, moved, putting}
+use Rattle.read_element.specs.inside.Held.{unmoved, moved, putting}
+use Rattle.refusal.specs.declared.Cause.the-variants as cause
+use Rattle.refusal.specs.declared.Cause.{Cause}
 
 module _ {A : Type 0} (f : A → List ℕ → List ℕ) (fill : ℕ) (w : List ℕ) where
   -- a value that was given is put, and one that was refused is not
   pub took-put : {m : Answer A} {a : A} {w′ : List ℕ} → gives a ≡ m → w′ ≡ f a w → (gives fill ≡ unmoved fill m) × (w′ ≡ putting f m w)
   took-put e o = (ap (unmoved fill) e, o ∙ ap (λ (x : Answer A). putting f x w) e)
 
-  pub took-none : {m : Answer A} {n : ℕ} → refuses n ≡ m → (refuses n ≡ unmoved fill m) × (w ≡ putting f m w)
+  pub took-none : {m : Answer A} {n : Cause} → refuses n ≡ m → (refuses n ≡ unmoved fill m) × (w ≡ putting f m w)
   took-none e = (ap (unmoved fill) e, ap (λ (x : Answer A). putting f x w) e)
 
   -- one that is kept or dropped
@@ -40,7 +42,7 @@ module _ {A : Type 0} (f : A → List ℕ → List ℕ) (fill : ℕ) (w : List �
     took-more (gives a) e o p = (e, p ∙ ap g o)
     took-more (refuses n) e o p = let z : _≡_ {A = ℕ} 0 1 = cc in absurd (omega arith)
 
-    pub took-not : (m : Answer A) {n : ℕ} → refuses n ≡ unmoved fill m → w₁ ≡ putting f m w → (refuses n ≡ unmoved fill m) × (w₁ ≡ putting (λ a x. g (f a x)) m w)
+    pub took-not : (m : Answer A) {n : Cause} → refuses n ≡ unmoved fill m → w₁ ≡ putting f m w → (refuses n ≡ unmoved fill m) × (w₁ ≡ putting (λ a x. g (f a x)) m w)
     took-not (gives a) e o = let z : _≡_ {A = ℕ} 0 1 = cc in absurd (omega arith)
     took-not (refuses n) e o = (e, o)
 
@@ -54,7 +56,7 @@ module _ (l : List ℕ) (fill : ℕ) (value : List ℕ) where
 
   pub text-fits : {n : ℕ} → fill ≤ length l → gives n ≡ valueOf (length (take (length l - fill) (drop fill l))) value → fill + n ≤ length l
   text-fits {n} h e =
-      let p = put-both (utf8 value) (refsOk value 0) 13 (length l - fill) 10 2 n (valueText value) (sized e) in
+      let p = put-both (utf8 value) (refsOk value 0) cause.TextFull cause.BadReference cause.NotUtf8 (length l - fill) n (valueText value) (sized e) in
       let q = p .2 in let r = p .3 in omega arith
 
   text-back : {ys : List ℕ} → ys ≡ valueLaid (take (length l - fill) (drop fill l)) value → putMid fill (length l - fill) l ys ≡ take fill l ++ valueLaid (drop fill l) value
@@ -65,16 +67,16 @@ module _ (l : List ℕ) (fill : ℕ) (value : List ℕ) where
         → (gives (fill + n) ≡ moved fill (valueOf (length l - fill) value)) × ((w′ ≡ putting f (valueOf (length l - fill) value) w) × (putMid fill (length l - fill) l ys ≡ take fill l ++ valueLaid (drop fill l) value))
     text-put e o = (ap (moved fill) (sized e), (o ∙ ap (λ (x : Answer ℕ). putting f x w) (sized e), text-back b))
 
-    pub text-none : {n : ℕ} → refuses n ≡ valueOf (length (take (length l - fill) (drop fill l))) value
+    pub text-none : {n : Cause} → refuses n ≡ valueOf (length (take (length l - fill) (drop fill l))) value
         → (refuses n ≡ moved fill (valueOf (length l - fill) value)) × ((w ≡ putting f (valueOf (length l - fill) value) w) × (putMid fill (length l - fill) l ys ≡ take fill l ++ valueLaid (drop fill l) value))
     text-none e = (ap (moved fill) (sized e), (ap (λ (x : Answer ℕ). putting f x w) (sized e), text-back b))
 
   -- of a value whose form is good, the text itself
   module _ (good : gives tt ≡ checkedOf value) {ys : List ℕ} (b : ys ≡ valueLaid (take (length l - fill) (drop fill l)) value) where
-    placed : (n : ℕ) → valueOf n value ≡ placing 13 n (valueText value)
+    placed : (n : ℕ) → valueOf n value ≡ placing cause.TextFull n (valueText value)
     placed n =
         let h = checked-good value good in
-        sym (both-yes (utf8 value) (refsOk value 0) (placing 13 n (valueText value)) (refuses 10) (refuses 2) (h .0) (h .1))
+        sym (both-yes (utf8 value) (refsOk value 0) (placing cause.TextFull n (valueText value)) (refuses cause.BadReference) (refuses cause.NotUtf8) (h .0) (h .1))
 
     lay-back : putMid fill (length l - fill) l ys ≡ take fill l ++ laid (drop fill l) (valueText value)
     lay-back =
@@ -83,13 +85,13 @@ module _ (l : List ℕ) (fill : ℕ) (value : List ℕ) where
         text-back b ∙ ap (λ (t : Bool). take fill l ++ cond t (laid (drop fill l) (valueText value)) (drop fill l)) e
 
     pub lay-put : {n : ℕ} → gives n ≡ valueOf (length (take (length l - fill) (drop fill l))) value
-        → (gives (fill + n) ≡ moved fill (placing 13 (length l - fill) (valueText value))) × (putMid fill (length l - fill) l ys ≡ take fill l ++ laid (drop fill l) (valueText value))
+        → (gives (fill + n) ≡ moved fill (placing cause.TextFull (length l - fill) (valueText value))) × (putMid fill (length l - fill) l ys ≡ take fill l ++ laid (drop fill l) (valueText value))
     lay-put e = (ap (moved fill) (sized e ∙ placed (length l - fill)), lay-back)
 
-    pub lay-full : {n : ℕ} → refuses n ≡ valueOf (length (take (length l - fill) (drop fill l))) value
-        → (refuses 13 ≡ moved fill (placing 13 (length l - fill) (valueText value))) × (putMid fill (length l - fill) l ys ≡ take fill l ++ laid (drop fill l) (valueText value))
+    pub lay-full : {n : Cause} → refuses n ≡ valueOf (length (take (length l - fill) (drop fill l))) value
+        → (refuses cause.TextFull ≡ moved fill (placing cause.TextFull (length l - fill) (valueText value))) × (putMid fill (length l - fill) l ys ≡ take fill l ++ laid (drop fill l) (valueText value))
     lay-full {n} e = (ap (moved fill) (go (leb (length (valueText value)) (length l - fill)) (sized e ∙ placed (length l - fill))), lay-back)
       where
-        go : (t : Bool) → refuses n ≡ cond t (gives (length (valueText value))) (refuses 13) → refuses 13 ≡ cond t (gives (length (valueText value))) (refuses 13)
+        go : (t : Bool) → refuses n ≡ cond t (gives (length (valueText value))) (refuses cause.TextFull) → refuses cause.TextFull ≡ cond t (gives (length (valueText value))) (refuses cause.TextFull)
         go true q = let z : _≡_ {A = ℕ} 0 1 = cc in absurd (omega arith)
         go false q = refl

@@ -9,9 +9,9 @@ use lib.Dec.{eqb}
 use lib.ListN.{length, getD, set}
 use Rattle.tree_report.specs.Encode.{flagsOf}
 use Rattle.tree_report.proofs.EncodeCells.{bit-flag}
-use Rattle.tree_put.specs.Put.{marked, hasBit}
-use Rattle.tree_put.proofs.Bits.{mask-power}
-use Rattle.tree_put.proofs.Marks.{marked-already, marked-anew}
+use Rattle.tree_record.specs.Record.{marked, hasBit}
+use Rattle.tree_record.proofs.Bits.{mask-power}
+use Rattle.tree_record.proofs.Marks.{marked-already, marked-anew}
 
 -- ---- one presence bit set
 flags-set : (k : ℕ) (bs : List Bool) → k < length bs → getD bs k false ≡ false → flagsOf bs + 2 ^ k ≡ flagsOf (set bs k true)

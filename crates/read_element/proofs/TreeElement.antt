@@ -29,13 +29,15 @@ use Rattle.tree_report.proofs.EncodeLists.{both, Each, done, more, each-append,
 use Rattle.read_element.specs.Outcome.{Place, need, within, Rooms, fits}
 use Rattle.read_keys.specs.declared.Role.{Role}
 use Rattle.read_keys.specs.Roles.{roleOf}
-use Rattle.tree_put.specs.Put.{blank, marked, putPair, putText, hasBit}
+use Rattle.tree_record.specs.Record.{marked, hasBit}
+use Rattle.tree_put.specs.Put.{blank, putPair, putText}
 use Rattle.read_element.specs.Attributes.{Given, withMain, readText, placeOf, changed, extraKind, oldExtra, newExtra, readExtra, keep, byRole, among, numbered, readAttributes, complete, Grown, readElement}
 use Rattle.read_element.proofs.TreeOutcome.{Holds, accept, bind, needed, answered, either}
 use Rattle.read_element.proofs.TreeSheet.{text, name, value, pair, named, empty, full-value, untimed, Sorts, Sheet, sheet, goodAt, Grows, good-new, good-more, sheet-more}
 use Rattle.read_element.proofs.TreeSheet.{put-first, put-value, put-second, put-assertions, put-disabled, put-moment, put-time, put-uuid, put-tests, put-failures, put-errors, put-skipped}
 use Rattle.read_element.proofs.TreeGood.{pairSorts}
 use Rattle.read_element.proofs.TreeRoles.{Wide, Suits, as-first, as-value, as-second, as-tests, as-failures, as-errors, as-skipped, as-disabled, as-assertions, as-uuid, as-moment, as-time, as-extra, as-ignored, Class, class-roles, class-blank, class-named}
+use Rattle.refusal.specs.declared.Cause.the-variants as cause
 
 -- ---- texts
 pub record Stored (rooms : Rooms) (t : List ℕ) : Type 0 where
@@ -57,9 +59,9 @@ grows-on {s} g h = record {
 }
 
 pub stores : {A : Type 0} {Q : A → Type 0} {rooms : Rooms} {texts : List ℕ} (p : Place) (v : List ℕ) {m : Outcome A}
-    → utf8 v ≡ true → unfiltered v ≡ true → Stored rooms texts → (Stored rooms (texts ++ v) → Holds Q m) → Holds Q (need (fits (rooms .text) (length texts + length v)) p 13 m)
+    → utf8 v ≡ true → unfiltered v ≡ true → Stored rooms texts → (Stored rooms (texts ++ v) → Holds Q m) → Holds Q (need (fits (rooms .text) (length texts + length v)) p cause.TextFull m)
 stores {rooms = rooms} {texts = texts} p v u c s k =
-    needed (fits (rooms .text) (length texts + length v)) p 13
+    needed (fits (rooms .text) (length texts + length v)) p cause.TextFull
     (λ e. k (record {
       sound = utf8-append texts v (s .sound) ∙ u;
       clean = unfiltered-append texts v ∙ both (s .clean) c;
@@ -70,7 +72,7 @@ stores {rooms = rooms} {texts = texts} p v u c s k =
 checked-utf8 : (s : List ℕ) (x : Unit {0}) → checkedOf s ≡ gives x → utf8 s ≡ true
 checked-utf8 s x e = go (utf8 s) refl _ e
   where
-    go : (t : Bool) → utf8 s ≡ t → (y : Answer (Unit {0})) → cond t y (refuses 2) ≡ gives x → utf8 s ≡ true
+    go : (t : Bool) → utf8 s ≡ t → (y : Answer (Unit {0})) → cond t y (refuses cause.NotUtf8) ≡ gives x → utf8 s ≡ true
     go true q y e = q
     go false q y e = let z : _≡_ {A = ℕ} 0 1 = cc in absurd (omega arith)
 
@@ -159,7 +161,7 @@ module _ {rooms : Rooms} {S : Sorts} {κ used : ℕ} {start : List ℕ} where
       let b : Grows (g .texts) keyed = grows-by (g .texts) key uk in
       let d : Grows keyed (keyed ++ v) = grows-by keyed v u in
       let r : List ℕ = putText 4 1 (length keyed) (length v) (putText 2 0 (length (g .texts)) (length key) (blank (extraKind κ))) in
-      needed (fits (rooms .records) (used + 1 + length (g .extras) + 1)) p 12 λ e.
+      needed (fits (rooms .records) (used + 1 + length (g .extras) + 1)) p cause.RecordsSpent λ e.
       stores p key uk ck (w .stored) λ s.
       stores p v u c s λ t.
       accept (record {
@@ -211,7 +213,7 @@ module _ {rooms : Rooms} {S : Sorts} {κ used : ℕ} {start : List ℕ} where
   unfolding readAttributes
   attributes-read roles p before j [] w = accept w
   attributes-read roles p before j (x ∷ xs) w =
-      bind (needed (x .good && not (among (x .key) before)) (numbered p j) 9 (λ e. by-role (numbered p j) (keyOf (x .key)) x (roles (keyOf (x .key))) w)) λ h v.
+      bind (needed (x .good) (numbered p j) cause.FaultyAttribute λ _. needed (not (among (x .key) before)) (numbered p j) cause.RepeatedKey (λ e. by-role (numbered p j) (keyOf (x .key)) x (roles (keyOf (x .key))) w)) λ h v.
       attributes-read roles p (before ++ (x .key ∷ [])) (j + 1) xs v
 
 -- ---- the element
@@ -231,13 +233,13 @@ pub element-read : {rooms : Rooms} {κ : ℕ} {S T : Sorts} (p : Place) (j : ℕ
 unfolding readElement complete
 element-read {rooms} {κ} {S} {T} p j xs records texts class stored =
     bind
-    (needed (fits (rooms .records) (length records + 1)) p 12 λ e.
+    (needed (fits (rooms .records) (length records + 1)) p cause.RecordsSpent λ e.
     attributes-read {rooms = rooms} {S = S} {κ = κ} {used = length records} {start = texts} (class-roles class) p [] j xs
     (record { main = class-blank class; extras = done; few = no-extras; grows = grows-refl texts; stored = stored; space = (let z : length records + 1 + 0 ≡ length records + 1 = omega arith in ap (fits (rooms .records)) z ∙ e) }))
     λ g w.
     bind {Q = λ h. Sheet T (h .texts) κ (h .main) × Going rooms S κ (length records) texts h}
-    (needed (not (leb 2 κ && leb κ 5) || hasBit 0 (g .main)) (within p 1) 7 λ a.
-    needed (not (leb 4 κ && leb κ 5) || hasBit 1 (g .main)) (within p 14) 7 λ b. accept (class-named class a b (w .main), w))
+    (needed (not (leb 2 κ && leb κ 5) || hasBit 0 (g .main)) (within p 1) cause.MissingAttribute λ a.
+    needed (not (leb 4 κ && leb κ 5) || hasBit 1 (g .main)) (within p 14) cause.MissingAttribute λ b. accept (class-named class a b (w .main), w))
     λ h v.
     accept (record {
       main = h .main;

@@ -11,7 +11,7 @@ use lib.ListN.{take, drop}
 use Rattle.timestamp.specs.declared.Moment.{Moment}
 use Rattle.tree_report.specs.Encode.{Cell, absent, isGiven, firstWord, secondWord, flagsOf, fitsMoment, fitsTime}
 use Rattle.tree_report.specs.Report.{Duration}
-use Rattle.tree_report.specs.Fields.{bit}
+use Rattle.tree_report.specs.Fields.{hasBit}
 use Rattle.tree_report.specs.Layout.{slot, zeroAt, textSlot, goodTextAt, goodCommon, goodOutputs, goodCounts, goodReport, goodSuite, goodCase, bitsFor, goodOther, goodRecord}
 use Rattle.tree_report.proofs.EncodeLists.{both}
 use Rattle.tree_report.proofs.EncodeCells.{bit-flag, only-bits, weights, Pairing, moment-back, time-back}
@@ -73,16 +73,16 @@ final-bounds suiteExtra = (lit≤ tt, lit≤ tt)
 final-bounds caseExtra = (lit≤ tt, lit≤ tt)
 
 -- ---- slots
-text-slot : {texts : List ℕ} {c : Cell} (r : List ℕ) (k o : ℕ) → Fits texts text c → bit k r ≡ isGiven c → Pairing r o (firstWord 0 c) (secondWord c) → textSlot texts r k o ≡ true
+text-slot : {texts : List ℕ} {c : Cell} (r : List ℕ) (k o : ℕ) → Fits texts text c → hasBit k r ≡ isGiven c → Pairing r o (firstWord 0 c) (secondWord c) → textSlot texts r k o ≡ true
 unfolding goodTextAt
 text-slot r k o textless b w = rw (b, w .2) refl
 text-slot r k o (placed p) b w = rw (b, w .0, w .1) p
 
-number-slot : {texts : List ℕ} {c : Cell} (r : List ℕ) (k o : ℕ) → Fits texts number c → bit k r ≡ isGiven c → Pairing r o (firstWord 0 c) (secondWord c) → slot (bit k r) true (zeroAt r o 2) ≡ true
+number-slot : {texts : List ℕ} {c : Cell} (r : List ℕ) (k o : ℕ) → Fits texts number c → hasBit k r ≡ isGiven c → Pairing r o (firstWord 0 c) (secondWord c) → slot (hasBit k r) true (zeroAt r o 2) ≡ true
 number-slot r k o numberless b w = rw (b, w .2) refl
 number-slot r k o numbered b w = rw b refl
 
-id-slot : {texts : List ℕ} {c d : Cell} (r : List ℕ) → InMiddle texts uuid c d → bit 1 r ≡ isGiven c → take 4 (drop 4 r) ≡ firstWord 0 c ∷ secondWord c ∷ firstWord 0 d ∷ secondWord d ∷ [] → slot (bit 1 r) true (zeroAt r 4 4) ≡ true
+id-slot : {texts : List ℕ} {c d : Cell} (r : List ℕ) → InMiddle texts uuid c d → hasBit 1 r ≡ isGiven c → take 4 (drop 4 r) ≡ firstWord 0 c ∷ secondWord c ∷ firstWord 0 d ∷ secondWord d ∷ [] → slot (hasBit 1 r) true (zeroAt r 4 4) ≡ true
 id-slot r idless b w = rw (b, w) refl
 id-slot r id b w = rw b refl
 

@@ -1,10 +1,10 @@
 -- What holds of an outcome where it is accepted, and the tests that it passed. Assumes nothing.
-use Prim.Native.Nat.{ℕ}
 use mathlib.Core.Bool.{Bool, true, false, cond}
 use mathlib.Core.Path.{_≡_, refl}
 use Rattle.area.specs.Answer.{Answer, gives, refuses}
 use Rattle.refusal.specs.Refusal.{Refused, Outcome, accepted, refused}
 use Rattle.read_element.specs.Outcome.{_>>=_, Place, there, need}
+use Rattle.refusal.specs.declared.Cause.{Cause}
 
 pub data Holds {A : Type 0} (Q : A → Type 0) : Outcome A → Type 0 where
   accept : {a : A} → Q a → Holds Q (accepted a)
@@ -23,7 +23,7 @@ weaken (accept {a = a} h) k = accept (k a h)
 weaken refuse k = refuse
 
 -- behind a test that passed
-pub needed : {A : Type 0} {Q : A → Type 0} (b : Bool) (p : Place) (n : ℕ) {m : Outcome A} → (b ≡ true → Holds Q m) → Holds Q (need b p n m)
+pub needed : {A : Type 0} {Q : A → Type 0} (b : Bool) (p : Place) (n : Cause) {m : Outcome A} → (b ≡ true → Holds Q m) → Holds Q (need b p n m)
 unfolding need
 needed true p n h = h refl
 needed false p n h = refuse

@@ -7,7 +7,8 @@ use mathlib.Core.Path.{_≡_, refl, sym, _∙_}
 use lib.Dec.{eqb, leb}
 use Rattle.tree_report.specs.Encode.{Cell, absent, constant, isGiven}
 use Rattle.tree_report.proofs.EncodeCells.{bit-flag}
-use Rattle.tree_put.specs.Put.{blank, hasBit}
+use Rattle.tree_record.specs.Record.{hasBit}
+use Rattle.tree_put.specs.Put.{blank}
 use Rattle.read_keys.specs.declared.Role.{Role}
 use Rattle.read_keys.specs.declared.Role.the-variants as role
 use Rattle.read_keys.specs.Roles.{roleIn, countKeys, reportRole, suiteRole, caseRole, propertyRole, statusRole, roleOf}

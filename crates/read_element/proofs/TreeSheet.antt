@@ -16,10 +16,11 @@ use Rattle.timestamp.specs.declared.Moment.{Moment}
 use Rattle.uuid.specs.declared.Words.{Words}
 use Rattle.tree_report.specs.Encode.{Cell, absent, valued, constant, isGiven, firstWord, secondWord, isSome, momentOrZero, timeOrZero, flagsOf, fitsMoment, fitsTime}
 use Rattle.tree_report.specs.Report.{Duration}
-use Rattle.tree_report.specs.Fields.{kindOf, bit}
+use Rattle.tree_report.specs.Fields.{kindOf, hasBit}
 use Rattle.tree_report.proofs.EncodeLists.{both, and-left, and-right}
 use Rattle.tree_report.proofs.EncodeCells.{bit-flag}
-use Rattle.tree_put.specs.Put.{marked, putText, putCount, putUuid, putMoment, putTime}
+use Rattle.tree_record.specs.Record.{marked}
+use Rattle.tree_put.specs.Put.{putText, putCount, putUuid, putMoment, putTime}
 use Rattle.read_element.proofs.TreeBits.{marked-flags}
 
 -- ---- a text that stands within the texts
@@ -128,7 +129,7 @@ pub sheet-size : {S : Sorts} {texts : List ℕ} {κ : ℕ} {r : List ℕ} → Sh
 sheet-size (sheet a b c m d e f g h i pa pb pt pe pf pg ph pi) = refl
 
 -- its flaky bit isn't set
-pub sheet-plain : {S : Sorts} {texts : List ℕ} {κ : ℕ} {r : List ℕ} → Sheet S texts κ r → bit 9 r ≡ false
+pub sheet-plain : {S : Sorts} {texts : List ℕ} {κ : ℕ} {r : List ℕ} → Sheet S texts κ r → hasBit 9 r ≡ false
 sheet-plain (sheet a b c m d e f g h i pa pb pt pe pf pg ph pi) = bit-flag 9 (flags a b c m d e f g i)
 
 -- ---- texts that grow

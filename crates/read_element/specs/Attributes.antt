@@ -2,7 +2,7 @@
 use Prim.Native.Nat.{ℕ, zero, suc, _+_}
 use mathlib.Core.List.{List, [], _∷_, _++_}
 use mathlib.Core.Bool.{Bool, true, false, cond, not, _&&_, _||_}
-use lib.ListN.{length, getD, take, drop}
+use lib.ListN.{length}
 use lib.Dec.{leb}
 use Rattle.names.specs.Names.{sameBytes}
 use Rattle.names.specs.Keys.{keyOf}
@@ -14,10 +14,12 @@ use Rattle.timestamp.specs.Timestamp.{timestampOf}
 use Rattle.uuid.specs.Uuid.{uuidOf}
 use Rattle.text.specs.Value.{valueText, checkedOf}
 use Rattle.read_element.specs.Outcome.{_>>=_, Place, there, need, within, Rooms, fits}
-use Rattle.tree_put.specs.Put.{blank, marked, putPair, putText, putCount, putUuid, putMoment, putTime, hasBit}
+use Rattle.tree_record.specs.Record.{hasBit, marked, textAt}
+use Rattle.tree_put.specs.Put.{blank, putPair, putText, putCount, putUuid, putMoment, putTime}
 use Rattle.read_keys.specs.declared.Role.{Role}
 use Rattle.read_keys.specs.declared.Role.the-variants as role
 use Rattle.read_keys.specs.Roles.{roleOf}
+use Rattle.refusal.specs.declared.Cause.the-variants as cause
 
 -- what an element's attributes have given so far:
 -- its record, the records of its extras, and the text area's texts
@@ -31,7 +33,7 @@ withMain g r = record { main = r; extras = g .extras; texts = g .texts }
 
 -- "Each finished text, dropped ones too, is stored behind the texts already there" (13)
 abbrev pub storing : {A : Type 0} → Rooms → Place → List ℕ → List ℕ → (List ℕ → Outcome A) → Outcome A
-storing rooms p texts v next = need (fits (rooms .text) (length texts + length v)) p 13 (next (texts ++ v))
+storing rooms p texts v next = need (fits (rooms .text) (length texts + length v)) p cause.TextFull (next (texts ++ v))
 
 -- "Attribute text: UTF-8 (2), references (10), filter, store"
 unfoldable pub readText : Rooms → Place → ℕ → ℕ → List ℕ → Given → Outcome Given
@@ -40,16 +42,12 @@ readText rooms p o k value g =
     storing rooms p (g .texts) (valueText value) λ texts.
     accepted (record { main = putText o k (length (g .texts)) (length (valueText value)) (g .main); extras = g .extras; texts = texts })
 
--- the words of a stored text
-abbrev pub textIn : List ℕ → List ℕ → ℕ → List ℕ
-textIn texts r o = take (getD r (o + 1) 0) (drop (getD r o 0) texts)
-
--- an extra's place among the extras whose stored keys are `key`, or their number
+-- the place of the first extra whose stored key is `key`; where there is none, the number of extras
 abbrev pub placeOf : List ℕ → List ℕ → List (List ℕ) → ℕ
 placeOf texts key [] = 0
-placeOf texts key (r ∷ rs) = cond (sameBytes (textIn texts r 2) key) 0 (suc (placeOf texts key rs))
+placeOf texts key (r ∷ rs) = cond (sameBytes (textAt texts r 2) key) 0 (suc (placeOf texts key rs))
 
--- the extra at a place, changed
+-- the records with f applied to the one at place i
 abbrev pub changed : ℕ → (List ℕ → List ℕ) → List (List ℕ) → List (List ℕ)
 changed i f [] = []
 changed zero f (r ∷ rs) = f r ∷ rs
@@ -68,7 +66,7 @@ oldExtra rooms p value i g =
 -- "if new record (12) and storing of key (13), then storing of value (13)"; `used` records stand before the element's
 unfoldable pub newExtra : Rooms → Place → ℕ → ℕ → List ℕ → List ℕ → Given → Outcome Given
 newExtra rooms p used kind key value g =
-    need (fits (rooms .records) (used + 1 + length (g .extras) + 1)) p 12
+    need (fits (rooms .records) (used + 1 + length (g .extras) + 1)) p cause.RecordsSpent
     (storing rooms p (g .texts) key λ keyed.
     storing rooms p keyed value λ texts.
     accepted (record {
@@ -116,15 +114,16 @@ numbered p j = record { path = p .path; event = p .event; attribute = j }
 unfoldable pub readAttributes : Rooms → Place → ℕ → ℕ → List (List ℕ) → ℕ → List Attribute → Given → Outcome Given
 readAttributes rooms p used kind before j [] g = accepted g
 readAttributes rooms p used kind before j (x ∷ xs) g =
-    need (x .good && not (among (x .key) before)) (numbered p j) 9
-    (byRole rooms (numbered p j) used kind (keyOf (x .key)) (roleOf kind (keyOf (x .key))) x g) >>= λ h.
+    need (x .good) (numbered p j) cause.FaultyAttribute
+    (need (not (among (x .key) before)) (numbered p j) cause.RepeatedKey
+    (byRole rooms (numbered p j) used kind (keyOf (x .key)) (roleOf kind (keyOf (x .key))) x g)) >>= λ h.
     readAttributes rooms p used kind (before ++ (x .key ∷ [])) (j + 1) xs h
 
 -- "Then a missing `name` (suite, case), `name` before `value` (property)"; p has no attribute number
 unfoldable pub complete : Place → ℕ → Given → Outcome Given
 complete p kind g =
-    need (not (leb 2 kind && leb kind 5) || hasBit 0 (g .main)) (within p 1) 7
-    (need (not (leb 4 kind && leb kind 5) || hasBit 1 (g .main)) (within p 14) 7 (accepted g))
+    need (not (leb 2 kind && leb kind 5) || hasBit 0 (g .main)) (within p 1) cause.MissingAttribute
+    (need (not (leb 4 kind && leb kind 5) || hasBit 1 (g .main)) (within p 14) cause.MissingAttribute (accepted g))
 
 -- an element of a record's kind: "A record is [..] taken [..] before its attributes" (12); its records stand behind the others
 pub record Grown : Type 0 where
@@ -133,7 +132,7 @@ pub record Grown : Type 0 where
 
 unfoldable pub readElement : Rooms → Place → ℕ → ℕ → List Attribute → List (List ℕ) → List ℕ → Outcome Grown
 readElement rooms p kind j xs records texts =
-    need (fits (rooms .records) (length records + 1)) p 12
+    need (fits (rooms .records) (length records + 1)) p cause.RecordsSpent
     (readAttributes rooms p (length records) kind [] j xs (record { main = blank kind; extras = []; texts = texts })) >>= λ g.
     complete p kind g >>= λ h.
     accepted (record { records = records ++ (h .main ∷ h .extras); texts = h .texts })

@@ -1,3 +1,3 @@
 pub mod Outcome
 pub mod Attributes
-pub mod Held
+pub mod inside

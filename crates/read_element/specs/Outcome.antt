@@ -1,12 +1,14 @@
 -- Steps that may refuse, the place that a refusal names, and the room that areas have. Definitions only.
 use Prim.Native.Nat.{ℕ, zero, suc, _/_, min}
 use mathlib.Core.List.{List, [], _∷_, _++_}
-use mathlib.Core.Bool.{Bool, true, false}
+use mathlib.Core.Bool.{Bool, true, false, cond}
 use mathlib.Core.Option.{Option, none, some}
 use lib.Dec.{leb}
+use Rattle.area.specs.Limits.{mostRecords, mostBytes}
 use Rattle.area.specs.Answer.{Answer, gives, refuses}
 use Rattle.refusal.specs.Refusal.{nowhere, Outcome, accepted, refused}
 use Rattle.refusal.specs.declared.PathElement.{PathElement}
+use Rattle.refusal.specs.declared.Cause.{Cause}
 
 infixl 20 _>>=_
 -- one step behind another: the first that refuses decides
@@ -20,25 +22,32 @@ pub record Place : Type 0 where
   pub event : ℕ
   pub attribute : ℕ
 
-abbrev pub refusedAt : {A : Type 0} → Place → ℕ → Outcome A
-refusedAt p n = refused (record { number = n; path = p .path; event = p .event; attribute = p .attribute })
+abbrev pub refusedAt : {A : Type 0} → Place → Cause → Outcome A
+refusedAt p why = refused (record { cause = why; path = p .path; event = p .event; attribute = p .attribute })
 
 -- a leaf's answer, with the place that its refusal names
 unfoldable pub there : {A : Type 0} → Place → Answer A → Outcome A
 there p (gives a) = accepted a
-there p (refuses n) = refusedAt p n
+there p (refuses why) = refusedAt p why
 
--- the step where the test passes, and else the refusal n
-unfoldable pub need : {A : Type 0} → Bool → Place → ℕ → Outcome A → Outcome A
-need true p n m = m
-need false p n m = refusedAt p n
+-- the step where the test passes, and else the refusal
+unfoldable pub need : {A : Type 0} → Bool → Place → Cause → Outcome A → Outcome A
+need true p why m = m
+need false p why m = refusedAt p why
 
 -- an element of a path by its kind (docs/REFUSALS.md), its index, and its Start's event number
 abbrev pub element : ℕ → ℕ → ℕ → PathElement
 element kind index event = record { kind = kind; index = index; event = event }
 
+-- an Attribute's code in a path is its own: that of a key up to 14, then 15 for the text of a stack trace; the next key's is 16
+abbrev pub attributeOf : ℕ → ℕ
+attributeOf key = cond (leb key 14) key 16
+
 abbrev pub attributeElement : ℕ → PathElement
-attributeElement key = element 16 key nowhere
+attributeElement key = element 16 (attributeOf key) nowhere
+
+abbrev pub stackTraceElement : PathElement
+stackTraceElement = element 16 15 nowhere
 
 -- the place of an attribute's value: "carry the element's path" with the Attribute
 abbrev pub within : Place → ℕ → Place
@@ -57,7 +66,7 @@ pub record Rooms : Type 0 where
 
 -- "of longer areas only that much is used"
 abbrev pub roomsOf : ℕ → ℕ → ℕ → Rooms
-roomsOf words text scratch = record { records = some (min (words / 32) 65536); text = some (min text 16777216); scratch = some (min scratch 16777216) }
+roomsOf words text scratch = record { records = some (min (words / 32) mostRecords); text = some (min text mostBytes); scratch = some (min scratch mostBytes) }
 
 abbrev pub unlimited : Rooms
 unlimited = record { records = none; text = none; scratch = none }

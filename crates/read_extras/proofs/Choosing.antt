@@ -15,11 +15,14 @@ use Rattle.names.specs.Names.{sameBytes}
 use Rattle.table.specs.Event.{Attribute}
 use Rattle.text.specs.Value.{valueText, checkedOf}
 use Rattle.read_element.specs.Outcome.{Place, Rooms, there, _>>=_}
-use Rattle.read_element.specs.Attributes.{Given, textIn, placeOf, oldExtra, newExtra, readExtra}
-use Rattle.read_element.specs.Held.{placeAt, putExtra, flat, Keyed, Held, Meets, stops}
+use Rattle.tree_record.specs.Record.{textAt}
+use Rattle.read_element.specs.Attributes.{Given, placeOf, oldExtra, newExtra, readExtra}
+use Rattle.utf8.specs.Characters.{joined}
+use Rattle.read_element.specs.inside.Held.{placeAt, putExtra, Keyed, Held, Meets, stops}
+use Rattle.refusal.specs.declared.Cause.{Cause}
 
 -- a stored key in the area is that of the texts
-text-in : (texts z r t : List ℕ) → length r ≡ 32 → getD r 2 0 + getD r 3 0 ≤ length texts → textIn (texts ++ z) (r ++ t) 2 ≡ textIn texts r 2
+text-in : (texts z r t : List ℕ) → length r ≡ 32 → getD r 2 0 + getD r 3 0 ≤ length texts → textAt (texts ++ z) (r ++ t) 2 ≡ textAt texts r 2
 text-in texts z r t e h =
     let d : length (drop (getD r 2 0) texts) ≡ _ = length-drop (getD r 2 0) texts in
     ap (λ (n : ℕ). take n (drop (getD (r ++ t) 2 0) (texts ++ z))) (List·getD-append r t 0 3 (omega arith))
@@ -27,26 +30,26 @@ text-in texts z r t e h =
     ∙ ap (take (getD r 3 0)) (drop-append-le (getD r 2 0) texts z (omega arith))
     ∙ take-append-le (getD r 3 0) (drop (getD r 2 0) texts) z (omega arith)
 
-place-from : (own texts z key : List ℕ) (rs : List (List ℕ)) (i : ℕ) (y : List ℕ) → drop (i * 32 + 32) own ≡ flat rs ++ y → Keyed (length texts) rs
+place-from : (own texts z key : List ℕ) (rs : List (List ℕ)) (i : ℕ) (y : List ℕ) → drop (i * 32 + 32) own ≡ joined rs ++ y → Keyed (length texts) rs
     → placeAt own (texts ++ z) key (length rs) i ≡ i + placeOf texts key rs
 unfolding placeAt
 place-from own texts z key [] i y e k = omega arith
-place-from own texts z key (r ∷ rs) i y e k = go (sameBytes (textIn texts r 2) key) (place-from own texts z key rs (i + 1) y next (k .1 .1))
+place-from own texts z key (r ∷ rs) i y e k = go (sameBytes (textAt texts r 2) key) (place-from own texts z key rs (i + 1) y next (k .1 .1))
   where
-    here : drop (i * 32 + 32) own ≡ r ++ (flat rs ++ y)
-    here = e ∙ append-assoc r (flat rs) y
+    here : drop (i * 32 + 32) own ≡ r ++ (joined rs ++ y)
+    here = e ∙ append-assoc r (joined rs) y
 
-    next : drop ((i + 1) * 32 + 32) own ≡ flat rs ++ y
+    next : drop ((i + 1) * 32 + 32) own ≡ joined rs ++ y
     next =
         let s : (i + 1) * 32 + 32 ≡ (i * 32 + 32) + 32 = omega arith in
-        ap (λ (n : ℕ). drop n own) s ∙ sym (drop-drop 32 (i * 32 + 32) own) ∙ ap (drop 32) here ∙ drop-at r (flat rs ++ y) 32 (k .0)
+        ap (λ (n : ℕ). drop n own) s ∙ sym (drop-drop 32 (i * 32 + 32) own) ∙ ap (drop 32) here ∙ drop-at r (joined rs ++ y) 32 (k .0)
 
-    told : sameBytes (textIn (texts ++ z) (drop (i * 32 + 32) own) 2) key ≡ sameBytes (textIn texts r 2) key
-    told = ap (λ (l : List ℕ). sameBytes (textIn (texts ++ z) l 2) key) here ∙ ap (λ (l : List ℕ). sameBytes l key) (text-in texts z r (flat rs ++ y) (k .0) (k .1 .0))
+    told : sameBytes (textAt (texts ++ z) (drop (i * 32 + 32) own) 2) key ≡ sameBytes (textAt texts r 2) key
+    told = ap (λ (l : List ℕ). sameBytes (textAt (texts ++ z) l 2) key) here ∙ ap (λ (l : List ℕ). sameBytes l key) (text-in texts z r (joined rs ++ y) (k .0) (k .1 .0))
 
     go : (b : Bool) → placeAt own (texts ++ z) key (length rs) (i + 1) ≡ (i + 1) + placeOf texts key rs
-        → cond (sameBytes (textIn (texts ++ z) (drop (i * 32 + 32) own) 2) key) i (placeAt own (texts ++ z) key (length rs) (i + 1)) ≡ i + cond (sameBytes (textIn texts r 2) key) 0 (suc (placeOf texts key rs))
-    go b ih = ap (λ (t : Bool). cond t i (placeAt own (texts ++ z) key (length rs) (i + 1))) told ∙ by (sameBytes (textIn texts r 2) key)
+        → cond (sameBytes (textAt (texts ++ z) (drop (i * 32 + 32) own) 2) key) i (placeAt own (texts ++ z) key (length rs) (i + 1)) ≡ i + cond (sameBytes (textAt texts r 2) key) 0 (suc (placeOf texts key rs))
+    go b ih = ap (λ (t : Bool). cond t i (placeAt own (texts ++ z) key (length rs) (i + 1))) told ∙ by (sameBytes (textAt texts r 2) key)
       where
         by : (t : Bool) → cond t i (placeAt own (texts ++ z) key (length rs) (i + 1)) ≡ i + cond t 0 (suc (placeOf texts key rs))
         by true = omega arith
@@ -56,7 +59,7 @@ pub place-held : {own text : List ℕ} {extras fill : ℕ} {g : Given} → Held 
 place-held {own} {text} {extras} {fill} {g} hd key =
     ap (λ (t : List ℕ). placeAt own t key extras 0) (hd .stored)
     ∙ ap (λ (n : ℕ). placeAt own (g .texts ++ zeros (hd .left)) key n 0) (hd .count)
-    ∙ place-from own (g .texts) (zeros (hd .left)) key (g .extras) 0 (zeros (hd .room)) (ap (drop 32) (hd .records) ∙ drop-at (g .main) (flat (g .extras) ++ zeros (hd .room)) 32 (hd .main-words)) (hd .keyed)
+    ∙ place-from own (g .texts) (zeros (hd .left)) key (g .extras) 0 (zeros (hd .room)) (ap (drop 32) (hd .records) ∙ drop-at (g .main) (joined (g .extras) ++ zeros (hd .room)) 32 (hd .main-words)) (hd .keyed)
     ∙ omega arith
 
 module _ {own text : List ℕ} {extras fill : ℕ} {g : Given} (hd : Held own text extras fill g) (rooms : Rooms) (p : Place) (used kind : ℕ) (key value : List ℕ) {own′ text′ : List ℕ} {a : Answer (ℕ × ℕ)} {i : ℕ} (e : i ≡ placeAt own text key extras 0) where
@@ -74,7 +77,7 @@ module _ {own text : List ℕ} {extras fill : ℕ} {g : Given} (hd : Held own te
 
 -- one step behind another
 module _ {A : Type 0} {p : Place} {own text : List ℕ} {m : Answer A} (k : A → Outcome Given) where
-  pub meets-first : {n : ℕ} → refuses n ≡ m → Meets p own text (there p m >>= k) (refuses n)
+  pub meets-first : {n : Cause} → refuses n ≡ m → Meets p own text (there p m >>= k) (refuses n)
   unfolding _>>=_ there
   meets-first {n} e = subst (λ (x : Answer A). Meets p own text (there p x >>= k) (refuses n)) e stops
 
@@ -83,12 +86,12 @@ module _ {A : Type 0} {p : Place} {own text : List ℕ} {m : Answer A} (k : A �
   meets-then {b} {r} e q = subst (λ (x : Answer A). Meets p own text (there p x >>= k) r) e q
 
 module _ (rooms : Rooms) (p : Place) (used kind : ℕ) (x : Attribute) (g : Given) {key value own text : List ℕ} (ek : x .key ≡ key) (ev : x .value ≡ value) where
-  pub read-key : {n : ℕ} → refuses n ≡ checkedOf key → Meets p own text (readExtra rooms p used kind x g) (refuses n)
+  pub read-key : {n : Cause} → refuses n ≡ checkedOf key → Meets p own text (readExtra rooms p used kind x g) (refuses n)
   unfolding readExtra
   read-key e = meets-first _ (e ∙ ap checkedOf (sym ek))
 
   module _ (good : gives tt ≡ checkedOf key) where
-    pub read-value : {n : ℕ} → refuses n ≡ checkedOf value → Meets p own text (readExtra rooms p used kind x g) (refuses n)
+    pub read-value : {n : Cause} → refuses n ≡ checkedOf value → Meets p own text (readExtra rooms p used kind x g) (refuses n)
     unfolding readExtra
     read-value e = meets-then _ (good ∙ ap checkedOf (sym ek)) (meets-first _ (e ∙ ap checkedOf (sym ev)))
 

@@ -4,6 +4,9 @@ use mathlib.Core.List.{List, [], _∷_}
 use mathlib.Core.Bool.{Bool, true, cond}
 use lib.Dec.{leb, eqb}
 use Rattle.names.specs.Keys as key
+use Rattle.tree_record.specs.Words as word
+use Rattle.tree_record.specs.Bits as bit
+use Rattle.tree_record.specs.Kinds as kind
 use Rattle.read_keys.specs.declared.Role.{Role}
 use Rattle.read_keys.specs.declared.Role.the-variants.{Text, Count, Number, Uuid, Timestamp, Time, Extra, Ignored}
 
@@ -15,17 +18,17 @@ roleIn (x ∷ xs) other k = cond (eqb k (x .0)) (x .1) (roleIn xs other k)
 -- the counts of a report and of a suite
 abbrev pub countKeys : List (ℕ × Role)
 countKeys =
-    (key.tests, Count 18)
-    ∷ (key.failures, Count 20)
-    ∷ (key.errors, Count 22)
-    ∷ (key.skipped, Count 24)
-    ∷ (key.disabled, Number 26 8)
+    (key.tests, Count word.tests)
+    ∷ (key.failures, Count word.failures)
+    ∷ (key.errors, Count word.errors)
+    ∷ (key.skipped, Count word.skipped)
+    ∷ (key.disabled, Number word.disabled bit.disabled)
     ∷ []
 
 -- "Ignore unknown attributes"
 abbrev pub reportKeys : List (ℕ × Role)
 reportKeys =
-    (key.name, Text 2 0)
+    (key.name, Text word.name bit.name)
     ∷ (key.uuid, Uuid)
     ∷ (key.timestamp, Timestamp true)
     ∷ (key.time, Time true)
@@ -37,7 +40,7 @@ reportRole = roleIn reportKeys Ignored
 -- "Store unknown attributes in extra", as does a case
 abbrev pub suiteKeys : List (ℕ × Role)
 suiteKeys =
-    (key.name, Text 2 0)
+    (key.name, Text word.name bit.name)
     ∷ (key.timestamp, Timestamp true)
     ∷ (key.time, Time true)
     ∷ countKeys
@@ -47,18 +50,18 @@ suiteRole = roleIn suiteKeys Extra
 
 abbrev pub caseKeys : List (ℕ × Role)
 caseKeys =
-    (key.name, Text 2 0)
-    ∷ (key.classname, Text 18 5)
+    (key.name, Text word.name bit.name)
+    ∷ (key.classname, Text word.classname bit.classname)
     ∷ (key.timestamp, Timestamp true)
     ∷ (key.time, Time true)
-    ∷ (key.assertions, Number 20 6)
+    ∷ (key.assertions, Number word.assertions bit.assertions)
     ∷ []
 
 unfoldable pub caseRole : ℕ → Role
 caseRole = roleIn caseKeys Extra
 
 abbrev pub propertyKeys : List (ℕ × Role)
-propertyKeys = (key.name, Text 2 0) ∷ (key.value, Text 4 1) ∷ []
+propertyKeys = (key.name, Text word.name bit.name) ∷ (key.value, Text word.value bit.value) ∷ []
 
 unfoldable pub propertyRole : ℕ → Role
 propertyRole = roleIn propertyKeys Ignored
@@ -68,17 +71,17 @@ abbrev pub statusKeys : Bool → List (ℕ × Role)
 statusKeys run =
     (key.timestamp, Timestamp run)
     ∷ (key.time, Time run)
-    ∷ (key.message, Text 2 0)
-    ∷ (key.type, Text 18 5)
+    ∷ (key.message, Text word.message bit.message)
+    ∷ (key.type, Text word.type bit.type)
     ∷ []
 
 unfoldable pub statusRole : Bool → ℕ → Role
 statusRole run = roleIn (statusKeys run) Ignored
 
--- the element by its record's kind: 1 report, 2 suite, 3 case, 4 and 5 property, 6 to 8 main, 9 to 12 run
+-- the element by its record's kind; behind the properties stand the mains, then the runs
 unfoldable pub roleOf : ℕ → ℕ → Role
-roleOf kind key =
-    cond (eqb kind 1) (reportRole key)
-    (cond (eqb kind 2) (suiteRole key)
-    (cond (eqb kind 3) (caseRole key)
-    (cond (leb kind 5) (propertyRole key) (statusRole (leb 9 kind) key))))
+roleOf k key =
+    cond (eqb k kind.report) (reportRole key)
+    (cond (eqb k kind.suite) (suiteRole key)
+    (cond (eqb k kind.case) (caseRole key)
+    (cond (leb k kind.caseProperty) (propertyRole key) (statusRole (leb kind.flakyFailure k) key))))

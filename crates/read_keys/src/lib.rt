@@ -15,6 +15,9 @@ use names::key::TIMESTAMP;
 use names::key::TYPE;
 use names::key::UUID;
 use names::key::VALUE;
+use tree_record::bit;
+use tree_record::kind;
+use tree_record::word;
 
 // What a value is read as: a text with its word and presence bit; a count with its word, without or with a presence bit; a
 // UUID; a timestamp and a time, kept or dropped; an extra; nothing.
@@ -33,15 +36,15 @@ fn report_role(key: usize) -> Role
     ensures { λ r. ⌜ r ≡ reportRole key ⌝ }
 {
     match key {
-        NAME => Role::Text(2, 0),
+        NAME => Role::Text(word::NAME, bit::NAME),
         UUID => Role::Uuid,
         TIMESTAMP => Role::Timestamp(true),
         TIME => Role::Time(true),
-        TESTS => Role::Count(18),
-        FAILURES => Role::Count(20),
-        ERRORS => Role::Count(22),
-        SKIPPED => Role::Count(24),
-        DISABLED => Role::Number(26, 8),
+        TESTS => Role::Count(word::TESTS),
+        FAILURES => Role::Count(word::FAILURES),
+        ERRORS => Role::Count(word::ERRORS),
+        SKIPPED => Role::Count(word::SKIPPED),
+        DISABLED => Role::Number(word::DISABLED, bit::DISABLED),
         _ => Role::Ignored,
     }
 }
@@ -50,14 +53,14 @@ fn suite_role(key: usize) -> Role
     ensures { λ r. ⌜ r ≡ suiteRole key ⌝ }
 {
     match key {
-        NAME => Role::Text(2, 0),
+        NAME => Role::Text(word::NAME, bit::NAME),
         TIMESTAMP => Role::Timestamp(true),
         TIME => Role::Time(true),
-        TESTS => Role::Count(18),
-        FAILURES => Role::Count(20),
-        ERRORS => Role::Count(22),
-        SKIPPED => Role::Count(24),
-        DISABLED => Role::Number(26, 8),
+        TESTS => Role::Count(word::TESTS),
+        FAILURES => Role::Count(word::FAILURES),
+        ERRORS => Role::Count(word::ERRORS),
+        SKIPPED => Role::Count(word::SKIPPED),
+        DISABLED => Role::Number(word::DISABLED, bit::DISABLED),
         _ => Role::Extra,
     }
 }
@@ -66,11 +69,11 @@ fn case_role(key: usize) -> Role
     ensures { λ r. ⌜ r ≡ caseRole key ⌝ }
 {
     match key {
-        NAME => Role::Text(2, 0),
-        CLASSNAME => Role::Text(18, 5),
+        NAME => Role::Text(word::NAME, bit::NAME),
+        CLASSNAME => Role::Text(word::CLASSNAME, bit::CLASSNAME),
         TIMESTAMP => Role::Timestamp(true),
         TIME => Role::Time(true),
-        ASSERTIONS => Role::Number(20, 6),
+        ASSERTIONS => Role::Number(word::ASSERTIONS, bit::ASSERTIONS),
         _ => Role::Extra,
     }
 }
@@ -79,8 +82,8 @@ fn property_role(key: usize) -> Role
     ensures { λ r. ⌜ r ≡ propertyRole key ⌝ }
 {
     match key {
-        NAME => Role::Text(2, 0),
-        VALUE => Role::Text(4, 1),
+        NAME => Role::Text(word::NAME, bit::NAME),
+        VALUE => Role::Text(word::VALUE, bit::VALUE),
         _ => Role::Ignored,
     }
 }
@@ -92,24 +95,24 @@ fn status_role(run: bool, key: usize) -> Role
     match key {
         TIMESTAMP => Role::Timestamp(run),
         TIME => Role::Time(run),
-        MESSAGE => Role::Text(2, 0),
-        TYPE => Role::Text(18, 5),
+        MESSAGE => Role::Text(word::MESSAGE, bit::MESSAGE),
+        TYPE => Role::Text(word::TYPE, bit::TYPE),
         _ => Role::Ignored,
     }
 }
 
-// The element by its record's kind: 1 report, 2 suite, 3 case, 4 and 5 property, 6 to 8 main, 9 to 12 run.
-pub fn role_of(kind: u32, key: usize) -> Role
-    ensures { λ r. ⌜ r ≡ roleOf kind key ⌝ }
+// The element by its record's kind; behind the properties stand the mains, then the runs.
+pub fn role_of(k: u32, key: usize) -> Role
+    ensures { λ r. ⌜ r ≡ roleOf k key ⌝ }
 {
-    match kind {
-        1 => report_role(key),
-        2 => suite_role(key),
-        3 => case_role(key),
-        _ => if kind <= 5 {
+    match k {
+        kind::REPORT => report_role(key),
+        kind::SUITE => suite_role(key),
+        kind::CASE => case_role(key),
+        _ => if k <= kind::CASE_PROPERTY {
             property_role(key)
         } else {
-            status_role(9 <= kind, key)
+            status_role(kind::FLAKY_FAILURE <= k, key)
         },
     }
 }

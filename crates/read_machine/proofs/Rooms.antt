@@ -8,9 +8,11 @@ use Rattle.table.specs.Event.{Attribute, PieceKind, Event, Tag, Piece, Eof, Fau
 use Rattle.trim.specs.Trim.{trimmed}
 use Rattle.read_element.specs.Outcome.{Place, Rooms, unlimited}
 use Rattle.read_element.proofs.Rooms.{Short, Agrees, same, agreed, suffices, bind, choosing, Wider, wider-unlimited, text-fits, scratch-fits, element-agrees}
-use Rattle.read_state.specs.Control.{Level, Output, Mode, Control, planAt, planEof, planFault, gathers}
+use Rattle.read_state.specs.Control.{Level, Output, Mode, Control, gathers}
+use Rattle.read_rules.specs.Rules.{planAt, planEof, planFault}
 use Rattle.read_state.specs.Control.{Act, pass, openReport, openSuite, openCase, openStatus, closeSuite, closeCase, closeStatus, openText, closeText, openList, readProperty, stop, missing, broken}
-use Rattle.read_place.specs.Marks.{Marks, actPlace}
+use Rattle.read_place.specs.Marks.{Marks}
+use Rattle.read_path.specs.Paths.{actPlace}
 use Rattle.read_content.specs.Content.{Content, killAll, propertyKind, recordOf, wordOf, bitOf, takes, gather, adding, withRecords, keeping, isEmpty, describing, outputting, perform}
 use Rattle.read_machine.specs.Machine.{Machine, act, step, run}
 

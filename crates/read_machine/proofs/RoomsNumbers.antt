@@ -1,6 +1,6 @@
 -- Where areas have no limit, reading refuses with numbers up to 10 only. Assumes nothing.
 use Prim.Native.Nat.{ℕ, _≤_}
-use mathlib.Core.Path.{_≡_}
+use mathlib.Core.Path.{_≡_, ap}
 use mathlib.Core.List.{List, [], _∷_}
 use mathlib.Core.Bool.{Bool, true, false, cond, _&&_}
 use mathlib.Core.Logic.{inl, inr}
@@ -10,17 +10,21 @@ use Rattle.utf8.specs.Utf8.{utf8}
 use Rattle.trim.specs.Trim.{trimmed}
 use Rattle.names.specs.Tags.{tagOf, testsuites, testsuite, testcase, properties, property, stackTrace, system-out, system-err}
 use Rattle.reference.specs.Reference.{refsOk, decoded, isEntity, entityChar}
-use Rattle.refusal.specs.Refusal.{Refused, refused}
+use Rattle.refusal.specs.Refusal.{number, Refused, refused}
 use Rattle.table.specs.Event.{Attribute, TagKind, Start, Empty, End, PieceKind, Text, CData, Ref, Other, Indent, Event, Tag, Piece, Eof, Fault}
 use Rattle.read_element.specs.Outcome.{Place, there, unlimited}
 use Rattle.read_element.proofs.Rooms.{IsShort, Short, short-refusal}
 use Rattle.read_element.proofs.RoomsNumbers.{UpToTen, fine, low, low-number, low-bind, low-need, low-cond, low-room, low-leaf, low-element}
 use Rattle.read_state.specs.Control.{Level, top, suite, case, status, Output, Mode, at, gathering, listing, skipping, finished, Control}
 use Rattle.read_state.specs.Control.{Act, pass, openReport, openSuite, openCase, openStatus, closeSuite, closeCase, closeStatus, openText, closeText, openList, readProperty, stop, missing, broken}
-use Rattle.read_state.specs.Control.{isStatus, orSkip, outputs, atTop, atSuite, atCase, child, atStatus, tagOfOutput, inText, inList, inSkip, planAt, planEof, planFault, gathers}
-use Rattle.read_place.specs.Marks.{Marks, actPlace}
+use Rattle.read_state.specs.Control.{isStatus, orSkip, gathers}
+use Rattle.read_rules.specs.Rules.{outputs, atTop, atSuite, atCase, child, atStatus, tagOfOutput, inText, inList, inSkip, planAt, planEof, planFault}
+use Rattle.read_place.specs.Marks.{Marks}
+use Rattle.read_path.specs.Paths.{actPlace}
 use Rattle.read_content.specs.Content.{Content, killAll, propertyKind, pieceOf, gather, adding, withRecords, keeping, isEmpty, describing, outputting, perform}
 use Rattle.read_machine.specs.Machine.{Machine, act, step, run}
+use Rattle.refusal.specs.declared.Cause.the-variants as cause
+use Rattle.refusal.specs.declared.Cause.{Cause}
 
 -- ---- plans
 -- the number that an action refuses with for itself
@@ -39,7 +43,7 @@ breaking (openList l) = 0
 breaking (readProperty l) = 0
 breaking stop = 0
 breaking missing = 0
-breaking (broken n) = n
+breaking (broken why) = number why
 
 data LowAct : Act → Type 0 where
   lowAct : {a : Act} → breaking a ≤ 10 → LowAct a
@@ -131,15 +135,15 @@ low-fault finished = lowAct (lit≤ tt)
 -- ---- actions
 low-piece : (p : Place) (k : PieceKind) (s : List ℕ) → UpToTen (there p (pieceOf k s))
 unfolding pieceOf there
-low-piece p Text s = low-leaf p (utf8 s) (refsOk s 0) (decoded s 0) 10 (lit≤ tt)
-low-piece p CData s = low-leaf p (utf8 s) true s 2 (lit≤ tt)
-low-piece p Ref s = low-leaf p (utf8 s) (isEntity s) (entityChar s ∷ []) 8 (lit≤ tt)
+low-piece p Text s = low-leaf p (utf8 s) (refsOk s 0) (decoded s 0) cause.BadReference (lit≤ tt)
+low-piece p CData s = low-leaf p (utf8 s) true s cause.NotUtf8 (lit≤ tt)
+low-piece p Ref s = low-leaf p (utf8 s) (isEntity s) (entityChar s ∷ []) cause.UnknownEntity (lit≤ tt)
 low-piece p Indent s = fine
 low-piece p Other s = fine
 
 low-gather : (p : Place) (mode : Mode) (k : PieceKind) (s : List ℕ) (c : Content) → UpToTen (gather unlimited p mode k s c)
 unfolding gather
-low-gather p mode k s c = low-bind (low-piece p k s) λ v. low-room _ p 14 fine
+low-gather p mode k s c = low-bind (low-piece p k s) λ v. low-room _ p cause.ScratchFull fine
 
 low-adding : (p : Place) (kind j : ℕ) (xs : List Attribute) (c : Content) → UpToTen (adding unlimited p kind j xs c)
 unfolding adding
@@ -147,7 +151,7 @@ low-adding p kind j xs c = low-bind (low-element p kind j xs (c .records) (c .te
 
 low-keeping : (p : Place) (taken : Bool) (i o k : ℕ) (v : List ℕ) (c : Content) → UpToTen (keeping unlimited p taken i o k v c)
 unfolding keeping
-low-keeping p taken i o k v c = low-room _ p 13 fine
+low-keeping p taken i o k v c = low-room _ p cause.TextFull fine
 
 low-describing : (p : Place) (m : Marks) (c : Content) → UpToTen (describing unlimited p m c)
 unfolding describing
@@ -165,7 +169,7 @@ low-perform p (openSuite e) j xs k m c h = low-adding p 2 j xs c
 low-perform p (openCase e) j xs k m c h = low-adding p 3 j xs c
 low-perform p (openStatus s e) j xs k m c h = low-adding p s j xs c
 low-perform p closeSuite j xs k m c h = fine
-low-perform p closeCase j xs k m c h = low-need _ p 8 (lit≤ tt) fine
+low-perform p closeCase j xs k m c h = low-need _ p cause.StatusRule (lit≤ tt) fine
 low-perform p closeStatus j xs k m c h = low-describing p m c
 low-perform p (openText l o) j xs k m c h = fine
 low-perform p (closeText l o) j xs k m c h = low-outputting p l o m c
@@ -191,14 +195,14 @@ unfolding run
 low-run [] s = low-step Eof s
 low-run (e ∷ es) s = low-bind (low-step e s) λ t. low-run es t
 
-pub run-number : (es : List Event) (s : Machine) (r : Refused) → run unlimited es s ≡ refused r → r .number ≤ 10
+pub run-number : (es : List Event) (s : Machine) (r : Refused) → run unlimited es s ≡ refused r → number (r .cause) ≤ 10
 run-number es s r e = low-number r (low-run es s) e
 
 -- so 12, 13 and 14 always say that room is lacking
 pub never-short : (es : List Event) (s : Machine) → ¬ Short (run unlimited es s)
-never-short es s h = let q = short-refusal h in high (q .0 .number) (run-number es s (q .0) (q .1)) (q .2)
+never-short es s h = let q = short-refusal h in high (q .0 .cause) (run-number es s (q .0) (q .1)) (q .2)
   where
-    high : (n : ℕ) → n ≤ 10 → ¬ IsShort n
-    high n l (inl e) = omega arith
-    high n l (inr (inl e)) = omega arith
-    high n l (inr (inr e)) = omega arith
+    high : (why : Cause) → number why ≤ 10 → ¬ IsShort why
+    high why l (inl e) = let z : number why ≡ 12 = ap number e in omega arith
+    high why l (inr (inl e)) = let z : number why ≡ 13 = ap number e in omega arith
+    high why l (inr (inr e)) = let z : number why ≡ 14 = ap number e in omega arith

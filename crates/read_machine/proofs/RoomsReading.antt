@@ -5,7 +5,7 @@ use mathlib.Core.List.{List, []}
 use mathlib.Core.Option.{Option}
 use mathlib.Core.Logic.{_⊎_, inl, inr}
 use native.Mathlib.Omega.{arith}
-use Rattle.refusal.specs.Refusal.{Refused, Outcome, accepted, refused}
+use Rattle.refusal.specs.Refusal.{number, Refused, Outcome, accepted, refused}
 use Rattle.table.specs.Event.{Event, resolve}
 use Rattle.table.specs.Table.{checkOf, checkedAnswer, tableOf}
 use Rattle.table.specs.declared.Checked.{Checked}
@@ -19,6 +19,7 @@ use Rattle.read_machine.specs.Machine.{Machine, run, begin}
 use Rattle.read_machine.specs.Reading.{reading, readAs, deserialize}
 use Rattle.read_machine.proofs.Rooms.{run-agrees, rooms-suffice}
 use Rattle.read_machine.proofs.RoomsNumbers.{run-number}
+use Rattle.refusal.specs.declared.Cause.the-variants as cause
 
 -- the report in what reading left
 abbrev pub reportIn : Machine → Option Report
@@ -66,13 +67,13 @@ unfolding _>>=_
 both-suffice words text scratch (accepted u) m n h e = e λ s. h (run-short words text scratch s)
 both-suffice words text scratch (refused q) m n h e = refl
 
--- 11 is the number of a table's refusal
-pub table-refuses : (events attributes source : List ℕ) (r : Refused) → tableOf events attributes source ≡ refused r → r .number ≡ 11
+-- a table's refusal has its own cause
+pub table-refuses : (events attributes source : List ℕ) (r : Refused) → tableOf events attributes source ≡ refused r → r .cause ≡ cause.BadTable
 table-refuses events attributes source r e = go (checkOf events attributes source) e
   where
-    go : (c : Checked) → checkedAnswer c ≡ refused r → r .number ≡ 11
+    go : (c : Checked) → checkedAnswer c ≡ refused r → r .cause ≡ cause.BadTable
     go Good q = let z : _≡_ {A = ℕ} 0 1 = cc in absurd (omega arith)
-    go (Bad i j) q = let z : record { number = 11; path = []; event = i; attribute = j } ≡ r = cc in sym (ap (λ (x : Refused). x .number) z)
+    go (Bad i j) q = let z : record { cause = cause.BadTable; path = []; event = i; attribute = j } ≡ r = cc in sym (ap (λ (x : Refused). x .cause) z)
 
 module _ (events attributes source : List ℕ) (words text scratch : ℕ) where
   abbrev table : Outcome (Unit {0})
@@ -98,43 +99,43 @@ module _ (events attributes source : List ℕ) (words text scratch : ℕ) where
       let h = both-accept words text scratch table lent e in
       (h .0, h .1, h .2, deserialize-of es (accepted (h .0)) (accepts (h .0) agree (h .1)))
 
-  -- if reading refuses, the table is refused, or room is lacking, or deserializing refuses alike; the number tells which
+  -- if reading refuses, the table is refused, or room is lacking, or deserializing refuses alike; the cause tells which
   pub reading-refuses : (r : Refused) → answer ≡ refused r →
-      ((table ≡ refused r) × (r .number ≡ 11)) ⊎ (IsShort (r .number) ⊎ ((deserialize es ≡ refused r) × (r .number ≤ 10)))
+      ((table ≡ refused r) × (r .cause ≡ cause.BadTable)) ⊎ (IsShort (r .cause) ⊎ ((deserialize es ≡ refused r) × (number (r .cause) ≤ 10)))
   unfolding reading _>>=_
   reading-refuses r e = go (both-refuse words text scratch table lent r e)
     where
-      free : IsShort (r .number) ⊎ (run unlimited es begin ≡ refused r) → IsShort (r .number) ⊎ ((deserialize es ≡ refused r) × (r .number ≤ 10))
+      free : IsShort (r .cause) ⊎ (run unlimited es begin ≡ refused r) → IsShort (r .cause) ⊎ ((deserialize es ≡ refused r) × (number (r .cause) ≤ 10))
       free (inl h) = inl h
       free (inr q) = inr (deserialize-of es (refused r) q, run-number es begin r q)
 
-      go : (table ≡ refused r) ⊎ (lent ≡ refused r) → ((table ≡ refused r) × (r .number ≡ 11)) ⊎ (IsShort (r .number) ⊎ ((deserialize es ≡ refused r) × (r .number ≤ 10)))
+      go : (table ≡ refused r) ⊎ (lent ≡ refused r) → ((table ≡ refused r) × (r .cause ≡ cause.BadTable)) ⊎ (IsShort (r .cause) ⊎ ((deserialize es ≡ refused r) × (number (r .cause) ≤ 10)))
       go (inl q) = inl (q, table-refuses events attributes source r q)
       go (inr q) = inr (free (refuses-so r agree q))
 
-  pub reading-refuses-so : (r : Refused) → answer ≡ refused r → ¬ (r .number ≡ 11) → ¬ IsShort (r .number) → deserialize es ≡ refused r
+  pub reading-refuses-so : (r : Refused) → answer ≡ refused r → ¬ (r .cause ≡ cause.BadTable) → ¬ IsShort (r .cause) → deserialize es ≡ refused r
   reading-refuses-so r e n k = go (reading-refuses r e)
     where
-      go : ((table ≡ refused r) × (r .number ≡ 11)) ⊎ (IsShort (r .number) ⊎ ((deserialize es ≡ refused r) × (r .number ≤ 10))) → deserialize es ≡ refused r
+      go : ((table ≡ refused r) × (r .cause ≡ cause.BadTable)) ⊎ (IsShort (r .cause) ⊎ ((deserialize es ≡ refused r) × (number (r .cause) ≤ 10))) → deserialize es ≡ refused r
       go (inl q) = absurd (n (q .1))
       go (inr (inl h)) = absurd (k h)
       go (inr (inr q)) = q .0
 
   -- if deserializing refuses, so does reading: alike, or for lack of room, or for the table
   pub deserialize-refuses : (r : Refused) → deserialize es ≡ refused r →
-      (q : Refused) × (answer ≡ refused q) × ((q ≡ r) ⊎ (IsShort (q .number) ⊎ (table ≡ refused q)))
+      (q : Refused) × (answer ≡ refused q) × ((q ≡ r) ⊎ (IsShort (q .cause) ⊎ (table ≡ refused q)))
   unfolding reading
   deserialize-refuses r e = told (refuses-too r agree (run-refuses (run unlimited es begin) r (sym (deserialize-of es (run unlimited es begin) refl) ∙ e)))
     where
-      go : (q : Refused) → (q ≡ r) ⊎ IsShort (q .number) →
+      go : (q : Refused) → (q ≡ r) ⊎ IsShort (q .cause) →
           (answer ≡ refused q) ⊎ ((p : Refused) × (answer ≡ refused p) × (table ≡ refused p)) →
-          (q : Refused) × (answer ≡ refused q) × ((q ≡ r) ⊎ (IsShort (q .number) ⊎ (table ≡ refused q)))
+          (q : Refused) × (answer ≡ refused q) × ((q ≡ r) ⊎ (IsShort (q .cause) ⊎ (table ≡ refused q)))
       go q (inl k) (inl a) = (q, a, inl k)
       go q (inr k) (inl a) = (q, a, inr (inl k))
       go q (inl k) (inr p) = (p .0, p .1, inr (inr (p .2)))
       go q (inr k) (inr p) = (p .0, p .1, inr (inr (p .2)))
 
-      told : (lent ≡ refused r) ⊎ Short lent → (q : Refused) × (answer ≡ refused q) × ((q ≡ r) ⊎ (IsShort (q .number) ⊎ (table ≡ refused q)))
+      told : (lent ≡ refused r) ⊎ Short lent → (q : Refused) × (answer ≡ refused q) × ((q ≡ r) ⊎ (IsShort (q .cause) ⊎ (table ≡ refused q)))
       told (inl k) = go r (inl refl) (one-refuses words text scratch table lent r k)
       told (inr k) = let s = short-refusal k in go (s .0) (inr (s .2)) (one-refuses words text scratch table lent (s .0) (s .1))
 

@@ -12,10 +12,14 @@ use Rattle.table.proofs.Resolving.{resolve-next}
 use Rattle.table_events.specs.Skip.{Skip, next, brokenAt, upFrom, skipOf}
 use Rattle.table_events.proofs.Turns.{Far, skip-far}
 use Rattle.read_element.specs.Outcome.{_>>=_, Rooms}
-use Rattle.read_state.specs.Control.{Level, top, suite, case, status, Mode, at, skipping, finished, control, Act, pass, stop, broken, orSkip, shallower, inSkip, planAt, planEof, planFault, gathers, turn}
-use Rattle.read_place.specs.Marks.{marks, levelPath, marksAfter}
+use Rattle.read_state.specs.Control.{Level, top, suite, case, status, Mode, at, skipping, finished, control, Act, pass, stop, broken, orSkip, gathers, turn}
+use Rattle.read_rules.specs.Rules.{shallower, inSkip, planAt, planEof, planFault}
+use Rattle.read_place.specs.Marks.{marks, marksAfter}
+use Rattle.read_path.specs.Paths.{levelPath}
 use Rattle.read_content.specs.Content.{perform}
 use Rattle.read_machine.specs.Machine.{Machine, act, step, run}
+use Rattle.refusal.specs.declared.Cause.the-variants as cause
+use Rattle.refusal.specs.declared.Cause.{Cause}
 
 -- the machine in another mode, at another event
 abbrev pub moved : Mode → ℕ → Machine → Machine
@@ -49,19 +53,19 @@ path-moved case m i s = refl
 path-moved status m i s = refl
 
 module _ (rooms : Rooms) (l : Level) (name : List ℕ) (s : Machine) where
-  abbrev skipRefused : ℕ → Outcome Machine
-  skipRefused i = refused (record { number = 1; path = levelPath l (s .marks); event = i; attribute = nowhere })
+  abbrev skipRefused : Cause → ℕ → Outcome Machine
+  skipRefused why i = refused (record { cause = why; path = levelPath l (s .marks); event = i; attribute = nowhere })
 
-  broken-here : (depth i : ℕ) → act rooms (broken 1) 0 [] (moved (skipping l name depth) i s) ≡ skipRefused i
+  broken-here : (why : Cause) (depth i : ℕ) → act rooms (broken why) 0 [] (moved (skipping l name depth) i s) ≡ skipRefused why i
   unfolding act perform _>>=_
-  broken-here depth i = ap (λ p. refused (record { number = 1; path = p; event = i; attribute = nowhere })) (path-moved l (skipping l name depth) i s)
+  broken-here why depth i = ap (λ p. refused (record { cause = why; path = p; event = i; attribute = nowhere })) (path-moved l (skipping l name depth) i s)
 
-  end-breaks : (depth i : ℕ) → run rooms [] (moved (skipping l name depth) i s) ≡ skipRefused i
+  end-breaks : (depth i : ℕ) → run rooms [] (moved (skipping l name depth) i s) ≡ skipRefused cause.EofInSkip i
   unfolding run step planEof
-  end-breaks depth i = broken-here depth i
+  end-breaks depth i = broken-here cause.EofInSkip depth i
 
   -- what the run comes to behind one event; f says it of a skip's answer
-  module _ (f : Skip → Outcome Machine) (refuses : (i : ℕ) → skipRefused i ≡ f (brokenAt i)) (es : List Event) (i : ℕ)
+  module _ (f : Skip → Outcome Machine) (refuses : (why : Cause) (i : ℕ) → skipRefused why i ≡ f (brokenAt why i)) (es : List Event) (i : ℕ)
       (on : (depth : ℕ) → run rooms es (moved (skipping l name depth) (i + 1) s) ≡ f (skipOf name depth (i + 1) es))
       (out : run rooms es (moved (at l) (i + 1) s) ≡ f (next (i + 1))) where
     turns : (e : Event) (depth : ℕ) → run rooms (e ∷ es) (moved (skipping l name depth) i s) ≡ f (skipOf name depth i (e ∷ es))
@@ -75,13 +79,13 @@ module _ (rooms : Rooms) (l : Level) (name : List ℕ) (s : Machine) where
         go true (suc d) = on d
         go false d = on d
     turns (Piece k bytes) depth = on depth
-    turns Eof depth = broken-here depth i ∙ refuses i
-    turns Fault depth = broken-here depth i ∙ refuses i
+    turns Eof depth = broken-here cause.EofInSkip depth i ∙ refuses cause.EofInSkip i
+    turns Fault depth = broken-here cause.XmlFault depth i ∙ refuses cause.XmlFault i
 
 -- what a run over a table of `count` events comes to, by the answer of a skip
 abbrev pub afterSkip : Rooms → (events attributes source : List ℕ) → ℕ → Level → Machine → Skip → Outcome Machine
 afterSkip rooms events attributes source count l s (next i) = run rooms (resolveFrom events attributes source (count - i) i) (moved (at l) i s)
-afterSkip rooms events attributes source count l s (brokenAt i) = refused (record { number = 1; path = levelPath l (s .marks); event = i; attribute = nowhere })
+afterSkip rooms events attributes source count l s (brokenAt why i) = refused (record { cause = why; path = levelPath l (s .marks); event = i; attribute = nowhere })
 
 module _ (rooms : Rooms) (events attributes source : List ℕ) where
   abbrev from : ℕ → ℕ → List Event
@@ -93,7 +97,7 @@ module _ (rooms : Rooms) (events attributes source : List ℕ) where
   skips l name s count zero i depth e = end-breaks rooms l name s depth i
   skips l name s count (suc n) i depth e =
       let z : n ≡ count - (i + 1) = omega arith in
-      turns rooms l name s (afterSkip rooms events attributes source count l s) (λ k. refl) (from n (i + 1)) i
+      turns rooms l name s (afterSkip rooms events attributes source count l s) (λ why k. refl) (from n (i + 1)) i
       (λ d. skips l name s count n (i + 1) d (omega arith))
       (ap (λ (m : ℕ). run rooms (from m (i + 1)) (moved (at l) (i + 1) s)) z)
       (eventAt events attributes source i) depth
@@ -119,9 +123,9 @@ module _ (rooms : Rooms) (events attributes source : List ℕ) where
         let f = subst (Far i (i + n)) e (skip-within name depth n i) in
         (skip-runs depth n i p q ∙ ap (afterSkip rooms events attributes source (n + i) l s) e, f .0, let h = f .1 in omega arith)
 
-    pub skip-broken : (depth n i j : ℕ) → s .control .mode ≡ skipping l name depth → s .marks .event ≡ i → skipOf name depth i (from n i) ≡ brokenAt j →
-        run rooms (from n i) s ≡ refused (record { number = 1; path = levelPath l (s .marks); event = j; attribute = nowhere })
-    skip-broken depth n i j p q e = skip-runs depth n i p q ∙ ap (afterSkip rooms events attributes source (n + i) l s) e
+    pub skip-broken : (why : Cause) (depth n i j : ℕ) → s .control .mode ≡ skipping l name depth → s .marks .event ≡ i → skipOf name depth i (from n i) ≡ brokenAt why j →
+        run rooms (from n i) s ≡ refused (record { cause = why; path = levelPath l (s .marks); event = j; attribute = nowhere })
+    skip-broken why depth n i j p q e = skip-runs depth n i p q ∙ ap (afterSkip rooms events attributes source (n + i) l s) e
 
     -- at the tag that begins a skip
     module _ (k : TagKind) (j : ℕ) (xs : List Attribute) (plan : planAt (s .control .mode) (s .control .seen) k name ≡ orSkip l name) where

@@ -31,6 +31,8 @@ use Rattle.read_content.specs.Content.{Content, killAll, killKind, kept, pieceO
 use Rattle.read_machine.proofs.TreeOrder.{kinds, kinds-append, Some, There}
 use Rattle.read_machine.proofs.TreeKept.{Kept, alive, kept-some, kept-more, all-killed, length-all, kind-killed-kept, length-kind, sortsOf, kept-changed, changed-same, Status, status-bounds, status-third, status-outputs}
 use Rattle.read_machine.proofs.TreePlans.{Gathered, suite-out, suite-err, case-out, case-err, status-trace, status-out, status-err}
+use Rattle.refusal.specs.declared.Cause.the-variants as cause
+use Rattle.refusal.specs.declared.Cause.{Cause}
 
 pub record Sound (rooms : Rooms) (c : Content) : Type 0 where
   pub records : Each (Kept (c .texts)) (c .records)
@@ -204,21 +206,21 @@ Fair Ref s = Unit {0}
 Fair Other s = Unit {0}
 Fair Indent s = utf8 s ≡ true
 
-given-utf8 : (t : Bool) (x v : List ℕ) (n : ℕ) → (t ≡ true → utf8 x ≡ true) → cond t (gives x) (refuses n) ≡ gives v → utf8 v ≡ true
+given-utf8 : (t : Bool) (x v : List ℕ) (n : Cause) → (t ≡ true → utf8 x ≡ true) → cond t (gives x) (refuses n) ≡ gives v → utf8 v ≡ true
 given-utf8 true x v n h e = let q : x ≡ v = cc in sym (ap utf8 q) ∙ h refl
 given-utf8 false x v n h e = let z : _≡_ {A = ℕ} 0 1 = cc in absurd (omega arith)
 
-both-utf8 : (b t : Bool) (x v : List ℕ) (n k : ℕ) → (b ≡ true → t ≡ true → utf8 x ≡ true) → cond b (cond t (gives x) (refuses n)) (refuses k) ≡ gives v → utf8 v ≡ true
+both-utf8 : (b t : Bool) (x v : List ℕ) (n k : Cause) → (b ≡ true → t ≡ true → utf8 x ≡ true) → cond b (cond t (gives x) (refuses n)) (refuses k) ≡ gives v → utf8 v ≡ true
 both-utf8 true t x v n k h e = given-utf8 t x v n (h refl) e
 both-utf8 false t x v n k h e = let z : _≡_ {A = ℕ} 0 1 = cc in absurd (omega arith)
 
 piece-utf8 : (k : PieceKind) (s v : List ℕ) → Fair k s → pieceOf k s ≡ gives v → utf8 v ≡ true
 unfolding pieceOf
-piece-utf8 Text s v f e = both-utf8 (utf8 s) (refsOk s 0) (decoded s 0) v 10 2 (λ u t. utf8-decoded s u) e
-piece-utf8 CData s v f e = given-utf8 (utf8 s) s v 2 (λ u. u) e
-piece-utf8 Ref s v f e = both-utf8 (utf8 s) (isEntity s) (entityChar s ∷ []) v 8 2 (λ u t. utf8-reference s t) e
-piece-utf8 Other s v f e = given-utf8 true [] v 0 (λ u. refl) e
-piece-utf8 Indent s v f e = given-utf8 true s v 0 (λ u. f) e
+piece-utf8 Text s v f e = both-utf8 (utf8 s) (refsOk s 0) (decoded s 0) v cause.BadReference cause.NotUtf8 (λ u t. utf8-decoded s u) e
+piece-utf8 CData s v f e = given-utf8 (utf8 s) s v cause.NotUtf8 (λ u. u) e
+piece-utf8 Ref s v f e = both-utf8 (utf8 s) (isEntity s) (entityChar s ∷ []) v cause.UnknownEntity cause.NotUtf8 (λ u t. utf8-reference s t) e
+piece-utf8 Other s v f e = given-utf8 true [] v cause.NotUtf8 (λ u. refl) e
+piece-utf8 Indent s v f e = given-utf8 true s v cause.NotUtf8 (λ u. f) e
 
 joins : {rooms : Rooms} {c : Content} (m : Mode) (v : List ℕ) → utf8 v ≡ true → Sound rooms c → Same rooms c (joinPiece m v c)
 joins {c = c} (at l) v u s = (sound-texts (utf8-append (c .description) v (s .description) ∙ u) (s .gathered) s, refl)
@@ -231,4 +233,4 @@ pub gathers-piece : {rooms : Rooms} {c : Content} (p : Place) (m : Mode) (k : Pi
 unfolding gather
 gathers-piece {rooms} {c} p m k b f s =
     bind (answered p (pieceOf k b)) λ v e.
-    needed (fits (rooms .scratch) (length (c .description) + length (c .gathered) + length v)) p 14 λ z. accept (joins m v (piece-utf8 k b v f e) s)
+    needed (fits (rooms .scratch) (length (c .description) + length (c .gathered) + length v)) p cause.ScratchFull λ z. accept (joins m v (piece-utf8 k b v f e) s)

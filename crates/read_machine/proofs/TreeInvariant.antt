@@ -7,12 +7,14 @@ use native.Mathlib.Omega.{arith}
 use lib.Dec.{lit≤}
 use lib.ListN.{length}
 use Rattle.table.specs.Event.{Attribute, Event, Tag, Piece, Eof, Fault}
-use Rattle.tree_report.specs.Status.{Tally, noStatus, tallied, ruled}
+use Rattle.tree_status.specs.declared.Tally.{Tally}
+use Rattle.tree_status.specs.Status.{noStatus, tallied, ruled}
 use Rattle.tree_report.proofs.EncodeLists.{Each, done, more}
 use Rattle.read_element.specs.Outcome.{_>>=_, Rooms}
 use Rattle.read_element.proofs.TreeOutcome.{Holds, accept, refuse, bind, needed, either}
 use Rattle.read_element.proofs.TreeRoles
-use Rattle.read_state.specs.Control.{Level, top, suite, case, status, Output, Mode, at, gathering, listing, skipping, finished, control, Act, planEof, gathers, turn}
+use Rattle.read_state.specs.Control.{Level, top, suite, case, status, Output, Mode, at, gathering, listing, skipping, finished, control, Act, gathers, turn}
+use Rattle.read_rules.specs.Rules.{planEof}
 use Rattle.read_place.specs.Marks.{Marks, marksAfter}
 use Rattle.read_content.specs.Content.{Content, perform}
 use Rattle.read_machine.specs.Machine.{Machine, act, step, run}
@@ -21,6 +23,7 @@ use Rattle.read_machine.proofs.TreeLevels.{Walk, walk-same, Ready, InSu
 use Rattle.read_machine.proofs.TreeKept.{Status, status-of, status-bounds, status-class}
 use Rattle.read_machine.proofs.TreePlans.{Gathered, suite-out, suite-err, case-out, case-err, status-trace, status-out, status-err, Planned, stays, skips, skips-on, returns, listed, reports, suites, stops, misses, breaks, cases, suite-ends, suite-list, statuses, case-ends, case-list, status-ends, texts, text-ends, properties-read, tag-plan, eof-plan, fault-plan}
 use Rattle.read_machine.proofs.TreeContent.{Sound, sound-some, sound-all, sound-kind, More, adds, Same, describes, Holder, puts-out, Fair, gathers-piece}
+use Rattle.refusal.specs.declared.Cause.the-variants as cause
 
 -- ---- by the level that is open; s, c and e are the records of the open suite, case and status element, κ the last one's kind
 abbrev pub Standing : Level → Bool → Tally → (s c e κ : ℕ) → List ℕ → Type 0
@@ -125,7 +128,7 @@ acted closed t k c j xs (statuses {κ = κ} {e = false} q) s w =
       );
     })))
 acted {rooms} closed t k c j xs case-ends s w =
-    bind {Q = λ d. Sound rooms d × InSuite (k .suiteAt) 2 (kinds (d .records))} (needed (ruled t) _ 8 λ e. accept (s, case-closes e w)) λ d g.
+    bind {Q = λ d. Sound rooms d × InSuite (k .suiteAt) 2 (kinds (d .records))} (needed (ruled t) _ cause.StatusRule λ e. accept (s, case-closes e w)) λ d g.
     accept (record { sound = g .0; order = g .1 })
 acted closed t k c j xs case-list s w =
     accept (record { sound = sound-kind 5 (k .caseAt) s; order = subst (InCase (k .suiteAt) (k .caseAt) t 1) (sym (kinds-killed 5 (k .caseAt) (sound-some s))) (case-lists w) })

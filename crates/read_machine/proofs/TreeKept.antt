@@ -7,7 +7,7 @@ use native.Mathlib.Omega.{arith}
 use borrow.Author.Tests.{ltb-true, lt-ltb, le-ltb, le-leb, leb-true, ne-eqb, eqb-true, eqb-false}
 use lib.Dec.{leb, ltb, eqb, lit≤}
 use lib.ListN.{length, getD, set, length-set}
-use Rattle.tree_report.specs.Fields.{kindOf, live, bit}
+use Rattle.tree_report.specs.Fields.{kindOf, live, hasBit}
 use Rattle.tree_report.specs.Layout.{goodRecord, allGood}
 use Rattle.tree_report.proofs.EncodeLists.{both, and-left, and-right, Each, done, more}
 use Rattle.tree_report.proofs.EncodeAreas.{Whole}
@@ -41,7 +41,7 @@ module _ {texts r : List ℕ} where
   kept-whole (alive f h) = (sheet-size h, ne-eqb (kindOf r) 0 (λ z. let b = final-bounds f .0 in let e = sheet-kind h in omega arith))
   kept-whole (gone l a b) = (l, ne-eqb (kindOf r) 0 (λ z. omega arith))
 
-  pub kept-plain : Kept texts r → live r ≡ true → bit 9 r ≡ false
+  pub kept-plain : Kept texts r → live r ≡ true → hasBit 9 r ≡ false
   kept-plain (alive f h) e = sheet-plain h
   kept-plain (gone l a b) e = absurd (let h = ltb-true (kindOf r) 16 e in omega arith)
 

@@ -8,7 +8,8 @@ use borrow.Author.Tests.{lt-ltb, le-leb, eq-eqb, ne-eqb, eqb-true}
 use lib.Dec.{ltb, eqb, lit≤}
 use lib.ListN.{length}
 use Rattle.tree_report.specs.Layout.{Open, nothing, over, mayEnd, mayFollow, following, opened}
-use Rattle.tree_report.specs.Status.{Tally, noStatus, tallied, ruled}
+use Rattle.tree_status.specs.declared.Tally.{Tally}
+use Rattle.tree_status.specs.Status.{noStatus, tallied, ruled}
 use Rattle.tree_report.proofs.EncodeLists.{both, Each, done, more, each-on}
 use Rattle.read_machine.proofs.TreeOrder.{killFrom, length-kill, kill-append, kill-end, kill-free, kill-twice, There, there-append, there-new, there-kept, only-kind, Path, end, past, next, path-append, path-dead}
 

@@ -7,7 +7,7 @@ use native.Mathlib.Omega.{arith}
 use borrow.Author.Tests.{ltb-false, le-ltb, le-leb, ne-eqb}
 use lib.Dec.{ltb, eqb}
 use lib.ListN.{length, getD, length-append, List·getD-append}
-use Rattle.tree_report.specs.Fields.{kindOf, live, bit}
+use Rattle.tree_report.specs.Fields.{kindOf, live, hasBit}
 use Rattle.tree_report.specs.Layout.{Open, mayEnd, mayFollow, following, goodOrder}
 use Rattle.tree_report.proofs.EncodeLists.{both, Each, done, more}
 use Rattle.read_content.specs.Content.{killed, killAll, killKind}
@@ -136,7 +136,7 @@ path-append end b = b
 path-append (past e a) b = past e (path-append a b)
 path-append (next e m a) b = next e m (path-append a b)
 
-follow-kind : (o : Open) (r : List ℕ) → bit 9 r ≡ false → following o (only-kind (kindOf r)) ≡ following o r
+follow-kind : (o : Open) (r : List ℕ) → hasBit 9 r ≡ false → following o (only-kind (kindOf r)) ≡ following o r
 unfolding following
 follow-kind o r e = rw e refl
 
@@ -144,7 +144,7 @@ follow-may : (o : Open) (r : List ℕ) → mayFollow o (only-kind (kindOf r)) �
 unfolding mayFollow
 follow-may o r = refl
 
-pub path-order : {o p : Open} {rs : List (List ℕ)} → Each (λ r. live r ≡ true → bit 9 r ≡ false) rs → Path o (kinds rs) p → 1 ≤ p .level → mayEnd p ≡ true → goodOrder o rs ≡ true
+pub path-order : {o p : Open} {rs : List (List ℕ)} → Each (λ r. live r ≡ true → hasBit 9 r ≡ false) rs → Path o (kinds rs) p → 1 ≤ p .level → mayEnd p ≡ true → goodOrder o rs ≡ true
 unfolding goodOrder
 path-order {p = p} done end l m = both (le-leb 1 (p .level) l) m
 path-order (more h hs) (past e a) l m = rw e (path-order hs a l m)

@@ -10,7 +10,9 @@ use Rattle.table.specs.Event.{TagKind, Start, Empty, End}
 use Rattle.tree_report.proofs.EncodeLists.{and-right}
 use Rattle.read_state.specs.Control.{Level, top, suite, case, status, Output, trace, out, err, Mode, at, gathering, listing, skipping, finished}
 use Rattle.read_state.specs.Control.{Act, pass, openReport, openSuite, openCase, openStatus, closeSuite, closeCase, closeStatus, openText, closeText, openList, readProperty, stop, missing, broken}
-use Rattle.read_state.specs.Control.{isStatus, orSkip, outputs, atTop, atSuite, atCase, child, atStatus, tagOfOutput, inText, inList, shallower, inSkip, planAt, planEof, planFault}
+use Rattle.read_state.specs.Control.{isStatus, orSkip}
+use Rattle.read_rules.specs.Rules.{outputs, atTop, atSuite, atCase, child, atStatus, tagOfOutput, inText, inList, shallower, inSkip, planAt, planEof, planFault}
+use Rattle.refusal.specs.declared.Cause.{Cause}
 
 -- the texts that an element gathers
 pub data Gathered : Level → Output → Type 0 where
@@ -32,7 +34,7 @@ pub data Planned (seen : Bool) : Mode → Act → Type 0 where
   suites : {e : Bool} → seen ≡ true → Planned seen (at top) (openSuite e)
   stops : seen ≡ true → Planned seen (at top) stop
   misses : {m : Mode} → Planned seen m missing
-  breaks : {m : Mode} {n : ℕ} → Planned seen m (broken n)
+  breaks : {m : Mode} {why : Cause} → Planned seen m (broken why)
   cases : {e : Bool} → Planned seen (at suite) (openCase e)
   suite-ends : Planned seen (at suite) closeSuite
   suite-list : Planned seen (at suite) (openList suite)

@@ -10,7 +10,7 @@ use lib.Dec.{leb, eqb, lit≤}
 use lib.ListN.{length, getD, take, drop}
 use Rattle.utf8.specs.Characters.{boundary}
 use Rattle.tree_report.specs.Encode.{Cell, isGiven, firstWord, secondWord, flagsOf}
-use Rattle.tree_report.specs.Fields.{kindOf, live, isSuite, isCase, isMain, isRun, bit, given, textAt, first, systemOut, systemErr, second, description, stackTrace, uuid, timestamp, time, counts, assertions}
+use Rattle.tree_report.specs.Fields.{kindOf, live, isSuite, isCase, isMain, isRun, hasBit, given, textAt, first, systemOut, systemErr, second, description, stackTrace, uuid, timestamp, time, counts, assertions}
 use Rattle.tree_report.specs.Report.{failure, error, success, nonSuccess, skipped}
 use Rattle.tree_report.specs.ReportOf.{only, until, Branch, branches, pairOf, pairsOf, reasonOf, runOf, kindOfRuns, statusOf, caseOf, suiteOf, reportFrom}
 use Rattle.tree_report.proofs.EncodeLists.{both, and-left, and-right, Each, done, more, each-on}
@@ -37,14 +37,14 @@ module _ (texts z : List ℕ) where
   SameText r o = textAt (texts ++ z) r o ≡ textAt texts r o
 
   abbrev SameGiven : List ℕ → ℕ → ℕ → Type 0
-  SameGiven r k o = given (bit k r) (textAt (texts ++ z) r o) ≡ given (bit k r) (textAt texts r o)
+  SameGiven r k o = given (hasBit k r) (textAt (texts ++ z) r o) ≡ given (hasBit k r) (textAt texts r o)
 
   placed-same : (r : List ℕ) (o : ℕ) (a n : ℕ) → goodAt texts a n ≡ true → getD r o 0 ≡ a → getD r (o + 1) 0 ≡ n → SameText r o
   placed-same r o a n g p q = rw (p, q) (good-same a n texts z g)
 
-  given-same : {c : Cell} (r : List ℕ) (k o : ℕ) → Fits texts text c → bit k r ≡ isGiven c → getD r o 0 ≡ firstWord 0 c → getD r (o + 1) 0 ≡ secondWord c → SameGiven r k o
+  given-same : {c : Cell} (r : List ℕ) (k o : ℕ) → Fits texts text c → hasBit k r ≡ isGiven c → getD r o 0 ≡ firstWord 0 c → getD r (o + 1) 0 ≡ secondWord c → SameGiven r k o
   given-same r k o textless b p q = rw b refl
-  given-same r k o (placed {a = a} {n = n} g) b p q = ap (given (bit k r)) (placed-same r o a n g p q)
+  given-same r k o (placed {a = a} {n = n} g) b p q = ap (given (hasBit k r)) (placed-same r o a n g p q)
 
   as-text : {x : Sort} {c : Cell} → x ≡ text → Fits texts x c → Fits texts text c
   as-text {c = c} q p = subst (λ (s : Sort). Fits texts s c) q p
@@ -70,13 +70,13 @@ module _ (texts z : List ℕ) where
   named-same {κ = κ} q (sheet a b c m d e f g h i pa pb pt pe pf pg ph pi) = go (subst (λ (s : Sort). Fits texts s a) q pa) (κ ∷ flagsOf (flags a b c m d e f g i) ∷ rest a b c m d e f g h i) refl refl
     where
       go : {x : Cell} → Fits texts name x → (r : List ℕ) → getD r 2 0 ≡ firstWord 0 x → getD r 3 0 ≡ secondWord x → SameText r 2 × SameGiven r 0 2
-      go (named {a = u} {n = v} t) r p w = let e = placed-same r 2 u v t p w in (e, ap (given (bit 0 r)) e)
+      go (named {a = u} {n = v} t) r p w = let e = placed-same r 2 u v t p w in (e, ap (given (hasBit 0 r)) e)
 
   outputs-same : {S : Sorts} {κ : ℕ} {r : List ℕ} → S .middle ≡ outputs → Sheet S texts κ r → SameGiven r 1 4 × SameGiven r 2 6
   outputs-same {κ = κ} q (sheet a b c m d e f g h i pa pb pt pe pf pg ph pi) = go (subst (λ (s : Middle). InMiddle texts s b c) q pb) (κ ∷ flagsOf (flags a b c m d e f g i) ∷ rest a b c m d e f g h i) (bit-flag 1 (flags a b c m d e f g i)) refl refl (bit-flag 2 (flags a b c m d e f g i)) refl refl
     where
-      go : {x y : Cell} → InMiddle texts outputs x y → (r : List ℕ) → bit 1 r ≡ isGiven x → getD r 4 0 ≡ firstWord 0 x → getD r 5 0 ≡ secondWord x
-          → bit 2 r ≡ isGiven y → getD r 6 0 ≡ firstWord 0 y → getD r 7 0 ≡ secondWord y → SameGiven r 1 4 × SameGiven r 2 6
+      go : {x y : Cell} → InMiddle texts outputs x y → (r : List ℕ) → hasBit 1 r ≡ isGiven x → getD r 4 0 ≡ firstWord 0 x → getD r 5 0 ≡ secondWord x
+          → hasBit 2 r ≡ isGiven y → getD r 6 0 ≡ firstWord 0 y → getD r 7 0 ≡ secondWord y → SameGiven r 1 4 × SameGiven r 2 6
       go (two u v) r p q s t w l = (given-same r 1 4 u p q s, given-same r 2 6 v t w l)
 
   value-same : {S : Sorts} {κ : ℕ} {r : List ℕ} → S .middle ≡ pair → Sheet S texts κ r → SameText r 4

@@ -5,10 +5,12 @@ use mathlib.Core.Bool.{false, cond}
 use lib.ListN.{length}
 use Rattle.refusal.specs.Refusal.{nowhere, Outcome, accepted}
 use Rattle.table.specs.Event.{Attribute, Event, Tag, Piece, Eof, Fault}
-use Rattle.tree_report.specs.Status.{noStatus}
+use Rattle.tree_status.specs.Status.{noStatus}
 use Rattle.read_element.specs.Outcome.{_>>=_, Rooms}
-use Rattle.read_state.specs.Control.{top, at, Control, control, Act, planAt, planEof, planFault, gathers, turn}
-use Rattle.read_place.specs.Marks.{Marks, modePath, actPlace, marks, marksAfter, onward}
+use Rattle.read_state.specs.Control.{top, at, Control, control, Act, gathers, turn}
+use Rattle.read_rules.specs.Rules.{planAt, planEof, planFault}
+use Rattle.read_place.specs.Marks.{Marks, marks, marksAfter, onward}
+use Rattle.read_path.specs.Paths.{modePath, actPlace}
 use Rattle.read_content.specs.Content.{Content, gather, perform}
 
 pub record Machine : Type 0 where

@@ -17,8 +17,8 @@ use Rattle.table.specs.Event.{Attribute}
 use Rattle.tree_report.proofs.EncodeLists.{Each, done, more}
 use Rattle.read_element.specs.Outcome.{_>>=_, Place, Rooms, fits}
 use Rattle.read_element.specs.Attributes.{Given, Grown, readElement}
-use Rattle.read_element.specs.Held.{flat, Keyed, Held, Roomy}
-use Rattle.read_attributes.specs.Steps.{Free, Becomes, became, faulted}
+use Rattle.read_element.specs.inside.Held.{Keyed, Held, Roomy}
+use Rattle.read_attributes.specs.inside.Elements.{Free, Becomes, became, faulted}
 use Rattle.read_attributes.specs.declared.Grown.{Grown as CodedGrown}
 use Rattle.read_attributes.specs.declared.Element.{Element}
 use Rattle.read_attributes.specs.declared.Element.the-variants as element
@@ -26,10 +26,10 @@ use Rattle.read_element.proofs.TreeOutcome as outcome
 use Rattle.read_element.proofs.TreeRoles.{suite-wide, case-wide}
 use Rattle.read_element.proofs.TreeElement.{Few, no-extras, extras-of}
 use Rattle.read_content.specs.Content.{Content, grown, adding}
-use Rattle.read_content.specs.Holds.{kindIn, Holds, Sized, Comes, came, halted, Added, addedIn, addedTo}
+use Rattle.read_content.specs.inside.Holds.{kindIn, Holds, Sized, Comes, came, halted, Added, addedIn, addedTo}
 use Rattle.read_content.specs.declared.Content.{Content as CodedContent}
 use Rattle.read_content.specs.declared.Performed.{Performed}
-use Rattle.read_content.proofs.Records.{flat-joined, joined-append, joined-size, whole-append, keyed-whole, kind-front, kind-behind}
+use Rattle.read_content.proofs.Records.{joined-append, joined-size, whole-append, keyed-whole, kind-front, kind-behind}
 use Rattle.read_content.proofs.Listing.{added-dead}
 use Rattle.read_content.proofs.Areas.{fits-words, own-front, text-front}
 use Rattle.read_opening.proofs.ElementKinds.{NewKinds, element-kinds}
@@ -70,14 +70,14 @@ abbrev pub somewhere : Place
 somewhere = record { path = []; event = 0; attribute = nowhere }
 
 -- ---- what an element takes
-flat-size : (n : ℕ) (rs : List (List ℕ)) → Keyed n rs → length (flat rs) ≡ length rs * 32
-flat-size n rs k = ap length (flat-joined rs) ∙ joined-size rs (keyed-whole n rs k)
+extras-size : (n : ℕ) (rs : List (List ℕ)) → Keyed n rs → length (joined rs) ≡ length rs * 32
+extras-size n rs k = joined-size rs (keyed-whole n rs k)
 
 own-size : {own text : List ℕ} {extras fill : ℕ} {g : Given} → Held own text extras fill g → (extras + 1) * 32 ≤ length own
 own-size {own} {g = g} h =
-    let a = ap length (h .records) ∙ length-append (g .main) (flat (g .extras) ++ zeros (h .room)) in
-    let b = length-append (flat (g .extras)) (zeros (h .room)) in
-    let d = flat-size (length (g .texts)) (g .extras) (h .keyed) in
+    let a = ap length (h .records) ∙ length-append (g .main) (joined (g .extras) ++ zeros (h .room)) in
+    let b = length-append (joined (g .extras)) (zeros (h .room)) in
+    let d = extras-size (length (g .texts)) (g .extras) (h .keyed) in
     let e = h .main-words in
     let f = h .count in
     omega arith
@@ -135,7 +135,7 @@ module _ {words text scratch attributes source : List ℕ} {c : CodedContent} {s
     records =
         rest-back words (c .used * 32) own
         ∙ ap (λ (x : List ℕ). x ++ own) (own-front hd)
-        ∙ ap (λ (x : List ℕ). joined (s .records) ++ x) (h .records ∙ ap (λ (x : List ℕ). g .main ++ (x ++ zeros (h .room))) (flat-joined (g .extras)) ∙ sym (append-assoc (g .main) (joined (g .extras)) (zeros (h .room))))
+        ∙ ap (λ (x : List ℕ). joined (s .records) ++ x) (h .records ∙ sym (append-assoc (g .main) (joined (g .extras)) (zeros (h .room))))
         ∙ sym (append-assoc (joined (s .records)) (joined (g .main ∷ g .extras)) (zeros (h .room)))
         ∙ ap (λ (x : List ℕ). x ++ zeros (h .room)) (sym (joined-append (s .records) (g .main ∷ g .extras)));
     whole = whole-append (s .records) (g .main ∷ g .extras) (hd .whole) (h .main-words, keyed-whole (length (g .texts)) (g .extras) (h .keyed));

@@ -16,9 +16,10 @@ use Rattle.uuid.specs.Uuid.{uuidOf}
 use Rattle.uuid.specs.declared.Words.{Words}
 use Rattle.table.specs.Event.{Attribute}
 use Rattle.tree_report.proofs.EncodeLists.{Each, done, more, each-append}
-use Rattle.tree_put.specs.Put.{blank, marked, putPair, putText, putCount, putWords, uuidWords, putUuid, momentWords, putMoment, putTime, hasBit}
+use Rattle.tree_record.specs.Record.{marked, hasBit}
+use Rattle.tree_put.specs.Put.{blank, putPair, putText, putCount, putWords, uuidWords, putUuid, momentWords, putMoment, putTime}
 use Rattle.tree_put.proofs.Puts.{pair-other, words-before}
-use Rattle.tree_put.proofs.Marks.{marked-other}
+use Rattle.tree_record.proofs.Marks.{marked-other}
 use Rattle.read_keys.specs.declared.Role.{Role}
 use Rattle.read_keys.specs.Roles.{roleOf}
 use Rattle.read_element.specs.Outcome.{Place, within, Rooms, fits}
@@ -27,6 +28,7 @@ use Rattle.read_element.proofs.TreeOutcome.{Holds, accept, bind, needed, answer
 use Rattle.read_element.proofs.TreeSheet.{Sorts, text, value}
 use Rattle.read_element.proofs.TreeRoles.{Wide, Suits, as-first, as-value, as-second, as-tests, as-failures, as-errors, as-skipped, as-disabled, as-assertions, as-uuid, as-moment, as-time, as-extra, as-ignored, Class, report, suite, case, suiteProperty, caseProperty, failure, error, skipped, flakyFailure, flakyError, rerunFailure, rerunError, class-roles}
 use Rattle.read_element.proofs.TreeElement.{Few, no-extras, extras-of, each-changed}
+use Rattle.refusal.specs.declared.Cause.the-variants as cause
 
 -- ---- words put behind the first leave the kind
 text-kind : (o k s n : ℕ) → 2 ≤ o → (r : List ℕ) → getD (putText o k s n r) 0 0 ≡ getD r 0 0
@@ -65,14 +67,14 @@ module _ (rooms : Rooms) {κ : ℕ} (used : ℕ) where
   unfolding readText
   text-read {g} p o k s h w =
       bind (answered p (checkedOf s)) λ x e.
-      needed (fits (rooms .text) (length (g .texts) + length (valueText s))) p 13 λ f.
+      needed (fits (rooms .text) (length (g .texts) + length (valueText s))) p cause.TextFull λ f.
       accept (record { main = text-kind o k (length (g .texts)) (length (valueText s)) h (g .main) ∙ w .main; extras = w .extras; few = w .few })
 
   old-extra : {g : Given} (p : Place) (v : List ℕ) (i : ℕ) → Wide κ → Going κ g → Holds (Going κ) (oldExtra rooms p v i g)
   unfolding oldExtra
   old-extra {g} p v i wide w =
       let f : List ℕ → List ℕ = putPair 4 (length (g .texts)) (length v) in
-      needed (fits (rooms .text) (length (g .texts) + length v)) p 13 λ e.
+      needed (fits (rooms .text) (length (g .texts) + length v)) p cause.TextFull λ e.
       accept (record {
         main = w .main;
         extras = each-changed i f (λ r h. pair-other 4 (length (g .texts)) (length v) r 0 (omega arith) (omega arith) ∙ h) (w .extras);
@@ -84,9 +86,9 @@ module _ (rooms : Rooms) {κ : ℕ} (used : ℕ) where
   new-extra {g} p key v wide w =
       let keyed : List ℕ = g .texts ++ key in
       let r : List ℕ = putText 2 0 (length (g .texts)) (length key) (blank (extraKind κ)) in
-      needed (fits (rooms .records) (used + 1 + length (g .extras) + 1)) p 12 λ e.
-      needed (fits (rooms .text) (length (g .texts) + length key)) p 13 λ a.
-      needed (fits (rooms .text) (length keyed + length v)) p 13 λ b.
+      needed (fits (rooms .records) (used + 1 + length (g .extras) + 1)) p cause.RecordsSpent λ e.
+      needed (fits (rooms .text) (length (g .texts) + length key)) p cause.TextFull λ a.
+      needed (fits (rooms .text) (length keyed + length v)) p cause.TextFull λ b.
       accept (record {
         main = w .main;
         extras = each-append (w .extras) (more (text-kind 4 1 (length keyed) (length v) (lit≤ tt) r ∙ text-kind 2 0 (length (g .texts)) (length key) (lit≤ tt) (blank (extraKind κ))) done);
@@ -125,7 +127,7 @@ module _ (rooms : Rooms) {κ : ℕ} (used : ℕ) where
   unfolding readAttributes
   attributes-read roles p before j [] w = accept w
   attributes-read roles p before j (x ∷ xs) w =
-      bind (needed (x .good && not (among (x .key) before)) (numbered p j) 9 (λ e. by-role (numbered p j) (keyOf (x .key)) x (roles (keyOf (x .key))) w)) λ h v.
+      bind (needed (x .good) (numbered p j) cause.FaultyAttribute λ _. needed (not (among (x .key) before)) (numbered p j) cause.RepeatedKey (λ e. by-role (numbered p j) (keyOf (x .key)) x (roles (keyOf (x .key))) w)) λ h v.
       attributes-read roles p (before ++ (x .key ∷ [])) (j + 1) xs v
 
 -- ---- the element
@@ -141,12 +143,12 @@ of-class : (rooms : Rooms) {κ : ℕ} {S T : Sorts} (p : Place) (j : ℕ) (xs : 
 unfolding readElement complete
 of-class rooms {κ} p j xs before texts class =
     bind
-    (needed (fits (rooms .records) (length before + 1)) p 12 λ e.
+    (needed (fits (rooms .records) (length before + 1)) p cause.RecordsSpent λ e.
     attributes-read rooms {κ = κ} (length before) (class-roles class) p [] j xs (record { main = refl; extras = done; few = no-extras }))
     λ g w.
     bind {Q = Going κ}
-    (needed (not (leb 2 κ && leb κ 5) || hasBit 0 (g .main)) (within p 1) 7 λ a.
-    needed (not (leb 4 κ && leb κ 5) || hasBit 1 (g .main)) (within p 14) 7 λ b. accept w)
+    (needed (not (leb 2 κ && leb κ 5) || hasBit 0 (g .main)) (within p 1) cause.MissingAttribute λ a.
+    needed (not (leb 4 κ && leb κ 5) || hasBit 1 (g .main)) (within p 14) cause.MissingAttribute λ b. accept w)
     λ h v.
     accept (record { main = h .main; extras = h .extras; whole = refl; main-kind = v .main; each = v .extras; few = v .few })
 

@@ -13,10 +13,10 @@ use Rattle.refusal.specs.Refusal.{Outcome, accepted}
 use Rattle.table.specs.Event.{Attribute}
 use Rattle.read_element.specs.Outcome.{Place, Rooms}
 use Rattle.read_state.specs.Control.{Level, top, suite, case, status, Mode, at, gathering, listing, skipping, finished, Control, openReport, openSuite, openCase, openStatus, turn}
-use Rattle.read_state.specs.Coded.{opening}
+use Rattle.read_state.specs.inside.Coded.{opening}
 use Rattle.read_place.specs.Marks.{Marks, marksAfter}
 use Rattle.read_content.specs.Content.{Content, killAll, killKind, propertyKind, recordOf, adding, withRecords, perform}
-use Rattle.read_content.specs.Holds.{killWords, Holds, Listed, Opened, Lists, opens, hasList, Comes, came, halted, Performs, noList, listOf, content, withList, Added}
+use Rattle.read_content.specs.inside.Holds.{killWords, Holds, Listed, Opened, Lists, opens, hasList, Comes, came, halted, Performs, noList, listOf, content, withList, Added}
 use Rattle.read_content.specs.declared.List.{List as CodedList}
 use Rattle.read_content.specs.declared.Content.{Content as CodedContent}
 use Rattle.read_content.specs.declared.Performed.{Performed}

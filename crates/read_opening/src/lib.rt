@@ -1,18 +1,18 @@
 // Elements read behind the records.
+use read_attribute::Range;
 use read_attributes::Element;
-use read_attributes::Range;
 use read_attributes::read_element;
 use read_content::Content;
 use read_content::List;
 use read_content::Performed;
-use read_content::kill::kill;
-use read_content::kill::list_of;
-use read_content::kill::with_list;
 use read_content::property_kind;
-use read_state::CASE;
+use read_lists::kill;
+use read_lists::list_of;
+use read_lists::with_list;
 use read_state::Level;
-use read_state::REPORT;
-use read_state::SUITE;
+use tree_record::kind::CASE;
+use tree_record::kind::REPORT;
+use tree_record::kind::SUITE;
 ghost use mathlib.Core.Path.{_≡_};
 ghost use mathlib.Core.Bool.{Bool, true};
 ghost use mathlib.Core.List.{List as Series, []};
@@ -23,12 +23,12 @@ ghost use Rattle.table.specs.Event.{attributesFrom};
 ghost use Rattle.read_element.specs.Outcome.{Place, Rooms};
 ghost use Rattle.read_state.specs.Control.{at, top, suite, case, listing, turn};
 ghost use Rattle.read_state.specs.Control as plan;
-ghost use Rattle.read_state.specs.Coded.{levelOf, opening};
+ghost use Rattle.read_state.specs.inside.Coded.{levelOf, opening};
 ghost use Rattle.read_place.specs.Marks.{marksAfter};
 ghost use Rattle.read_place.specs.Marks as standing;
 ghost use Rattle.read_content.specs.Content.{killAll, adding, withRecords, propertyKind};
 ghost use Rattle.read_content.specs.Content as done;
-ghost use Rattle.read_content.specs.Holds.{Holds, Holding, Lists, Sized, Added, Comes, Performs, opens, listOf};
+ghost use Rattle.read_content.specs.inside.Holds.{Holds, Holding, Lists, Sized, Added, Comes, Performs, opens, listOf};
 
 fn add_element(
     kind: u32,

@@ -1,3 +1,2 @@
-pub mod Leading
-pub mod Lengths
 pub mod Lasting
+pub mod Examples

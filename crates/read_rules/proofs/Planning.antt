@@ -6,18 +6,20 @@ use mathlib.Core.Path.{_≡_, refl}
 use native.Mathlib.Omega.{arith}
 use borrow.Author.Tests.{lt-ltb, ne-eqb, leb-true}
 use lib.Dec.{leb, ltb, eqb}
-use Rattle.table.specs.Event.{Start, Empty, End}
-use Rattle.read_state.specs.Control.{Level, top, suite, case, status, Output, at, gathering, pass, openReport, openSuite, openStatus, closeText, stop, missing, broken, isStatus, atTop, atStatus, child, tagOfOutput, inText, planEof}
+use Rattle.table.specs.Event.{Start, Empty, End, tagKind}
+use Rattle.read_state.specs.Control.{Level, top, suite, case, status, Output, at, gathering, pass, openReport, openSuite, openStatus, closeText, stop, missing, broken, isStatus}
+use Rattle.read_rules.specs.Rules.{atTop, atStatus, child, tagOfOutput, inText, planEof}
 use Rattle.read_state.proofs.Turning.{opening-other}
-use Rattle.read_state.specs.Coded.{kindOf, modeAt, isTop, opening}
+use Rattle.read_state.specs.inside.Coded.{modeAt, isTop, opening}
 use Rattle.read_state.specs.declared.Mode.{Mode as CodedMode}
 use Rattle.read_state.specs.declared.Mode.the-variants.{At, Text, List as Listing}
+use Rattle.refusal.specs.declared.Cause.the-variants as cause
 
 -- "Kinds: 0 Start, 1 Empty, 2 End"
-pub kind-end : (k : ℕ) → (k ≡ 0 → ⊥) → (k ≡ 1 → ⊥) → kindOf k ≡ End
+pub kind-end : (k : ℕ) → (k ≡ 0 → ⊥) → (k ≡ 1 → ⊥) → tagKind k ≡ End
 kind-end k a b = rw (ne-eqb k 0 a, ne-eqb k 1 b) refl
 
-pub kind-above : (k : ℕ) → 1 < k → kindOf k ≡ End
+pub kind-above : (k : ℕ) → 1 < k → tagKind k ≡ End
 kind-above k h = kind-end k (λ e. omega arith) (λ e. omega arith)
 
 -- Start and Empty alike
@@ -26,14 +28,14 @@ unfolding atTop
 top-opens seen true t = refl
 top-opens seen false t = refl
 
-pub status-opens : (k : ℕ) (name : List ℕ) → k ≤ 1 → atStatus (kindOf k) name ≡ child name
+pub status-opens : (k : ℕ) (name : List ℕ) → k ≤ 1 → atStatus (tagKind k) name ≡ child name
 unfolding atStatus
 status-opens zero name h = refl
 status-opens (suc zero) name h = refl
 status-opens (suc (suc k)) name h = absurd (omega arith)
 
 -- a text is closed by an End of its name
-pub text-closes : (l : Level) (o : Output) (k t : ℕ) → inText l o (kindOf k) t ≡ cond (ltb 1 k && eqb t (tagOfOutput o)) (closeText l o) (pass (gathering l o))
+pub text-closes : (l : Level) (o : Output) (k t : ℕ) → inText l o (tagKind k) t ≡ cond (ltb 1 k && eqb t (tagOfOutput o)) (closeText l o) (pass (gathering l o))
 unfolding inText
 text-closes l o zero t = refl
 text-closes l o (suc zero) t = refl
@@ -41,7 +43,7 @@ text-closes l o (suc (suc k)) t =
     rw (kind-above (suc (suc k)) (omega arith), lt-ltb 1 (suc (suc k)) (omega arith)) refl
 
 -- Eof by whether an element inside the report is open
-pub eof-plans : (m : CodedMode) (l : Level) (o : Output) (seen closed : Bool) → planEof (modeAt m l o) seen closed ≡ cond (isTop (modeAt m l o)) (cond seen (cond closed stop (broken 8)) missing) (broken 8)
+pub eof-plans : (m : CodedMode) (l : Level) (o : Output) (seen closed : Bool) → planEof (modeAt m l o) seen closed ≡ cond (isTop (modeAt m l o)) (cond seen (cond closed stop (broken cause.EofInElement)) missing) (broken cause.EofInElement)
 unfolding planEof
 eof-plans At top o seen closed = refl
 eof-plans At suite o seen closed = refl

@@ -4,19 +4,10 @@ ghost use Prim.Native.Nat.{ℕ};
 ghost use mathlib.Core.List.{List, []};
 ghost use mathlib.Core.Bool.{cond};
 ghost use Rattle.names.specs.Tags.{tagOf};
-ghost use Rattle.table.specs.Event.{Start, Empty};
+ghost use Rattle.table.specs.Event.{Start, Empty, tagKind};
 ghost use Rattle.read_state.specs.Control as plan;
-ghost use Rattle.read_state.specs.Coded.{kindOf, levelOf, levelIn, outputOf, modeOf, isTop, actIn, actOf};
-use read_state::Act;
-use read_state::CASE;
-use read_state::Control;
-use read_state::EMPTY;
-use read_state::Level;
-use read_state::Mode;
-use read_state::Output;
-use read_state::REPORT;
-use read_state::START;
-use read_state::SUITE;
+ghost use Rattle.read_rules.specs.Rules as rules;
+ghost use Rattle.read_state.specs.inside.Coded.{levelOf, levelIn, outputOf, modeOf, isTop, actIn, actOf};
 use names::tag::PROPERTIES;
 use names::tag::PROPERTY;
 use names::tag::STACK_TRACE;
@@ -25,7 +16,17 @@ use names::tag::SYSTEM_OUT;
 use names::tag::TESTCASE;
 use names::tag::TESTSUITE;
 use names::tag::TESTSUITES;
+use read_state::Act;
+use read_state::Control;
+use read_state::Level;
+use read_state::Mode;
+use read_state::Output;
 use refusal::Cause;
+use table::kind::EMPTY;
+use table::kind::START;
+use tree_record::kind::CASE;
+use tree_record::kind::REPORT;
+use tree_record::kind::SUITE;
 
 // The seven status names are the codes 6 to 12.
 fn is_status(tag: usize) -> bool
@@ -36,7 +37,7 @@ fn is_status(tag: usize) -> bool
 
 // The outputs of suite, case and status element; any other child is skipped.
 fn child(tag: usize) -> Act
-    ensures { λ r. ⌜ ((m : plan.Mode) (name : List ℕ) → tagOf name ≡ tag → actIn m name r ≡ plan.outputs (levelIn m) name) ⌝ }
+    ensures { λ r. ⌜ ((m : plan.Mode) (name : List ℕ) → tagOf name ≡ tag → actIn m name r ≡ rules.outputs (levelIn m) name) ⌝ }
 {
     match tag {
         SYSTEM_OUT => Act::OpenText(Output::Out),
@@ -46,7 +47,7 @@ fn child(tag: usize) -> Act
 }
 
 fn open_top(seen: bool, tag: usize, empty: bool) -> Act
-    ensures { λ r. ⌜ ((name : List ℕ) → actIn (plan.at plan.top) name r ≡ plan.atTop seen (cond empty Empty Start) tag) ⌝ }
+    ensures { λ r. ⌜ ((name : List ℕ) → actIn (plan.at plan.top) name r ≡ rules.atTop seen (cond empty Empty Start) tag) ⌝ }
 {
     if tag == TESTSUITES {
         return Act::Open(REPORT, empty);
@@ -58,7 +59,7 @@ fn open_top(seen: bool, tag: usize, empty: bool) -> Act
 }
 
 fn step_top(seen: bool, kind: u32, tag: usize) -> Act
-    ensures { λ r. ⌜ ((name : List ℕ) → actIn (plan.at plan.top) name r ≡ plan.atTop seen (kindOf kind) tag) ⌝ }
+    ensures { λ r. ⌜ ((name : List ℕ) → actIn (plan.at plan.top) name r ≡ rules.atTop seen (tagKind kind) tag) ⌝ }
 {
     match kind {
         START => open_top(seen, tag, false),
@@ -73,7 +74,7 @@ fn step_top(seen: bool, kind: u32, tag: usize) -> Act
 }
 
 fn open_suite(tag: usize) -> Act
-    ensures { λ r. ⌜ ((name : List ℕ) → tagOf name ≡ tag → actIn (plan.at plan.suite) name r ≡ plan.atSuite Start name) ⌝ }
+    ensures { λ r. ⌜ ((name : List ℕ) → tagOf name ≡ tag → actIn (plan.at plan.suite) name r ≡ rules.atSuite Start name) ⌝ }
 {
     match tag {
         TESTCASE => Act::Open(CASE, false),
@@ -84,7 +85,7 @@ fn open_suite(tag: usize) -> Act
 
 // "Any End but the element's own is passed over, and so is any Empty but `testcase` in a suite and a status name in a case."
 fn step_suite(kind: u32, tag: usize) -> Act
-    ensures { λ r. ⌜ ((name : List ℕ) → tagOf name ≡ tag → actIn (plan.at plan.suite) name r ≡ plan.atSuite (kindOf kind) name) ⌝ }
+    ensures { λ r. ⌜ ((name : List ℕ) → tagOf name ≡ tag → actIn (plan.at plan.suite) name r ≡ rules.atSuite (tagKind kind) name) ⌝ }
 {
     match kind {
         START => open_suite(tag),
@@ -106,7 +107,7 @@ fn step_suite(kind: u32, tag: usize) -> Act
 }
 
 fn open_case(tag: usize) -> Act
-    ensures { λ r. ⌜ ((name : List ℕ) → tagOf name ≡ tag → actIn (plan.at plan.case) name r ≡ plan.atCase Start name) ⌝ }
+    ensures { λ r. ⌜ ((name : List ℕ) → tagOf name ≡ tag → actIn (plan.at plan.case) name r ≡ rules.atCase Start name) ⌝ }
 {
     if is_status(tag) {
         return Act::Open(tag as u32, false);
@@ -118,7 +119,7 @@ fn open_case(tag: usize) -> Act
 }
 
 fn step_case(kind: u32, tag: usize) -> Act
-    ensures { λ r. ⌜ ((name : List ℕ) → tagOf name ≡ tag → actIn (plan.at plan.case) name r ≡ plan.atCase (kindOf kind) name) ⌝ }
+    ensures { λ r. ⌜ ((name : List ℕ) → tagOf name ≡ tag → actIn (plan.at plan.case) name r ≡ rules.atCase (tagKind kind) name) ⌝ }
 {
     match kind {
         START => open_case(tag),
@@ -141,7 +142,7 @@ fn step_case(kind: u32, tag: usize) -> Act
 
 // "A child `stackTrace`, `system-out` or `system-err`, Start or Empty alike, is read [..]; any other child, Empty too, is skipped."
 fn step_status(kind: u32, tag: usize) -> Act
-    ensures { λ r. ⌜ ((name : List ℕ) → tagOf name ≡ tag → actIn (plan.at plan.status) name r ≡ plan.atStatus (kindOf kind) name) ⌝ }
+    ensures { λ r. ⌜ ((name : List ℕ) → tagOf name ≡ tag → actIn (plan.at plan.status) name r ≡ rules.atStatus (tagKind kind) name) ⌝ }
 {
     if kind <= EMPTY {
         if tag == STACK_TRACE {
@@ -154,7 +155,7 @@ fn step_status(kind: u32, tag: usize) -> Act
 }
 
 fn tag_of_output(output: Output) -> usize
-    ensures { λ r. ⌜ r ≡ plan.tagOfOutput (outputOf output) ⌝ }
+    ensures { λ r. ⌜ r ≡ rules.tagOfOutput (outputOf output) ⌝ }
 {
     match output {
         Output::Trace => STACK_TRACE,
@@ -165,7 +166,7 @@ fn tag_of_output(output: Output) -> usize
 
 // "is read to the next End of its name without counting depth"
 fn step_text(output: Output, kind: u32, tag: usize) -> Act
-    ensures { λ r. ⌜ ((l : plan.Level) (name : List ℕ) → actIn (plan.gathering l (outputOf output)) name r ≡ plan.inText l (outputOf output) (kindOf kind) tag) ⌝ }
+    ensures { λ r. ⌜ ((l : plan.Level) (name : List ℕ) → actIn (plan.gathering l (outputOf output)) name r ≡ rules.inText l (outputOf output) (tagKind kind) tag) ⌝ }
 {
     if (EMPTY < kind) & (tag == tag_of_output(output)) {
         return Act::CloseText;
@@ -175,7 +176,7 @@ fn step_text(output: Output, kind: u32, tag: usize) -> Act
 
 // "Properties count Empty `property` only."
 fn step_list(kind: u32, tag: usize) -> Act
-    ensures { λ r. ⌜ ((l : plan.Level) (name : List ℕ) → actIn (plan.listing l) name r ≡ plan.inList l (kindOf kind) tag) ⌝ }
+    ensures { λ r. ⌜ ((l : plan.Level) (name : List ℕ) → actIn (plan.listing l) name r ≡ rules.inList l (tagKind kind) tag) ⌝ }
 {
     match kind {
         START => Act::Pass,
@@ -197,7 +198,7 @@ fn step_list(kind: u32, tag: usize) -> Act
 }
 
 fn step_inside(control: Control, kind: u32, tag: usize) -> Act
-    ensures { λ r. ⌜ ((name : List ℕ) → tagOf name ≡ tag → actIn (plan.at (levelOf (control .level))) name r ≡ plan.planAt (plan.at (levelOf (control .level))) (control .seen) (kindOf kind) name) ⌝ }
+    ensures { λ r. ⌜ ((name : List ℕ) → tagOf name ≡ tag → actIn (plan.at (levelOf (control .level))) name r ≡ rules.planAt (plan.at (levelOf (control .level))) (control .seen) (tagKind kind) name) ⌝ }
 {
     let level = control.level;
     match level {
@@ -210,7 +211,7 @@ fn step_inside(control: Control, kind: u32, tag: usize) -> Act
 
 // A Start, Empty or End with the code of its name.
 pub fn plan_tag(control: Control, kind: u32, tag: usize) -> Act
-    ensures { λ r. ⌜ ((name : List ℕ) → tagOf name ≡ tag → actOf control name r ≡ plan.planAt (modeOf control) (control .seen) (kindOf kind) name) ⌝ }
+    ensures { λ r. ⌜ ((name : List ℕ) → tagOf name ≡ tag → actOf control name r ≡ rules.planAt (modeOf control) (control .seen) (tagKind kind) name) ⌝ }
 {
     let mode = control.mode;
     let output = control.output;
@@ -246,7 +247,7 @@ fn is_top(control: Control) -> bool
 
 // "An unclosed report at Eof is refused [..]; no report, at Eof [..], with the empty path."
 pub fn plan_eof(control: Control) -> Act
-    ensures { λ r. ⌜ actOf control [] r ≡ plan.planEof (modeOf control) (control .seen) (control .closed) ⌝ }
+    ensures { λ r. ⌜ actOf control [] r ≡ rules.planEof (modeOf control) (control .seen) (control .closed) ⌝ }
 {
     if !is_top(control) {
         return Act::Broken(Cause::EofInElement);

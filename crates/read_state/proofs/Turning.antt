@@ -1,14 +1,15 @@
 -- The control behind an act, and how many status elements a case then has. Assumes nothing.
-use Prim.Native.Nat.{ℕ, zero, suc, _+_}
-use mathlib.Core.Bool.{Bool, true, false, cond, _||_}
+use Prim.Native.Nat.{ℕ, suc}
+use mathlib.Core.Bool.{Bool, true, false, cond}
 use mathlib.Core.List.{List}
 use mathlib.Core.Path.{_≡_, refl, sym, ap, _∙_}
 use native.Mathlib.Omega.{arith}
-use borrow.Author.Tests.{lt-ltb, ne-eqb}
-use lib.Dec.{leb, ltb}
-use Rattle.tree_report.specs.Status.{Tally, noStatus, tallied}
+use borrow.Author.Tests.{ne-eqb}
+use Rattle.tree_status.specs.declared.Tally.{Tally}
+use Rattle.tree_status.specs.Status.{noStatus, Few}
+use Rattle.tree_status.proofs.Tallies.{few-more, few-none, few-tallied}
 use Rattle.read_state.specs.Control.{Level, Output, at, Control, control, Act, pass, openReport, openSuite, openCase, openStatus, closeSuite, closeCase, closeStatus, openText, closeText, openList, readProperty, stop, missing, broken, turn}
-use Rattle.read_state.specs.Coded.{modeAt, levelIn, opening, closing, tallyOf, controlOf, actOf, isStep, turned, Few}
+use Rattle.read_state.specs.inside.Coded.{modeAt, levelIn, opening, closing, controlOf, actOf, isStep, turned}
 use Rattle.read_state.specs.declared.Act.{Act as CodedAct}
 use Rattle.read_state.specs.declared.Control.{Control as CodedControl}
 use Rattle.read_state.specs.declared.Mode.{Mode as CodedMode}
@@ -27,20 +28,10 @@ pub controls : {r : Control} {l k : Level} {s c : Bool} {t u : Tally} → r ≡ 
 controls {r} {l} {k} {s} {c} {t} {u} e f g = e ∙ ap (λ (x : Level). control (at x) s c t) f ∙ ap (λ (x : Tally). control (at k) s c x) g
 
 more : {n : ℕ} {t : Tally} → Few n t → Few (suc n) t
-more f = record { mains = omega arith; flaky = omega arith; reruns = omega arith }
+more f = few-more f (omega arith)
 
 none : {n : ℕ} → Few n noStatus
-none = record { mains = omega arith; flaky = omega arith; reruns = omega arith }
-
--- one status element more
-pub few-tallied : {n : ℕ} (t : Tally) (k : ℕ) → Few n t → Few (suc n) (tallied t k)
-unfolding tallied
-few-tallied {n} t k f = by-cases (leb k 8) (leb k 10)
-  where
-    by-cases : (a b : Bool) → Few (suc n) (cond a (record { mains = suc (t .mains); main = k; flaky = t .flaky; reruns = t .reruns }) (cond b (record { mains = t .mains; main = t .main; flaky = suc (t .flaky); reruns = t .reruns }) (record { mains = t .mains; main = t .main; flaky = t .flaky; reruns = suc (t .reruns) })))
-    by-cases true b = record { mains = omega arith; flaky = omega arith; reruns = omega arith }
-    by-cases false true = record { mains = omega arith; flaky = omega arith; reruns = omega arith }
-    by-cases false false = record { mains = omega arith; flaky = omega arith; reruns = omega arith }
+none {n} = few-none n
 
 -- an act adds at most one: what `tallied` and `turn` of the code require holds before the event of number n
 pub few-turn : {n : ℕ} (a : Act) (c : Control) → Few n (c .tally) → Few (suc n) (turn a c .tally)
@@ -61,7 +52,7 @@ few-turn stop c f = more f
 few-turn missing c f = more f
 few-turn (broken n) c f = more f
 
-pub few-turned : {n : ℕ} (a : CodedAct) (name : List ℕ) (c : CodedControl) → Few n (tallyOf (c .tally)) → Few (suc n) (turned a name c .tally)
+pub few-turned : {n : ℕ} (a : CodedAct) (name : List ℕ) (c : CodedControl) → Few n (c .tally) → Few (suc n) (turned a name c .tally)
 few-turned {n} a name c f = by-cases (isStep a)
   where
     by-cases : (b : Bool) → Few (suc n) (cond b (turn (actOf c name a) (controlOf c)) (controlOf c) .tally)
@@ -71,11 +62,3 @@ few-turned {n} a name c f = by-cases (isStep a)
 -- the kinds of records but those of reports, suites and cases
 pub opening-other : (k : ℕ) (e : Bool) → (k ≡ 1 → ⊥) → (k ≡ 2 → ⊥) → (k ≡ 3 → ⊥) → opening k e ≡ openStatus k e
 opening-other k e a b c = rw (ne-eqb k 1 a, ne-eqb k 2 b, ne-eqb k 3 c) refl
-
--- one of two numbers is not zero
-pub sum-positive : (a b : ℕ) → ltb 0 (a + b) ≡ (ltb 0 a || ltb 0 b)
-sum-positive zero b = simp zero-plus
-  where
-    zero-plus : (n : ℕ) → 0 + n ≡ n
-    zero-plus n = omega arith
-sum-positive (suc a) b = rw (lt-ltb 0 (suc a + b) (omega arith), lt-ltb 0 (suc a) (omega arith)) refl

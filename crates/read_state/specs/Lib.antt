@@ -1,2 +1,2 @@
 pub mod Control
-pub mod Coded
+pub mod inside

@@ -1,12 +1,16 @@
-// What reading goes by between events: what is open, the status rule, and what an action turns it into.
+// What reading goes by between events: what is open, and what an action turns it into.
 ghost use mathlib.Core.Path.{_≡_};
 ghost use Prim.Native.Nat.{ℕ};
 ghost use mathlib.Core.List.{List};
 ghost use mathlib.Core.Bool.{cond};
-ghost use Rattle.tree_report.specs.Status as rule;
+ghost use Rattle.tree_status.specs.Status.{Few};
 ghost use Rattle.read_state.specs.Control as plan;
-ghost use Rattle.read_state.specs.Coded.{levelOf, outputOf, modeAt, tallyOf, controlOf, opening, closing, turned, Few};
+ghost use Rattle.read_state.specs.inside.Coded.{levelOf, outputOf, modeAt, controlOf, opening, closing, turned};
 use refusal::Cause;
+use tree_record::kind;
+use tree_status::Tally;
+use tree_status::no_status;
+use tree_status::tallied;
 
 // What is open.
 pub enum Level {
@@ -28,14 +32,6 @@ pub enum Mode {
     At,
     Text,
     List,
-}
-
-// How many mains the open case has, the code of the last one, and how many flaky runs and reruns.
-pub struct Tally {
-    pub mains: u32,
-    pub main: u32,
-    pub flaky: u32,
-    pub reruns: u32,
 }
 
 // `output` is the text that is gathered, if any; `seen`: a report exists; `closed`: the table counts as closed.
@@ -64,70 +60,8 @@ pub enum Act {
     Broken(Cause),
 }
 
-// Record kinds.
-pub const REPORT: u32 = 1;
-
-pub const SUITE: u32 = 2;
-
-pub const CASE: u32 = 3;
-
-// The kinds of events that are tags.
-pub const START: u32 = 0;
-
-pub const EMPTY: u32 = 1;
-
-pub fn no_status() -> Tally
-    ensures { λ r. ⌜ tallyOf r ≡ rule.noStatus ⌝ }
-{
-    Tally {
-        mains: 0,
-        main: 0,
-        flaky: 0,
-        reruns: 0,
-    }
-}
-
-// One status element more, by its code: 6 to 8 mains, 9 and 10 flaky, 11 and 12 reruns.
-pub fn tallied(tally: Tally, kind: u32) -> Tally
-    requires { ⌜ Few 65536 (tallyOf tally) ⌝ }
-    ensures { λ r. ⌜ tallyOf r ≡ rule.tallied (tallyOf tally) kind ⌝ }
-{
-    if kind <= 8 {
-        return Tally {
-            mains: tally.mains + 1,
-            main: kind,
-            flaky: tally.flaky,
-            reruns: tally.reruns,
-        };
-    }
-    if kind <= 10 {
-        return Tally {
-            mains: tally.mains,
-            main: tally.main,
-            flaky: tally.flaky + 1,
-            reruns: tally.reruns,
-        };
-    }
-    Tally {
-        mains: tally.mains,
-        main: tally.main,
-        flaky: tally.flaky,
-        reruns: tally.reruns + 1,
-    }
-}
-
-// The status rule.
-pub fn is_ruled(t: Tally) -> bool
-    ensures { λ r. ⌜ r ≡ rule.ruled (tallyOf t) ⌝ }
-{
-    let reruns_alone = (t.mains == 0) & (0 < t.reruns);
-    let skipped_runs = (t.main == 8) & ((0 < t.flaky) | (0 < t.reruns));
-    let both = (0 < t.flaky) & (0 < t.reruns);
-    (t.mains <= 1) & (!reruns_alone & (!skipped_runs & !both))
-}
-
 fn inside(control: Control, level: Level, tally: Tally) -> Control
-    ensures { λ r. ⌜ controlOf r ≡ plan.control (plan.at (levelOf level)) (control .seen) (control .closed) (tallyOf tally) ⌝ }
+    ensures { λ r. ⌜ controlOf r ≡ plan.control (plan.at (levelOf level)) (control .seen) (control .closed) tally ⌝ }
 {
     Control {
         mode: Mode::At,
@@ -159,18 +93,18 @@ fn either(empty: bool, outer: Level, inner: Level) -> Level
 }
 
 // The control inside an element that is opened.
-fn opened(control: Control, kind: u32, empty: bool) -> Control
-    requires { ⌜ Few 65536 (tallyOf (control .tally)) ⌝ }
-    ensures { λ r. ⌜ controlOf r ≡ plan.turn (opening kind empty) (controlOf control) ⌝ }
+fn opened(control: Control, k: u32, empty: bool) -> Control
+    requires { ⌜ Few 4294967294 (control .tally) ⌝ }
+    ensures { λ r. ⌜ controlOf r ≡ plan.turn (opening k empty) (controlOf control) ⌝ }
 {
-    match kind {
-        REPORT => reported(control, empty),
-        SUITE => inside(
+    match k {
+        kind::REPORT => reported(control, empty),
+        kind::SUITE => inside(
             control,
             either(empty, Level::Top, Level::Suite),
             no_status(),
         ),
-        CASE => inside(
+        kind::CASE => inside(
             control,
             either(empty, Level::Suite, Level::Case),
             no_status(),
@@ -180,7 +114,7 @@ fn opened(control: Control, kind: u32, empty: bool) -> Control
             inside(
                 control,
                 either(empty, Level::Case, Level::Status),
-                tallied(tally, kind),
+                tallied(tally, k),
             )
         }
     }
@@ -201,7 +135,7 @@ fn closed(control: Control) -> Control
 }
 
 fn going(control: Control, mode: Mode, output: Output) -> Control
-    ensures { λ r. ⌜ controlOf r ≡ plan.control (modeAt mode (levelOf (control .level)) (outputOf output)) (control .seen) (control .closed) (tallyOf (control .tally)) ⌝ }
+    ensures { λ r. ⌜ controlOf r ≡ plan.control (modeAt mode (levelOf (control .level)) (outputOf output)) (control .seen) (control .closed) (control .tally) ⌝ }
 {
     let level = control.level;
     let tally = control.tally;
@@ -217,11 +151,11 @@ fn going(control: Control, mode: Mode, output: Output) -> Control
 
 // The control that follows.
 pub fn turn(act: Act, control: Control) -> Control
-    requires { ⌜ Few 65536 (tallyOf (control .tally)) ⌝ }
+    requires { ⌜ Few 4294967294 (control .tally) ⌝ }
     ensures { λ r. ⌜ ((name : List ℕ) → controlOf r ≡ turned act name control) ⌝ }
 {
     match act {
-        Act::Open(kind, empty) => opened(control, kind, empty),
+        Act::Open(k, empty) => opened(control, k, empty),
         Act::Close => closed(control),
         Act::OpenText(output) => going(control, Mode::Text, output),
         Act::CloseText => going(control, Mode::At, Output::Out),

@@ -8,7 +8,8 @@ use Rattle.table.specs.Event.{Attribute}
 use Rattle.read_element.specs.Outcome.{_>>=_, Place, Rooms}
 use Rattle.read_element.specs.Attributes.{readAttributes, readElement}
 use Rattle.read_state.specs.Control.{Control, Act, pass, openReport, openSuite, openCase, openStatus, closeSuite, closeCase, closeStatus, openText, closeText, openList, readProperty, stop, missing, broken, turn}
-use Rattle.read_place.specs.Marks.{Marks, actPlace, marksAfter, onward}
+use Rattle.read_place.specs.Marks.{Marks, marksAfter, onward}
+use Rattle.read_path.specs.Paths.{actPlace}
 use Rattle.read_content.specs.Content.{Content, adding, perform}
 use Rattle.read_machine.specs.Machine.{Machine, act}
 

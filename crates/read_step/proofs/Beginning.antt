@@ -5,25 +5,18 @@ use mathlib.Core.List.{List}
 use mathlib.Core.Bool.{false}
 use native.Mathlib.Omega.{arith}
 use Rattle.area.specs.Area.{zeros}
-use Rattle.tree_report.specs.Status.{Tally, noStatus}
-use Rattle.read_state.specs.Coded.{tallyOf}
+use Rattle.tree_status.specs.declared.Tally.{Tally}
+use Rattle.tree_status.specs.Status.{noStatus}
 use Rattle.read_state.specs.declared.Mode.the-variants.{At}
 use Rattle.read_state.specs.declared.Level.the-variants.{Top}
 use Rattle.read_state.specs.declared.Output.the-variants.{Out}
-use Rattle.read_state.specs.declared.Tally.{Tally as CodedTally}
 use Rattle.read_place.specs.Marks.{Marks, marks}
-use Rattle.read_place.specs.Coded.{marksOf}
+use Rattle.read_place.specs.inside.Coded.{marksOf}
 use Rattle.read_place.specs.declared.Marks.{Marks as CodedMarks}
-use Rattle.read_content.specs.Holds.{noContent}
+use Rattle.read_content.specs.inside.Holds.{noContent}
 use Rattle.read_content.specs.declared.Content.{Content as CodedContent}
-use Rattle.read_step.specs.Standing.{machineOf, Stands, beginning, nothing}
+use Rattle.read_step.specs.inside.Standing.{machineOf, Stands, beginning, nothing}
 use Rattle.read_step.specs.declared.State.{State}
-
-no-tally : {t : CodedTally} → tallyOf t ≡ noStatus → t ≡ record { mains = 0; main = 0; flaky = 0; reruns = 0 }
-no-tally e = ap coded e
-  where
-    coded : Tally → CodedTally
-    coded t = record { mains = t .mains; main = t .main; flaky = t .flaky; reruns = t .reruns }
 
 no-marks : {m : CodedMarks} → marksOf m ≡ marks 0 0 0 0 0 0 0 0 0 0 → m ≡ beginning .marks
 no-marks e = ap coded e
@@ -31,12 +24,12 @@ no-marks e = ap coded e
     coded : Marks → CodedMarks
     coded m = record { event = m .event; «suite_index» = m .suiteIndex; «suite_start» = m .suiteStart; «case_index» = m .caseIndex; «case_start» = m .caseStart; «status_kind» = m .statusKind; «property_index» = m .propertyIndex; «suite_at» = m .suiteAt; «case_at» = m .caseAt; «status_at» = m .statusAt }
 
-module _ (t : CodedTally) (m : CodedMarks) (k : CodedContent) where
-  abbrev starting : CodedTally → CodedMarks → CodedContent → State
+module _ (t : Tally) (m : CodedMarks) (k : CodedContent) where
+  abbrev starting : Tally → CodedMarks → CodedContent → State
   starting t m k = record { control = record { mode = At; level = Top; output = Out; seen = false; closed = false; tally = t }; marks = m; content = k }
 
-  pub begun : tallyOf t ≡ noStatus → marksOf m ≡ marks 0 0 0 0 0 0 0 0 0 0 → k ≡ noContent → starting t m k ≡ beginning
-  begun a b e = ap (λ (x : CodedTally). starting x m k) (no-tally a) ∙ ap (λ (x : CodedMarks). starting (beginning .control .tally) x k) (no-marks b) ∙ ap (λ (x : CodedContent). starting (beginning .control .tally) (beginning .marks) x) e
+  pub begun : t ≡ noStatus → marksOf m ≡ marks 0 0 0 0 0 0 0 0 0 0 → k ≡ noContent → starting t m k ≡ beginning
+  begun a b e = ap (λ (x : Tally). starting x m k) a ∙ ap (λ (x : CodedMarks). starting (beginning .control .tally) x k) (no-marks b) ∙ ap (λ (x : CodedContent). starting (beginning .control .tally) (beginning .marks) x) e
 
 pub begin-stands : (attributes source scratch : List ℕ) (words text : ℕ) → Stands attributes source (zeros words) (zeros text) scratch (beginning .content) (machineOf beginning nothing)
 begin-stands attributes source scratch words text =

@@ -7,23 +7,24 @@ use native.Mathlib.Omega.{arith}
 use lib.Dec.{eqb}
 use Rattle.names.specs.Tags.{tagOf, properties, property}
 use Rattle.refusal.specs.Refusal.{accepted}
-use Rattle.table.specs.Event.{Attribute, TagKind, Start, Empty, End, Tag, Piece, eventOf}
+use Rattle.table.specs.Event.{Attribute, TagKind, Start, Empty, End, Tag, Piece, eventOf, tagKind, pieceKind, pieceBytes}
 use Rattle.read_element.specs.Outcome.{_>>=_, Rooms}
-use Rattle.read_state.specs.Control.{Level, top, suite, case, status, Output, Mode, at, gathering, listing, skipping, Control, planAt, planEof, planFault, orSkip, inText, inList, tagOfOutput}
+use Rattle.read_state.specs.Control.{Level, top, suite, case, status, Output, Mode, at, gathering, listing, skipping, Control, orSkip}
+use Rattle.read_rules.specs.Rules.{planAt, planEof, planFault, inText, inList, tagOfOutput}
 use Rattle.read_state.specs.Control.{Act, pass, openReport, openSuite, openCase, openStatus, closeSuite, closeCase, closeStatus, openText, closeText, openList, readProperty, stop, missing, broken}
-use Rattle.read_state.specs.Coded.{kindOf, modeAt, levelIn, closing, actIn, controlOf, actOf, isStep}
+use Rattle.read_state.specs.inside.Coded.{modeAt, levelIn, closing, actIn, controlOf, actOf, isStep}
 use Rattle.read_state.specs.declared.Control.{Control as CodedControl}
 use Rattle.read_state.specs.declared.Act.{Act as CodedAct}
 use Rattle.read_state.specs.declared.Act.the-variants.{Pass, Skip, Open, Close, OpenText, CloseText, OpenList, CloseList, ReadProperty, Stop, Missing, Broken}
 use Rattle.read_state.specs.declared.Mode.{Mode as CodedMode}
 use Rattle.read_state.specs.declared.Mode.the-variants.{At, Text, List as Listing}
-use Rattle.read_place.specs.Coded.{hasRoom}
-use Rattle.read_place.proofs.Lengths.{planned-room, eof-room, fault-room}
+use Rattle.read_path.specs.inside.Coded.{hasRoom}
+use Rattle.read_path.proofs.Lengths.{planned-room, eof-room, fault-room}
 use Rattle.read_content.specs.Content.{perform}
-use Rattle.read_content.specs.Holds.{pieceKind, pieceBytes}
 use Rattle.read_machine.specs.Machine.{Machine, act, step}
-use Rattle.read_step.specs.Planned.{isPiece, planned, nameIn, IsSkipped, isSkip, isStop}
+use Rattle.read_step.specs.inside.Planned.{isPiece, planned, nameIn, IsSkipped, isSkip, isStop}
 use Rattle.read_step.proofs.Acting.{act-none}
+use Rattle.refusal.specs.declared.Cause.the-variants as cause
 
 other-act : true ≡ false → ⊥
 other-act e = let z : _≡_ {A = ℕ} 0 1 = cc in omega arith
@@ -40,7 +41,7 @@ skip-is CloseList e = absurd (other-act (sym e))
 skip-is ReadProperty e = absurd (other-act (sym e))
 skip-is Stop e = absurd (other-act (sym e))
 skip-is Missing e = absurd (other-act (sym e))
-skip-is (Broken cause) e = absurd (other-act (sym e))
+skip-is (Broken why) e = absurd (other-act (sym e))
 
 stop-is : (a : CodedAct) → isStop a ≡ true → a ≡ Stop
 stop-is Stop e = refl
@@ -54,10 +55,10 @@ stop-is CloseList e = absurd (other-act (sym e))
 stop-is ReadProperty e = absurd (other-act (sym e))
 stop-is Skip e = absurd (other-act (sym e))
 stop-is Missing e = absurd (other-act (sym e))
-stop-is (Broken cause) e = absurd (other-act (sym e))
+stop-is (Broken why) e = absurd (other-act (sym e))
 
 -- a Fault is refused in every mode that the code has
-pub fault-plans : (m : CodedMode) (l : Level) (o : Output) → planFault (modeAt m l o) ≡ broken 1
+pub fault-plans : (m : CodedMode) (l : Level) (o : Output) → planFault (modeAt m l o) ≡ broken cause.XmlFault
 unfolding planFault
 fault-plans At l o = refl
 fault-plans Text l o = refl
@@ -98,7 +99,7 @@ piece-event (suc (suc (suc (suc (suc (suc (suc (suc (suc zero))))))))) bytes fir
 piece-event (suc (suc (suc (suc (suc (suc (suc (suc (suc (suc k)))))))))) bytes first xs p h = absurd (omega arith)
 
 -- tags
-pub tag-event : (kind : ℕ) (bytes : List ℕ) (first : ℕ) (xs : List Attribute) → isPiece kind ≡ false → kind ≤ 9 → (kind ≡ 7 → ⊥) → (kind ≡ 8 → ⊥) → (j : ℕ) × (ys : List Attribute) × (eventOf kind bytes first xs ≡ Tag (kindOf kind) bytes j ys)
+pub tag-event : (kind : ℕ) (bytes : List ℕ) (first : ℕ) (xs : List Attribute) → isPiece kind ≡ false → kind ≤ 9 → (kind ≡ 7 → ⊥) → (kind ≡ 8 → ⊥) → (j : ℕ) × (ys : List Attribute) × (eventOf kind bytes first xs ≡ Tag (tagKind kind) bytes j ys)
 unfolding eventOf
 tag-event zero bytes first xs p h a b = (first, xs, refl)
 tag-event (suc zero) bytes first xs p h a b = (first, xs, refl)
@@ -126,7 +127,7 @@ eof-no-skip Listing l o seen closed k name e = let z : _≡_ {A = ℕ} 0 1 = cc 
 
 pub fault-no-skip : (m : CodedMode) (l : Level) (o : Output) (k : Level) (name : List ℕ) → orSkip k name ≡ planFault (modeAt m l o) → ⊥
 unfolding orSkip
-fault-no-skip m l o k name e = let q : pass (skipping k name 0) ≡ broken 1 = e ∙ fault-plans m l o in let z : _≡_ {A = ℕ} 0 1 = cc in omega arith
+fault-no-skip m l o k name e = let q : pass (skipping k name 0) ≡ broken cause.XmlFault = e ∙ fault-plans m l o in let z : _≡_ {A = ℕ} 0 1 = cc in omega arith
 
 -- nothing is skipped in a gathered text or in properties
 pub skip-inside : (m : CodedMode) (l : Level) (o : Output) (seen : Bool) (k : TagKind) (i : Level) (name : List ℕ) → orSkip i name ≡ planAt (modeAt m l o) seen k name → m ≡ At
@@ -194,7 +195,7 @@ stops m name CloseList = refl
 stops m name ReadProperty = refl
 stops m name Stop = refl
 stops m name Missing = refl
-stops m name (Broken cause) = refl
+stops m name (Broken why) = refl
 
 pub stop-only : (m : Mode) (name : List ℕ) (a : CodedAct) → isStop a ≡ false → actIn m name a ≡ stop → ⊥
 unfolding stopping
@@ -216,10 +217,10 @@ eof-ends rooms j xs s t Listing l o seen closed n e = let z : _≡_ {A = ℕ} 0 
 pub planned-fits : (k : Control) (kind : ℕ) (name : List ℕ) → (k .mode ≡ listing status → ⊥) → hasRoom (planned k kind name) ≡ true
 planned-fits k kind name n = go (eqb kind 7) (eqb kind 8)
   where
-    go : (a b : Bool) → hasRoom (cond a (planEof (k .mode) (k .seen) (k .closed)) (cond b (planFault (k .mode)) (planAt (k .mode) (k .seen) (kindOf kind) name))) ≡ true
+    go : (a b : Bool) → hasRoom (cond a (planEof (k .mode) (k .seen) (k .closed)) (cond b (planFault (k .mode)) (planAt (k .mode) (k .seen) (tagKind kind) name))) ≡ true
     go true b = eof-room (k .mode) (k .seen) (k .closed)
     go false true = fault-room (k .mode)
-    go false false = planned-room (k .mode) (k .seen) (kindOf kind) name n
+    go false false = planned-room (k .mode) (k .seen) (tagKind kind) name n
 
 -- all acts but skipping and stopping go on with the control that `turn` gives
 pub is-step : (a : CodedAct) → isSkip a ≡ false → isStop a ≡ false → isStep a ≡ true
@@ -234,7 +235,7 @@ is-step CloseList e f = refl
 is-step ReadProperty e f = refl
 is-step Stop e f = absurd (other-act f)
 is-step Missing e f = refl
-is-step (Broken cause) e f = refl
+is-step (Broken why) e f = refl
 
 -- what the code's tests of an act that was planned tell
 module _ (c : CodedControl) (kind : ℕ) (name : List ℕ) (a : CodedAct) (q : actOf c (nameIn kind name) a ≡ planned (controlOf c) kind name) where

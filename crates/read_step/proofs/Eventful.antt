@@ -10,19 +10,21 @@ use Rattle.area.specs.Area.{zeros}
 use Rattle.utf8.specs.Characters.{joined}
 use Rattle.refusal.specs.Refusal.{Outcome, accepted}
 use Rattle.table.specs.Table.{word, countOf, tableOf}
-use Rattle.table.specs.Event.{Attribute, Event, Piece, kindAt, bytesAt, attributesFrom, eventAt, resolveFrom}
+use Rattle.table.specs.Event.{Attribute, Event, Piece, kindAt, bytesAt, attributesFrom, eventAt, resolveFrom, pieceKind, pieceBytes}
 use Rattle.table.proofs.Resolving.{attributes-none, event-of-kind}
-use Rattle.table_events.specs.Ranges.{firstAt, endAt}
+use Rattle.table_events.specs.inside.Ranges.{firstAt, endAt}
 use Rattle.read_element.specs.Outcome.{Rooms}
-use Rattle.read_state.specs.Control.{Mode, finished, Act, stop, planEof}
-use Rattle.read_state.specs.Coded.{levelOf, outputOf, levelIn, modeOf, controlOf}
-use Rattle.read_place.specs.Coded.{marksOf, hasRoom}
+use Rattle.read_state.specs.Control.{Mode, finished, Act, stop}
+use Rattle.read_rules.specs.Rules.{planEof}
+use Rattle.read_state.specs.inside.Coded.{levelOf, outputOf, levelIn, modeOf, controlOf}
+use Rattle.read_place.specs.inside.Coded.{marksOf}
+use Rattle.read_path.specs.inside.Coded.{hasRoom}
 use Rattle.read_content.specs.Content.{Content}
-use Rattle.read_content.specs.Holds.{Lists, pieceKind, pieceBytes}
+use Rattle.read_content.specs.inside.Holds.{Lists}
 use Rattle.read_machine.specs.Machine.{Machine, act, step, run}
 use Rattle.read_machine.proofs.Skipping.{moved, act-stops, Keeps, finished-runs}
-use Rattle.read_step.specs.Planned.{isPiece, planned, IsSkipped}
-use Rattle.read_step.specs.Standing.{machineOf, runOn, Stands, refusalAt, Acted, Ended, Stepped}
+use Rattle.read_step.specs.inside.Planned.{isPiece, planned, IsSkipped}
+use Rattle.read_step.specs.inside.Standing.{machineOf, runOn, Stands, refusalAt, Acted, Ended, Stepped}
 use Rattle.read_step.specs.declared.State.{State}
 use Rattle.read_step.specs.declared.Step.{Step}
 use Rattle.read_step.specs.declared.Step.the-variants as way

@@ -6,27 +6,29 @@ use mathlib.Core.Bool.{Bool, true, false, cond}
 use native.Mathlib.Omega.{arith}
 use borrow.Author.Tests.{ne-eqb}
 use lib.Dec.{eqb}
-use Rattle.refusal.specs.Refusal.{nowhere, number, Outcome, accepted, refused}
+use Rattle.refusal.specs.Refusal.{nowhere, Outcome, accepted, refused}
 use Rattle.refusal.specs.declared.Cause.{Cause}
 use Rattle.table.specs.Table.{word, countOf, tableOf}
-use Rattle.table.specs.Event.{kindAt, bytesAt, attributesFrom, resolveFrom}
+use Rattle.table.specs.Event.{kindAt, bytesAt, attributesFrom, resolveFrom, tagKind}
 use Rattle.table.proofs.Resolving.{event-of-kind}
 use Rattle.table_events.specs.Skip.{Skip, next, brokenAt, skipOf}
 use Rattle.table_events.proofs.Turns.{Far}
 use Rattle.read_element.specs.Outcome.{Rooms}
-use Rattle.read_state.specs.Control.{Level, Mode, at, orSkip, planAt, planEof, planFault}
-use Rattle.read_state.specs.Coded.{levelOf, outputOf, levelIn, modeAt, modeOf, kindOf, controlOf}
+use Rattle.read_state.specs.Control.{Level, Mode, at, orSkip}
+use Rattle.read_rules.specs.Rules.{planAt, planEof, planFault}
+use Rattle.read_state.specs.inside.Coded.{levelOf, outputOf, levelIn, modeAt, modeOf, controlOf}
 use Rattle.read_state.specs.declared.Mode.{Mode as CodedMode}
 use Rattle.read_state.specs.declared.Act.the-variants.{Broken}
 use Rattle.read_state.proofs.Turning.{level-in}
-use Rattle.read_place.specs.Marks.{Marks, modePath}
-use Rattle.read_place.specs.Coded.{marksOf, goTo}
+use Rattle.read_place.specs.Marks.{Marks}
+use Rattle.read_path.specs.Paths.{modePath}
+use Rattle.read_place.specs.inside.Coded.{marksOf, goTo}
 use Rattle.read_place.specs.declared.Marks.{Marks as CodedMarks}
 use Rattle.read_content.specs.Content.{Content}
 use Rattle.read_machine.specs.Machine.{Machine, run}
 use Rattle.read_machine.proofs.Skipping.{moved, afterSkip, skip-within, skip-reads}
-use Rattle.read_step.specs.Planned.{isPiece, IsSkipped}
-use Rattle.read_step.specs.Standing.{machineOf, runOn, Stands, Refuses, Went}
+use Rattle.read_step.specs.inside.Planned.{isPiece, IsSkipped}
+use Rattle.read_step.specs.inside.Standing.{machineOf, runOn, Stands, Refuses, Went}
 use Rattle.read_step.specs.declared.State.{State}
 use Rattle.read_step.proofs.ByKind.{tag-event, eof-no-skip, fault-no-skip, skip-inside}
 use Rattle.read_step.proofs.Tables.{event}
@@ -60,24 +62,24 @@ module _ (rooms : Rooms) (events attributes source : List ℕ) (good : tableOf e
   no-fault e = fault-no-skip (st .control .mode) l (outputOf (st .control .output)) (levelIn (modeOf (st .control))) [] (subst (λ (k : ℕ). IsSkipped (st .control) k name) e q)
 
   -- the plan of the tag
-  plan : orSkip (levelIn (modeOf (st .control))) name ≡ planAt (modeOf (st .control)) (st .control .seen) (kindOf kind) name
+  plan : orSkip (levelIn (modeOf (st .control))) name ≡ planAt (modeOf (st .control)) (st .control .seen) (tagKind kind) name
   plan = go (eqb kind 7) (eqb kind 8) (ne-eqb kind 7 no-eof) (ne-eqb kind 8 no-fault) q
     where
-      go : (a b : Bool) → a ≡ false → b ≡ false → orSkip (levelIn (modeOf (st .control))) (cond a [] (cond b [] name)) ≡ cond a (planEof (modeOf (st .control)) (st .control .seen) (st .control .closed)) (cond b (planFault (modeOf (st .control))) (planAt (modeOf (st .control)) (st .control .seen) (kindOf kind) name)) → orSkip (levelIn (modeOf (st .control))) name ≡ planAt (modeOf (st .control)) (st .control .seen) (kindOf kind) name
+      go : (a b : Bool) → a ≡ false → b ≡ false → orSkip (levelIn (modeOf (st .control))) (cond a [] (cond b [] name)) ≡ cond a (planEof (modeOf (st .control)) (st .control .seen) (st .control .closed)) (cond b (planFault (modeOf (st .control))) (planAt (modeOf (st .control)) (st .control .seen) (tagKind kind) name)) → orSkip (levelIn (modeOf (st .control))) name ≡ planAt (modeOf (st .control)) (st .control .seen) (tagKind kind) name
       go true b e f x = let z : _≡_ {A = ℕ} 0 1 = cc in absurd (omega arith)
       go false true e f x = let z : _≡_ {A = ℕ} 0 1 = cc in absurd (omega arith)
       go false false e f x = x
 
   inside : modeOf (st .control) ≡ at l
-  inside = ap (λ (m : CodedMode). modeAt m l (outputOf (st .control .output))) (skip-inside (st .control .mode) l (outputOf (st .control .output)) (st .control .seen) (kindOf kind) (levelIn (modeOf (st .control))) name plan)
+  inside = ap (λ (m : CodedMode). modeAt m l (outputOf (st .control .output))) (skip-inside (st .control .mode) l (outputOf (st .control .output)) (st .control .seen) (tagKind kind) (levelIn (modeOf (st .control))) name plan)
 
-  skips : planAt (modeOf (st .control)) (st .control .seen) (kindOf kind) name ≡ orSkip l name
+  skips : planAt (modeOf (st .control)) (st .control .seen) (tagKind kind) name ≡ orSkip l name
   skips = sym plan ∙ ap (λ (x : Level). orSkip x name) (level-in (st .control .mode) l (outputOf (st .control .output)))
 
   reads : rest ≡ afterSkip rooms events attributes source (countOf events) l (machineOf st c) skipped
   reads =
       let t = tag-event kind name (word events i 3) (attributesFrom attributes source (word events i 4) (word events i 3)) p (event events attributes source good i h .kind) no-eof no-fault in
-      skip-reads rooms events attributes source l name (machineOf st c) (kindOf kind) (t .0) (t .1) skips (countOf events) i h refl
+      skip-reads rooms events attributes source l name (machineOf st c) (tagKind kind) (t .0) (t .1) skips (countOf events) i h refl
       (event-of-kind events attributes source i kind refl ∙ t .2)
 
   far : Far (i + 1) (i + 1 + (countOf events - (i + 1))) skipped
@@ -100,11 +102,10 @@ module _ (rooms : Rooms) (events attributes source : List ℕ) (good : tableOf e
         within = omega arith;
       }
 
-  pub skip-halted : (cause : Cause) (j : ℕ) → skipped ≡ brokenAt j → number cause ≡ 1 → countOf events ≤ 65536 → Refuses st (record { act = Broken cause; event = j; fault = record { cause = cause; key = 0; attribute = nowhere } }) rest
-  skip-halted cause j e one most =
+  pub skip-halted : (why : Cause) (j : ℕ) → skipped ≡ brokenAt why j → countOf events ≤ 65536 → Refuses st (record { act = Broken why; event = j; fault = record { cause = why; key = 0; attribute = nowhere } }) rest
+  skip-halted why j e most =
       let f : (i + 1 ≤ j) × (j ≤ i + 1 + (countOf events - (i + 1))) = subst (Far (i + 1) (i + 1 + (countOf events - (i + 1)))) e far in
       let high = f .1 in
-      halts-here st rest cause (record { cause = cause; key = 0; attribute = nowhere }) j (omega arith)
+      halts-here st rest why (record { cause = why; key = 0; attribute = nowhere }) j (omega arith)
       (reads ∙ ap (afterSkip rooms events attributes source (countOf events) l (machineOf st c)) e
-      ∙ ap (λ (x : Mode). refused (record { number = 1; path = modePath x (marksOf (st .marks)); event = j; attribute = nowhere })) (sym inside)
-      ∙ ap (λ (n : ℕ). refused (record { number = n; path = modePath (modeOf (st .control)) (marksOf (st .marks)); event = j; attribute = nowhere })) (sym one))
+      ∙ ap (λ (x : Mode). refused (record { cause = why; path = modePath x (marksOf (st .marks)); event = j; attribute = nowhere })) (sym inside))

@@ -9,30 +9,32 @@ use Rattle.refusal.specs.Refusal.{nowhere, Refused, Outcome, accepted, refused}
 use Rattle.refusal.specs.declared.Cause.{Cause}
 use Rattle.table.specs.Event.{Attribute, PieceKind, Piece}
 use Rattle.read_element.specs.Outcome.{_>>=_, Place, Rooms}
-use Rattle.read_attributes.specs.Steps.{faultAt}
-use Rattle.read_attributes.specs.declared.Fault.{Fault}
-use Rattle.tree_report.specs.Status.{Tally}
+use Rattle.read_attribute.specs.inside.Steps.{faultAt}
+use Rattle.read_attribute.specs.declared.Fault.{Fault}
+use Rattle.tree_status.proofs.Tallies.{few-more}
 use Rattle.read_state.specs.Control.{Control, Act, gathers, turn}
-use Rattle.read_state.specs.Coded.{modeOf, controlOf, actOf, isStep, turned, Few}
+use Rattle.read_state.specs.inside.Coded.{modeOf, controlOf, actOf, isStep, turned}
 use Rattle.read_state.specs.declared.Act.{Act as CodedAct}
 use Rattle.read_state.specs.declared.Act.the-variants.{Broken}
 use Rattle.read_state.specs.declared.Control.{Control as CodedControl}
 use Rattle.read_state.proofs.Turning.{few-turn}
-use Rattle.read_place.specs.Marks.{Marks, modePath, actPlace, marksAfter, onward}
-use Rattle.read_place.specs.Coded.{marksOf, goTo, hasRoom}
+use Rattle.read_place.specs.Marks.{Marks, marksAfter, onward}
+use Rattle.read_path.specs.Paths.{modePath, actPlace}
+use Rattle.read_place.specs.inside.Coded.{marksOf, goTo}
+use Rattle.read_path.specs.inside.Coded.{hasRoom}
 use Rattle.read_place.specs.declared.Marks.{Marks as CodedMarks}
 use Rattle.read_place.proofs.Lasting.{event-kept, goes-onward, low-weak, low-going, low-onward}
-use Rattle.read_place.proofs.Lengths.{mode-short, path-short}
+use Rattle.read_path.proofs.Lengths.{mode-short, path-short}
 use Rattle.read_content.specs.Content.{Content, gather, perform}
-use Rattle.read_content.specs.Holds.{Holds, Lists, Comes, came, halted}
+use Rattle.read_content.specs.inside.Holds.{Holds, Lists, Comes, came, halted}
 use Rattle.read_content.specs.declared.Content.{Content as CodedContent}
 use Rattle.read_content.specs.declared.Performed.{Performed}
 use Rattle.read_content.specs.declared.Performed.the-variants.{To, Not}
 use Rattle.read_machine.specs.Machine.{Machine, act, step}
-use Rattle.read_step.specs.Standing.{machineOf, Stands, Refuses, Moved, after}
+use Rattle.read_step.specs.inside.Standing.{machineOf, Stands, Refuses, Moved, after}
 use Rattle.read_step.specs.declared.State.{State}
 use Rattle.read_step.proofs.Acting.{behind, act-goes, act-refuses}
-use Rattle.read_content.proofs.Beginning.{lists-at}
+use Rattle.read_content.proofs.Listing.{lists-at}
 
 -- ---- what an answer says of the outcome
 module _ {Q : CodedContent → Content → Type 0} {p : Place} {words text scratch attributes source : List ℕ} where
@@ -45,9 +47,6 @@ module _ {Q : CodedContent → Content → Type 0} {p : Place} {words text scrat
   pub comes-not : {o : Outcome Content} {r : Performed} (f : Fault) → Comes Q p words text scratch attributes source o r → r ≡ Not f → o ≡ refused (faultAt p f)
   comes-not f (came h q) e = let z : _≡_ {A = ℕ} 0 1 = cc in absurd (omega arith)
   comes-not f (halted {f = g}) e = let z : g ≡ f = cc in ap (λ (x : Fault). refused (faultAt p x)) z
-
-pub few-weak : {n k : ℕ} {t : Tally} → n ≤ k → Few n t → Few k t
-few-weak h f = record { mains = omega arith; flaky = omega arith; reruns = omega arith }
 
 -- ---- an event that leaves the control
 -- areas and marks before it, and behind it
@@ -65,7 +64,7 @@ module _ (attributes source words text scratch words₀ text₀ scratch₀ : Lis
         holds = holds;
         lists = lists-at (modeOf (st .control)) e (marksOf (st .marks)) k′ c′ lists;
         low = low-going h (t .low);
-        few = few-weak h (t .few);
+        few = few-more (t .few) h;
       })
 
   pub going-same : {o : Outcome Machine} → o ≡ accepted (record { control = controlOf (st .control); content = c′; marks = goTo e (marksOf (st .marks)) }) → o ≡ accepted (machineOf st′ c′)
@@ -107,8 +106,8 @@ module _ (rooms : Rooms) (k : PieceKind) (bytes : List ℕ) (s : Machine) where
   piece-refused r e g = gathered (refused r) e g
 
 -- a refusal where reading stands
-pub halts-here : (st : State) (o : Outcome Machine) (cause : Cause) (f : Fault) (i : ℕ) → i ≤ 65536 → o ≡ refused (faultAt (record { path = modePath (modeOf (st .control)) (marksOf (st .marks)); event = i; attribute = nowhere }) f) → Refuses st (record { act = Broken cause; event = i; fault = f }) o
-halts-here st o cause f i h e = record { placed = record { name = []; room = mode-short (modeOf (st .control)) (marksOf (st .marks)); event = h }; same = e }
+pub halts-here : (st : State) (o : Outcome Machine) (why : Cause) (f : Fault) (i : ℕ) → i ≤ 65536 → o ≡ refused (faultAt (record { path = modePath (modeOf (st .control)) (marksOf (st .marks)); event = i; attribute = nowhere }) f) → Refuses st (record { act = Broken why; event = i; fault = f }) o
+halts-here st o why f i h e = record { placed = record { name = []; room = mode-short (modeOf (st .control)) (marksOf (st .marks)); event = h }; same = e }
 
 -- where reading stands
 abbrev pub here : State → Place
@@ -121,8 +120,8 @@ module _ (attributes source words text scratch scratch₀ : List ℕ) (rooms : R
       let x = comes-to k′ comes e in
       piece-moved attributes source words text scratch words text scratch₀ st m′ k′ c (x .0) q t (x .2) (x .3) (piece-joined rooms k bytes (machineOf st c) (x .0) g (x .1))
 
-  pub piece-halts : (cause : Cause) (f : Fault) → r ≡ Not f → st .marks .event ≤ 65536 → Refuses st (record { act = Broken cause; event = st .marks .event; fault = f }) (step rooms (Piece k bytes) (machineOf st c))
-  piece-halts cause f e h = halts-here st (step rooms (Piece k bytes) (machineOf st c)) cause f (st .marks .event) h (piece-refused rooms k bytes (machineOf st c) (faultAt (here st) f) g (comes-not f comes e))
+  pub piece-halts : (why : Cause) (f : Fault) → r ≡ Not f → st .marks .event ≤ 65536 → Refuses st (record { act = Broken why; event = st .marks .event; fault = f }) (step rooms (Piece k bytes) (machineOf st c))
+  piece-halts why f e h = halts-here st (step rooms (Piece k bytes) (machineOf st c)) why f (st .marks .event) h (piece-refused rooms k bytes (machineOf st c) (faultAt (here st) f) g (comes-not f comes e))
 
 -- ---- actions
 module _ (attributes source words text scratch words₀ text₀ : List ℕ) (a : CodedAct) (name : List ℕ) (st : State) (c c′ : Content) (k : CodedContent) (h : isStep a ≡ true) (t : Stands attributes source words₀ text₀ scratch (st .content) (machineOf st c)) (holds : Holds words text scratch attributes source k c′) (lists : Lists (turned a name (st .control) .mode) (marksAfter (actOf (st .control) name a) (length (c .records)) (marksOf (st .marks))) k c′) where
@@ -141,7 +140,7 @@ module _ (attributes source words text scratch words₀ text₀ : List ℕ) (a :
             lists-at (turn acting (controlOf (st .control)) .mode) (marked .event + 1) marked k c′
             (subst (λ (b : Bool). Lists (cond b (turn acting (controlOf (st .control))) (controlOf (st .control)) .mode) marked k c′) h lists);
         low = low-weak (omega arith) (low-onward acting (length (c .records)) (marksOf (st .marks)) (t .low));
-        few = few-weak (omega arith) (few-turn acting (controlOf (st .control)) (t .few));
+        few = few-more (few-turn acting (controlOf (st .control)) (t .few)) (omega arith);
       }
 
   pub act-moved : (rooms : Rooms) (j : ℕ) (xs : List Attribute) (st′ : State) → ((n : List ℕ) (d : Content) → machineOf st′ d ≡ after (actOf (st .control) n a) (st .content .used) (machineOf st d)) → st′ .content ≡ k → perform rooms (actPlace acting (modeOf (st .control)) (marksOf (st .marks))) acting j xs (controlOf (st .control)) (marksOf (st .marks)) c ≡ accepted c′ → Moved attributes source words text scratch (st .marks .event) (act rooms acting j xs (machineOf st c)) st′

@@ -12,13 +12,13 @@ use Rattle.table.specs.declared.Checked.the-variants.{Good}
 use Rattle.table.specs.Event.{Attribute, kindAt, bytesAt, attributesFrom, eventAt}
 use Rattle.table.proofs.Resolving.{attributes-none}
 use Rattle.table.proofs.ValidTables.{ValidSizes, ValidEvent, good-sizes, good-event, same-check}
-use Rattle.table_events.specs.Ranges.{firstAt, endAt}
+use Rattle.table_events.specs.inside.Ranges.{firstAt, endAt}
 use Rattle.table_events.proofs.Attributing.{Ranged, none, some, ranged, range-order, range-empty, range-high, range-attributes}
 use Rattle.read_element.specs.Outcome.{Rooms}
 use Rattle.read_state.specs.Control.{Act}
 use Rattle.read_machine.specs.Machine.{Machine, act, step}
-use Rattle.read_step.specs.Planned.{isPiece, planned}
-use Rattle.read_step.specs.Standing.{Spans}
+use Rattle.read_step.specs.inside.Planned.{isPiece, planned}
+use Rattle.read_step.specs.inside.Standing.{Spans}
 use Rattle.read_step.proofs.Acting.{act-none}
 use Rattle.read_step.proofs.ByKind.{other-steps}
 

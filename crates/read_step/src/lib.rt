@@ -1,34 +1,35 @@
 // One step of reading: an event, or an unknown element whole.
+use names::tag_of;
 use read_actions::perform;
-use read_attributes::Fault;
-use read_attributes::Range;
+use read_attribute::Fault;
+use read_attribute::Range;
 use read_content::Content;
 use read_content::Performed;
-use read_content::is_gathering;
 use read_content::no_content;
-use read_content::texts::gather;
+use read_pieces::gather;
+use read_pieces::is_gathering;
+use read_place::Marks;
+use read_place::marked;
+use read_place::no_marks;
+use read_place::onward;
+use read_rules::plan_eof;
+use read_rules::plan_tag;
 use read_state::Act;
 use read_state::Control;
 use read_state::Level;
 use read_state::Mode;
 use read_state::Output;
-use read_state::no_status;
 use read_state::turn;
+use refusal::Cause;
+use refusal::NOWHERE;
+use table::kind;
 use table_events::Skipped;
 use table_events::bytes_at;
 use table_events::end_at;
 use table_events::first_at;
 use table_events::kind_at;
 use table_events::skip_from;
-use read_place::Marks;
-use read_place::NOWHERE;
-use read_place::marked;
-use read_place::no_marks;
-use read_place::onward;
-use names::tag_of;
-use read_rules::plan_eof;
-use read_rules::plan_tag;
-use refusal::Cause;
+use tree_status::no_status;
 ghost use mathlib.Core.Path.{_≡_};
 ghost use mathlib.Core.Bool.{true, false};
 ghost use mathlib.Core.List.{List};
@@ -36,15 +37,17 @@ ghost use Prim.Native.Nat.{ℕ, _-_, _≤_, _<_};
 ghost use lib.ListN.{length};
 ghost use Rattle.refusal.specs.Refusal as why;
 ghost use Rattle.table.specs.Table.{countOf, tableOf};
-ghost use Rattle.table.specs.Event.{Piece, kindAt, bytesAt, attributesFrom};
+ghost use Rattle.table.specs.Event.{Piece, kindAt, bytesAt, attributesFrom, pieceKind, pieceBytes};
 ghost use Rattle.read_element.specs.Outcome.{Rooms};
-ghost use Rattle.read_state.specs.Coded.{modeOf, tallyOf, controlOf, actOf, isStep, Few};
-ghost use Rattle.read_place.specs.Coded.{marksOf, Low, hasRoom};
+ghost use Rattle.read_state.specs.inside.Coded.{modeOf, controlOf, actOf, isStep};
+ghost use Rattle.tree_status.specs.Status.{Few};
+ghost use Rattle.read_place.specs.inside.Coded.{marksOf, Low};
+ghost use Rattle.read_path.specs.inside.Coded.{hasRoom};
 ghost use Rattle.read_content.specs.Content as deed;
-ghost use Rattle.read_content.specs.Holds.{Sized, apt, pieceKind, pieceBytes};
+ghost use Rattle.read_content.specs.inside.Holds.{Sized, apt};
 ghost use Rattle.read_machine.specs.Machine as machine;
-ghost use Rattle.read_step.specs.Planned.{isPiece, planned, nameIn, IsSkipped, isSkip, isStop};
-ghost use Rattle.read_step.specs.Standing.{machineOf, runOn, Stands, Standing, Bounded, Lent, Spans, haltAt, beginning, after, Acted, Stepped};
+ghost use Rattle.read_step.specs.inside.Planned.{isPiece, planned, nameIn, IsSkipped, isSkip, isStop};
+ghost use Rattle.read_step.specs.inside.Standing.{machineOf, runOn, Stands, Standing, Bounded, Lent, Spans, haltAt, beginning, after, Acted, Stepped};
 
 pub struct State {
     pub control: Control,
@@ -126,8 +129,8 @@ fn plan(control: Control, kind: u32, name: &[u8]) -> Act
     ensures { λ r. ⌜ apt r (modeOf control) ≡ true ⌝ }
 {
     match kind {
-        7 => plan_eof(control),
-        8 => Act::Broken(Cause::XmlFault),
+        kind::EOF => plan_eof(control),
+        kind::FAULT => Act::Broken(Cause::XmlFault),
         _ => plan_tag(control, kind, tag_of(name)),
     }
 }
@@ -206,7 +209,7 @@ fn step_skip(st: State, events: &[u32], source: &[u8]) -> Step
 // The state behind an action that left `content`.
 fn behind(act: Act, st: State, content: Content) -> State
     requires { ⌜ Low 65536 (marksOf (st .marks)) ⌝ }
-    requires { ⌜ Few 65536 (tallyOf (st .control .tally)) ⌝ }
+    requires { ⌜ Few 4294967294 (st .control .tally) ⌝ }
     requires { ⌜ isStep act ≡ true ⌝ }
     ensures { λ r. ⌜ ((name : List ℕ) (c : deed.Content) → machineOf r c ≡ after (actOf (st .control) name act) (st .content .used) (machineOf st c)) ⌝ }
     ensures { λ r. ⌜ r .content ≡ content ⌝ }
@@ -266,7 +269,7 @@ fn step_act(
 fn is_piece(kind: u32) -> bool
     ensures { λ r. ⌜ r ≡ isPiece kind ⌝ }
 {
-    ((3 <= kind) & (kind <= 6)) | (kind == 9)
+    ((kind::TEXT <= kind) & (kind <= kind::OTHER)) | (kind == kind::INDENT)
 }
 
 // One event, or an unknown element whole.

@@ -1,34 +1,35 @@
 // An attribute's value, read into the element's record.
-use time::read::Time;
-use time::read::read_time;
 use integer::Integer;
 use integer::integer_of;
-use tree_put::put_bit;
-use tree_put::put_count;
-use tree_put::put_moment;
-use tree_put::put_text;
-use tree_put::put_time;
-use tree_put::put_uuid;
 use refusal::Cause;
-use timestamp::Timestamp;
-use timestamp::timestamp_of;
 use text::kept::Kept;
 use text::value::store_value;
+use time::read::Time;
+use time::read::read_time;
+use timestamp::Timestamp;
+use timestamp::timestamp_of;
+use tree_put::put_count;
+use tree_put::put_text;
+use tree_record::put_bit;
+use tree_values::put_moment;
+use tree_values::put_time;
+use tree_values::put_uuid;
 use uuid::Uuid;
 use uuid::uuid_of;
 ghost use mathlib.Core.Path.{_≡_};
 ghost use mathlib.Core.List.{_++_};
 ghost use Prim.Native.Nat.{_≤_, _-_};
 ghost use lib.ListN.{length, take, drop};
-ghost use Rattle.tree_put.specs.Put.{marked, putText, putCount, putUuid, putMoment, putTime};
+ghost use Rattle.tree_record.specs.Record.{marked};
+ghost use Rattle.tree_put.specs.Put.{putText, putCount, putUuid, putMoment, putTime};
 ghost use Rattle.integer.specs.Integer.{integerOf};
 ghost use Rattle.uuid.specs.Uuid.{uuidOf};
 ghost use Rattle.timestamp.specs.Timestamp.{timestampOf};
 ghost use Rattle.time.specs.Time.{timeOf};
 ghost use Rattle.text.specs.Value.{valueOf, valueLaid};
 ghost use Rattle.read_element.specs.Attributes.{keep};
-ghost use Rattle.read_element.specs.Held.{unmoved, moved, putting};
-ghost use Rattle.read_values.specs.Answers.{tookAnswer};
+ghost use Rattle.read_element.specs.inside.Held.{unmoved, moved, putting};
+ghost use Rattle.read_values.specs.inside.Answers.{tookAnswer};
 
 // Where the texts end now, or why the value is refused.
 pub enum Took {

@@ -12,8 +12,8 @@ use Rattle.area.specs.Area.{zeros, laid}
 use Rattle.area.proofs.Lists.{take-zeros, drop-zeros}
 use Rattle.area.proofs.Laying.{laid-zeros}
 use Rattle.read_element.specs.Outcome.{roomsOf, fits}
-use Rattle.read_content.specs.Holds.{Sized}
-use Rattle.read_step.specs.Standing.{Lent}
+use Rattle.read_content.specs.inside.Holds.{Sized}
+use Rattle.read_step.specs.inside.Standing.{Lent}
 
 -- ---- rooms
 pub rooms-cut : (words text scratch : ℕ) → roomsOf (min (words / 32) 65536 * 32) (min text 16777216) (min scratch 16777216) ≡ roomsOf words text scratch

@@ -9,9 +9,9 @@ use Rattle.table.specs.Table.{countOf}
 use Rattle.table.specs.Event.{resolve}
 use Rattle.read_element.specs.Outcome.{Rooms, roomsOf}
 use Rattle.read_content.specs.Content.{Content}
-use Rattle.read_content.specs.Holds.{Sized}
+use Rattle.read_content.specs.inside.Holds.{Sized}
 use Rattle.read_machine.specs.Machine.{run, begin}
-use Rattle.read_step.specs.Standing.{machineOf, runOn, Stands, Standing, Lent, Refuses, Went, Ended, Stepped, beginning, nothing}
+use Rattle.read_step.specs.inside.Standing.{machineOf, runOn, Stands, Standing, Lent, Refuses, Went, Ended, Stepped, beginning, nothing}
 use Rattle.read_step.specs.declared.State.{State}
 use Rattle.read_step.specs.declared.Halt.{Halt}
 use Rattle.read_step.specs.declared.Step.{Step}

@@ -7,39 +7,44 @@ use lib.Seq.{length-take-le}
 use native.Mathlib.Omega.{arith}
 use Rattle.area.specs.Area.{zeros}
 use Rattle.utf8.specs.Characters.{joined}
-use Rattle.refusal.specs.Refusal.{number, elementsOf, emptyPath, Refused, Outcome, accepted, refused}
+use Rattle.refusal.specs.Refusal.{emptyPath, Refused, Outcome, accepted, refused}
 use Rattle.refusal.specs.declared.Cause.{Cause}
 use Rattle.refusal.specs.declared.Cause.the-variants.{BadTable}
 use Rattle.refusal.specs.declared.Path.{Path}
-use Rattle.refusal.specs.declared.PathElement.{PathElement}
+use Rattle.refusal.specs.declared.Verdict.the-variants.{Refused as IsRefused}
 use Rattle.table.specs.Table.{tableOf}
 use Rattle.table.specs.Event.{Event, resolve}
-use Rattle.read_element.specs.Outcome.{_>>=_, Rooms, roomsOf, pathTo}
-use Rattle.read_state.specs.Coded.{modeOf, actOf}
-use Rattle.read_place.specs.Marks.{pathOf}
-use Rattle.read_place.specs.Coded.{marksOf, Leads}
+use Rattle.read_element.specs.Outcome.{_>>=_, Rooms, roomsOf}
+use Rattle.read_state.specs.inside.Coded.{modeOf, actOf}
+use Rattle.read_path.specs.Paths.{pathOf}
+use Rattle.read_place.specs.inside.Coded.{marksOf}
+use Rattle.read_path.specs.inside.Coded.{Leads, withAttribute}
+use Rattle.read_path.proofs.Leading.{leads-within}
 use Rattle.read_machine.specs.Machine.{Machine, run, begin}
 use Rattle.read_machine.specs.Reading.{Read, readAs, reading}
-use Rattle.read_step.specs.Standing.{refusalAt, Lent, Refuses, Ended}
+use Rattle.read_step.specs.inside.Standing.{refusalAt, Placed, Lent, Refuses, Ended}
 use Rattle.read_step.specs.declared.State.{State}
 use Rattle.read_step.specs.declared.Halt.{Halt}
-use Rattle.reader.specs.Ran.{Ran}
+use Rattle.reader.specs.declared.Reading.{Reading}
+use Rattle.reader.specs.Answer.{answerOf, Leaves}
+use Rattle.reader.specs.inside.Ran.{Ran}
 use Rattle.reader.specs.declared.Run.{Run}
 use Rattle.reader.specs.declared.Run.the-variants as ran
 use Rattle.reader.proofs.Areas.{rooms-cut, lent-cut, part-back, laid-behind}
 
 -- ---- the path of a refusal
-abbrev pub refusing : Cause → ℕ → ℕ → List PathElement → Outcome (Unit {0})
-refusing cause event attribute path = refused (record { number = number cause; path = path; event = event; attribute = attribute })
+abbrev pub refusing : Cause → ℕ → ℕ → Path → Reading
+refusing why event attribute path = record { verdict = IsRefused; refusal = record { cause = why; path = path; event = event; attribute = attribute } }
 
-pub halted-there : (st : State) (h : Halt) (name : List ℕ) (p q : Path) → Leads p (pathOf (actOf (st .control) name (h .act)) (modeOf (st .control)) (marksOf (st .marks))) → elementsOf q ≡ pathTo (elementsOf p) (h .fault .key) → _≡_ {A = Outcome (Unit {0})} (refused (record { number = number (h .fault .cause); path = elementsOf q; event = h .event; attribute = h .fault .attribute })) (refused (refusalAt st h name))
-halted-there st h name p q l e =
-    ap (refusing (h .fault .cause) (h .event) (h .fault .attribute))
-    (e ∙ ap (λ (x : List PathElement). pathTo x (h .fault .key)) (l .elements))
+pub halted-there : (st : State) (h : Halt) (placed : Placed st h) (p q : Path) → Leads p (pathOf (actOf (st .control) (placed .name) (h .act)) (modeOf (st .control)) (marksOf (st .marks))) → q ≡ withAttribute p (h .fault .key) → refusing (h .fault .cause) (h .event) (h .fault .attribute) q ≡ answerOf (refused (refusalAt st h (placed .name)))
+halted-there st h placed p q l e = ap (refusing (h .fault .cause) (h .event) (h .fault .attribute)) (e ∙ leads-within (h .fault .key) l (placed .room) .whole)
 
 -- 11 has an empty path
-pub bad-there : (event attribute : ℕ) (p : Path) → p ≡ emptyPath → refusing BadTable event attribute (elementsOf p) ≡ refusing BadTable event attribute []
-bad-there event attribute p e = ap (λ (x : Path). refusing BadTable event attribute (elementsOf x)) e
+abbrev pub badTable : ℕ → ℕ → Refused
+badTable event attribute = record { cause = BadTable; path = []; event = event; attribute = attribute }
+
+pub bad-there : (event attribute : ℕ) (p : Path) → p ≡ emptyPath → refusing BadTable event attribute p ≡ answerOf (refused (badTable event attribute))
+bad-there event attribute p e = ap (refusing BadTable event attribute) e
 
 -- ---- the way out of the run
 module _ (words text : List ℕ) (o : Outcome Machine) (r : Run) (e : Ran words text o r) where
@@ -131,9 +136,9 @@ module _ (events attributes source : List ℕ) (words text scratch : ℕ) where
           ∙ sym (told (accepted tt) good ∙ ap (readAs words text scratch) (d .same))
 
 -- the same for areas of these lengths
-pub read-lengths : (events attributes source words text scratch words₀ text₀ scratch₀ : List ℕ) → length words ≡ length words₀ → length text ≡ length text₀ → length scratch ≡ length scratch₀ → (x : Read) → x ≡ reading events attributes source (length words) (length text) (length scratch) → x ≡ reading events attributes source (length words₀) (length text₀) (length scratch₀)
-read-lengths events attributes source words text scratch words₀ text₀ scratch₀ a b c x e = rw (← a, ← b, ← c) e
+pub read-lengths : (events attributes source words text scratch words₀ text₀ scratch₀ : List ℕ) → length words ≡ length words₀ → length text ≡ length text₀ → length scratch ≡ length scratch₀ → (P : Read → Type 0) → P (reading events attributes source (length words) (length text) (length scratch)) → P (reading events attributes source (length words₀) (length text₀) (length scratch₀))
+read-lengths events attributes source words text scratch words₀ text₀ scratch₀ a b c P e = rw (← a, ← b, ← c) e
 
--- an equation of reads, as its parts
-pub parts : {x y : Read} → x ≡ y → (x .outcome ≡ y .outcome) × ((x .words ≡ y .words) × ((x .text ≡ y .text) × (x .scratch ≡ y .scratch)))
-parts e = (ap (λ (z : Read). z .outcome) e, (ap (λ (z : Read). z .words) e, (ap (λ (z : Read). z .text) e, ap (λ (z : Read). z .scratch) e)))
+-- an answer for an outcome, with an equation of reads
+pub answers : {r : Reading} {o : Outcome (Unit {0})} {w t c : List ℕ} {x : Read} → r ≡ answerOf o → gives o w t c ≡ x → Leaves r w t c x
+answers q e = (q ∙ ap (λ (z : Read). answerOf (z .outcome)) e, (ap (λ (z : Read). z .words) e, (ap (λ (z : Read). z .text) e, ap (λ (z : Read). z .scratch) e)))

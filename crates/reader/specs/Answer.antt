@@ -1,20 +1,16 @@
--- The answer of reading in document 01's words, with the areas that it leaves. Definitions only.
+-- The answer of reading, whole, with the areas that it leaves. Definitions only.
 use Prim.Native.Nat.{ℕ}
+use mathlib.Core.Path.{_≡_}
 use mathlib.Core.List.{List}
-use Rattle.refusal.specs.Refusal.{Refused, Outcome, accepted, refused, refusalOf}
+use Rattle.refusal.specs.Refusal.{Outcome, verdictOf, refusalOf}
 use Rattle.read_machine.specs.Reading.{Read}
-use Rattle.reader.specs.declared.Verdict.{Verdict}
-use Rattle.reader.specs.declared.Verdict.the-variants.{Accepted, Refused as IsRefused}
 use Rattle.reader.specs.declared.Reading.{Reading}
 
--- of an accepted table the field `refusal` is a filler: no equation says anything of it
-abbrev pub answerOf : Verdict → Refused → Outcome (Unit {0})
-answerOf Accepted r = accepted tt
-answerOf IsRefused r = refused r
+-- "Each returns its number, a path of at most six elements, the event and attribute number": the answer for an outcome; where
+-- the table is accepted, the field `refusal` is `noRefusal`
+abbrev pub answerOf : Outcome (Unit {0}) → Reading
+answerOf o = record { verdict = verdictOf o; refusal = refusalOf o }
 
--- "Each returns its number, a path of at most six elements, the event and attribute number"
-abbrev pub readingAnswer : Reading → Outcome (Unit {0})
-readingAnswer r = answerOf (r .verdict) (refusalOf (r .refusal))
-
-abbrev pub readOf : Reading → List ℕ → List ℕ → List ℕ → Read
-readOf r words text scratch = record { outcome = readingAnswer r; words = words; text = text; scratch = scratch }
+-- an answer and areas are those of a reading
+abbrev pub Leaves : Reading → List ℕ → List ℕ → List ℕ → Read → Type 0
+Leaves r words text scratch x = (r ≡ answerOf (x .outcome)) × ((words ≡ x .words) × ((text ≡ x .text) × (scratch ≡ x .scratch)))

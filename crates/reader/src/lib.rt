@@ -2,22 +2,22 @@
 use area::clear;
 use area::clear_words;
 use area::least;
-use read_place::NOWHERE;
-use read_place::path_of;
-use read_place::within;
-use refusal::Cause;
-use refusal::Path;
-use refusal::Refusal;
+use area::limit;
+use read_path::path_of;
+use read_path::within;
 use read_step::Halt;
 use read_step::State;
 use read_step::Step;
 use read_step::begin;
 use read_step::step_event;
+use refusal::Cause;
+use refusal::Path;
+use refusal::Refusal;
+use refusal::Verdict;
+use refusal::no_refusal;
 use table::Checked;
 use table::check_table;
 ghost use mathlib.Core.Path.{_≡_};
-ghost use mathlib.Core.List.{List};
-ghost use Prim.Native.Nat.{ℕ};
 ghost use lib.ListN.{length};
 ghost use Rattle.area.specs.Area.{zeros};
 ghost use Rattle.refusal.specs.Refusal as why;
@@ -26,20 +26,12 @@ ghost use Rattle.table.specs.Event.{resolve};
 ghost use Rattle.read_element.specs.Outcome.{roomsOf};
 ghost use Rattle.read_machine.specs.Machine as machine;
 ghost use Rattle.read_machine.specs.Reading as result;
-ghost use Rattle.read_step.specs.Standing.{Lent, Placed, refusalAt};
-ghost use Rattle.reader.specs.Answer.{readingAnswer, readOf};
-ghost use Rattle.reader.specs.Ran.{Ran};
+ghost use Rattle.read_step.specs.inside.Standing.{Lent, Placed, refusalAt};
+ghost use Rattle.refusal.specs.declared.Verdict.the-variants.{Refused as IsRefused};
+ghost use Rattle.reader.specs.Answer.{answerOf, Leaves};
+ghost use Rattle.reader.specs.inside.Ran.{Ran};
 
-const MOST_RECORDS: usize = 65536;
-
-const MOST_BYTES: usize = 16777216;
-
-pub enum Verdict {
-    Accepted,
-    Refused,
-}
-
-// The answer. Of an accepted table the refusal is a filler that means nothing.
+// The answer. Of an accepted table the refusal is that of `no_refusal`.
 pub struct Reading {
     pub verdict: Verdict,
     pub refusal: Refusal,
@@ -76,7 +68,7 @@ fn run_events(
 }
 
 fn refusing(cause: Cause, path: Path, event: u32, attribute: u32) -> Reading
-    ensures { λ r. ⌜ readingAnswer r ≡ why.refused (record { number = why.number cause; path = why.elementsOf path; event = event; attribute = attribute }) ⌝ }
+    ensures { λ r. ⌜ r ≡ record { verdict = IsRefused; refusal = record { cause = cause; path = path; event = event; attribute = attribute } } ⌝ }
 {
     Reading {
         verdict: Verdict::Refused,
@@ -90,23 +82,18 @@ fn refusing(cause: Cause, path: Path, event: u32, attribute: u32) -> Reading
 }
 
 fn accepting() -> Reading
-    ensures { λ r. ⌜ readingAnswer r ≡ why.accepted tt ⌝ }
+    ensures { λ r. ⌜ r ≡ answerOf (why.accepted tt) ⌝ }
 {
     Reading {
         verdict: Verdict::Accepted,
-        refusal: Refusal {
-            cause: Cause::BadTable,
-            path: Path::new(),
-            event: NOWHERE,
-            attribute: NOWHERE,
-        },
+        refusal: no_refusal(),
     }
 }
 
 // The one place where a path is made.
 fn halted(st: State, h: Halt) -> Reading
     requires { ⌜ Placed st h ⌝ }
-    ensures { λ r. ⌜ ((name : List ℕ) → readingAnswer r ≡ why.refused (refusalAt st h name)) ⌝ }
+    ensures { λ r. ⌜ ((placed : Placed st h) → r ≡ answerOf (why.refused (refusalAt st h (placed .name)))) ⌝ }
 {
     let control = st.control;
     let marks = st.marks;
@@ -131,9 +118,9 @@ fn run_within(
     requires { ⌜ now text ≡ zeros (length (now text)) ⌝ }
     ensures { λ r. ⌜ Ran (now (records .exit)) (now (text .exit)) (machine.run (roomsOf (length (now (records .entry))) (length (now (text .entry))) (length (now (scratch .entry)))) (resolve (now (events .entry)) (now (attributes .entry)) (now (source .entry))) machine.begin) r ⌝ }
 {
-    let words = least(records.len() / 32, MOST_RECORDS) * 32;
-    let bytes = least(text.len(), MOST_BYTES);
-    let room = least(scratch.len(), MOST_BYTES);
+    let words = least(records.len() / 32, limit::RECORDS) * 32;
+    let bytes = least(text.len(), limit::BYTES);
+    let room = least(scratch.len(), limit::BYTES);
     run_events(
         events,
         attributes,
@@ -166,7 +153,7 @@ fn read_good(
     requires { ⌜ tableOf (now events) (now attributes) (now source) ≡ why.accepted tt ⌝ }
     requires { ⌜ now records ≡ zeros (length (now records)) ⌝ }
     requires { ⌜ now text ≡ zeros (length (now text)) ⌝ }
-    ensures { λ r. ⌜ readOf r (now (records .exit)) (now (text .exit)) (now (scratch .exit)) ≡ result.reading (now (events .entry)) (now (attributes .entry)) (now (source .entry)) (length (now (records .entry))) (length (now (text .entry))) (length (now (scratch .entry))) ⌝ }
+    ensures { λ r. ⌜ Leaves r (now (records .exit)) (now (text .exit)) (now (scratch .exit)) (result.reading (now (events .entry)) (now (attributes .entry)) (now (source .entry)) (length (now (records .entry))) (length (now (text .entry))) (length (now (scratch .entry)))) ⌝ }
 {
     let ran = run_within(events, attributes, source, records, text, scratch);
     match ran {
@@ -190,7 +177,7 @@ pub fn read(
     text: &mut [u8],
     scratch: &mut [u8],
 ) -> Reading
-    ensures answer { λ r. ⌜ readingAnswer r ≡ result.reading (now (events .entry)) (now (attributes .entry)) (now (source .entry)) (length (now (records .entry))) (length (now (text .entry))) (length (now (scratch .entry))) .outcome ⌝ }
+    ensures answer { λ r. ⌜ r ≡ answerOf (result.reading (now (events .entry)) (now (attributes .entry)) (now (source .entry)) (length (now (records .entry))) (length (now (text .entry))) (length (now (scratch .entry))) .outcome) ⌝ }
     ensures records { λ _. ⌜ now (records .exit) ≡ result.reading (now (events .entry)) (now (attributes .entry)) (now (source .entry)) (length (now (records .entry))) (length (now (text .entry))) (length (now (scratch .entry))) .words ⌝ }
     ensures text { λ _. ⌜ now (text .exit) ≡ result.reading (now (events .entry)) (now (attributes .entry)) (now (source .entry)) (length (now (records .entry))) (length (now (text .entry))) (length (now (scratch .entry))) .text ⌝ }
     ensures scratch { λ _. ⌜ now (scratch .exit) ≡ result.reading (now (events .entry)) (now (attributes .entry)) (now (source .entry)) (length (now (records .entry))) (length (now (text .entry))) (length (now (scratch .entry))) .scratch ⌝ }

@@ -1,50 +1,22 @@
 -- The reference behind an ampersand. Assumes nothing.
 use Prim.Native.Nat.{ℕ, suc, _+_, _≤_, _<_}
-use mathlib.Core.Path.{_≡_, refl, _∙_}
+use mathlib.Core.Path.{_≡_, refl}
 use mathlib.Core.List.{List, _∷_, _++_}
 use mathlib.Core.Bool.{Bool, true, false, cond, _&&_, and-false, and-eq-true-iff}
 use native.Mathlib.Omega.{arith}
 use native.Mathlib.Numerals.{add-one}
-use borrow.Author.Tests.{lt-ltb, le-ltb, eq-eqb, ne-eqb, ltb-true}
-use lib.Dec.{ltb, eqb}
-use lib.ListN.{length, take, drop, getD, drop-of-length-le, length-append}
+use borrow.Author.Tests.{lt-ltb, le-ltb, ltb-true}
+use lib.Dec.{ltb}
+use lib.ListN.{length, take, length-append}
 use lib.Seq.{length-take-le, take-append-seam}
 use Rattle.area.specs.Answer.{gives, refuses}
-use Rattle.area.proofs.Lists.{drop-next}
 use Rattle.reference.specs.Reference.{xmlChar, isNamed, charOf, named, semicolon, refAt, bytesOf}
 use Rattle.reference.specs.declared.Ref.{Ref}
 use Rattle.reference.specs.declared.Ref.the-variants.{Is, Not}
 use Rattle.area.proofs.Answers.{given, refused}
 use Rattle.reference.proofs.Naming.{char-code}
 use Rattle.reference.proofs.Letters.{named-length, named-xml, named-semicolon}
-
--- the first i bytes are no semicolon
-pub record Seeking (s : List ℕ) (i : ℕ) : Type 0 where
-  pub within : i ≤ length s
-  pub whole : semicolon s ≡ i + semicolon (drop i s)
-
-pub seeking-start : (s : List ℕ) → Seeking s 0
-seeking-start s = record { within = omega arith; whole = omega arith }
-
-module _ {s : List ℕ} {i : ℕ} (k : Seeking s i) where
-  pub seeking-end : length s ≤ i → i ≡ semicolon s
-  seeking-end h =
-      let z : semicolon (drop i s) ≡ 0 = rw (drop-of-length-le s {i = i} h) refl in
-      omega (arith, k .whole)
-
-  module _ (h : i < length s) where
-    next : semicolon (drop i s) ≡ cond (eqb (getD s i 0) 0x3B) 0 (suc (semicolon (drop (i + 1) s)))
-    next = rw (drop-next s i h) refl
-
-    pub seeking-found : getD s i 0 ≡ 0x3B → i ≡ semicolon s
-    seeking-found e =
-        let z : semicolon (drop i s) ≡ 0 = next ∙ rw (eq-eqb (getD s i 0) 0x3B e) refl in
-        omega (arith, k .whole)
-
-    pub seeking-more : (getD s i 0 ≡ 0x3B → ⊥) → Seeking s (i + 1)
-    seeking-more e =
-        let z : semicolon (drop i s) ≡ suc (semicolon (drop (i + 1) s)) = next ∙ rw (ne-eqb (getD s i 0) 0x3B e) refl in
-        record { within = omega arith; whole = omega (arith, k .whole) }
+use Rattle.refusal.specs.declared.Cause.the-variants as cause
 
 -- the reference, from the tests that lead to it
 module _ (s : List ℕ) (e : ℕ) (q : e ≡ semicolon s) where
@@ -53,14 +25,14 @@ module _ (s : List ℕ) (e : ℕ) (q : e ≡ semicolon s) where
   ref-open h = rw (← q, le-ltb e (length s) h) refl
 
   module _ (h : e < length s) where
-    pub ref-unnamed : refuses 10 ≡ named (take e s) → Not ≡ refAt s
+    pub ref-unnamed : refuses cause.BadReference ≡ named (take e s) → Not ≡ refAt s
     unfolding refAt
-    ref-unnamed p = rw (← q, refused (isNamed (take e s)) (charOf (take e s)) 10 10 p, and-false (ltb e (length s))) refl
+    ref-unnamed p = rw (← q, refused (isNamed (take e s)) (charOf (take e s)) cause.BadReference cause.BadReference p, and-false (ltb e (length s))) refl
 
     pub ref-named : (c : ℕ) → gives c ≡ named (take e s) → Is c (e + 1) ≡ refAt s
     unfolding refAt
     ref-named c p =
-        let g = given (isNamed (take e s)) (charOf (take e s)) 10 c p in
+        let g = given (isNamed (take e s)) (charOf (take e s)) cause.BadReference c p in
         rw (add-one e, ← q, lt-ltb e (length s) h, g .0, g .1) refl
 
 -- a reference is a name and its semicolon

@@ -6,10 +6,11 @@ use mathlib.Core.Bool.{Bool, true, false, cond, and-eq-true-iff}
 use native.Mathlib.Omega.{arith}
 use borrow.Author.Tests.{ne-eqb, leb-true, eqb-true}
 use lib.Dec.{leb, eqb, lit≤}
-use lib.ListN.{length, take, drop, getD}
+use lib.ListN.{take, drop, getD}
 use lib.Seq.{split-at}
 use Rattle.utf8.specs.Utf8.{need, low, high, within, ok, utf8}
 use Rattle.utf8.specs.Characters.{encode}
+use Rattle.area.proofs.Seeking.{at-first}
 use Rattle.utf8.proofs.Runs.{ok-zero, low-least}
 use Rattle.utf8.proofs.Rules.{ascii-on, ascii-append}
 use Rattle.utf8.proofs.Encoding.{utf8-encode}
@@ -19,15 +20,6 @@ use Rattle.reference.specs.declared.Ref.the-variants.{Is, Not}
 use Rattle.reference.proofs.Letters.{named-ascii}
 use Rattle.reference.proofs.Behind.{ref-cut}
 
--- what stands at the first semicolon
-at-semicolon : (s : List ℕ) → semicolon s < length s → getD s (semicolon s) 0 ≡ 0x3B
-at-semicolon [] h = absurd (omega arith)
-at-semicolon (b ∷ s) h = go (eqb b 0x3B) refl h (at-semicolon s)
-  where
-    go : (t : Bool) → eqb b 0x3B ≡ t → cond t 0 (suc (semicolon s)) < suc (length s) → (semicolon s < length s → getD s (semicolon s) 0 ≡ 0x3B) → getD (b ∷ s) (cond t 0 (suc (semicolon s))) 0 ≡ 0x3B
-    go true q h on = eqb-true b 0x3B q
-    go false q h on = on (omega arith)
-
 -- a reference is ASCII, so that a character begins behind it
 ref-on : (s : List ℕ) → utf8 s ≡ utf8 (drop (bytesOf (refAt s)) s)
 ref-on s = go (refAt s) refl
@@ -36,7 +28,7 @@ ref-on s = go (refAt s) refl
     go (Is c w) q =
         let k = ref-cut s c w q in
         let e = semicolon s in
-        let z : getD s e 0 < 0x80 = omega (arith, at-semicolon s (k .fits)) in
+        let z : getD s e 0 < 0x80 = omega (arith, at-first 0x3B s (k .fits)) in
         ap utf8 (split-at s e 0 (k .fits)) ∙ ascii-append (take e s) (getD s e 0 ∷ drop (suc e) s) (named-ascii (take e s) (k .named))
         ∙ ascii-on (getD s e 0) (drop (suc e) s) z ∙ ap (λ (n : ℕ). utf8 (drop n s)) (sym (k .bytes))
     go Not q = refl

@@ -16,6 +16,7 @@ use Rattle.names.specs.Names.{codeIn, cut}
 use Rattle.names.proofs.NameLaws.{code-most}
 use Rattle.reference.specs.Reference.{xmlChar, entities, entityChars, isEntity, entityChar, entityOf, base, digitsIn, number, isCharRef, named}
 use Rattle.area.proofs.Answers.{given, refused}
+use Rattle.refusal.specs.declared.Cause.the-variants as cause
 
 -- the names as the code has them, one behind the other, with their lengths
 abbrev letters : List ℕ
@@ -37,7 +38,7 @@ module _ (name : List ℕ) (k : ℕ) (e : k ≡ codeIn (cut letters lengths) nam
   code : k ≡ codeIn entities name
   code = rw cut-entities at e
 
-  pub entity-none : k ≡ 0 → refuses 8 ≡ entityOf name
+  pub entity-none : k ≡ 0 → refuses cause.UnknownEntity ≡ entityOf name
   unfolding isEntity
   entity-none z = rw (← code, z) refl
 
@@ -70,10 +71,10 @@ module _ (name : List ℕ) where
   unfolding base digitsIn
   decimal-number m h = rw (ne-eqb (getD name 1 0) 0x78 h) refl
 
-  none : (t : Bool) → t ≡ false → refuses 10 ≡ cond t (gives (number name)) (refuses 10)
+  none : (t : Bool) → t ≡ false → refuses cause.BadReference ≡ cond t (gives (number name)) (refuses cause.BadReference)
   none t z = rw z refl
 
-  pub char-other : (getD name 0 0 ≡ 0x23 → ⊥) → refuses 10 ≡ cond (isCharRef name) (gives (number name)) (refuses 10)
+  pub char-other : (getD name 0 0 ≡ 0x23 → ⊥) → refuses cause.BadReference ≡ cond (isCharRef name) (gives (number name)) (refuses cause.BadReference)
   unfolding isCharRef
   char-other h = none (isCharRef name) (rw (ne-eqb (getD name 0 0) 0x23 h) refl)
 
@@ -81,7 +82,7 @@ module _ (name : List ℕ) where
   unfolding isCharRef
   no-number z = rw z (and-false (eqb (getD name 0 0) 0x23))
 
-  pub char-short : length name < 2 → refuses 10 ≡ cond (isCharRef name) (gives (number name)) (refuses 10)
+  pub char-short : length name < 2 → refuses cause.BadReference ≡ cond (isCharRef name) (gives (number name)) (refuses cause.BadReference)
   unfolding base digitsIn
   char-short h = none (isCharRef name) (no-number (go name h))
     where
@@ -90,7 +91,7 @@ module _ (name : List ℕ) where
       go (b ∷ []) h = number-empty 10 0x10FFFF [] (omega arith)
       go (b ∷ d ∷ l) h = absurd (omega arith)
 
-  pub char-not : Not ≡ numberIn (base name) 0x10FFFF (digitsIn name) → refuses 10 ≡ cond (isCharRef name) (gives (number name)) (refuses 10)
+  pub char-not : Not ≡ numberIn (base name) 0x10FFFF (digitsIn name) → refuses cause.BadReference ≡ cond (isCharRef name) (gives (number name)) (refuses cause.BadReference)
   char-not e = none (isCharRef name) (no-number (not-number (base name) 0x10FFFF (digitsIn name) e))
 
   module _ (v : ℕ) (e : Is v ≡ numberIn (base name) 0x10FFFF (digitsIn name)) where
@@ -98,17 +99,17 @@ module _ (name : List ℕ) where
     unfolding number
     is = is-number (base name) 0x10FFFF (digitsIn name) v e
 
-    pub char-some : getD name 0 0 ≡ 0x23 → xmlChar v ≡ true → gives v ≡ cond (isCharRef name) (gives (number name)) (refuses 10)
+    pub char-some : getD name 0 0 ≡ 0x23 → xmlChar v ≡ true → gives v ≡ cond (isCharRef name) (gives (number name)) (refuses cause.BadReference)
     unfolding isCharRef
     char-some h x = rw (eq-eqb (getD name 0 0) 0x23 h, is .0, ← is .1, x) refl
 
-    pub char-none : getD name 0 0 ≡ 0x23 → xmlChar v ≡ false → refuses 10 ≡ cond (isCharRef name) (gives (number name)) (refuses 10)
+    pub char-none : getD name 0 0 ≡ 0x23 → xmlChar v ≡ false → refuses cause.BadReference ≡ cond (isCharRef name) (gives (number name)) (refuses cause.BadReference)
     unfolding isCharRef
     char-none h x = rw (eq-eqb (getD name 0 0) 0x23 h, is .0, ← is .1, x) refl
 
   -- both kinds of names together
   pub named-entity : (c : ℕ) → gives c ≡ entityOf name → gives c ≡ named name
-  named-entity c e = let p = given (isEntity name) (entityChar name) 8 c e in rw (p .0, p .1) refl
+  named-entity c e = let p = given (isEntity name) (entityChar name) cause.UnknownEntity c e in rw (p .0, p .1) refl
 
-  pub named-number : (a : Answer ℕ) → refuses 8 ≡ entityOf name → a ≡ cond (isCharRef name) (gives (number name)) (refuses 10) → a ≡ named name
-  named-number a e p = rw (refused (isEntity name) (entityChar name) 8 8 e) p
+  pub named-number : (a : Answer ℕ) → refuses cause.UnknownEntity ≡ entityOf name → a ≡ cond (isCharRef name) (gives (number name)) (refuses cause.BadReference) → a ≡ named name
+  named-number a e p = rw (refused (isEntity name) (entityChar name) cause.UnknownEntity cause.UnknownEntity e) p

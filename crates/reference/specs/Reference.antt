@@ -5,6 +5,7 @@ use mathlib.Core.Bool.{Bool, true, false, cond, _&&_, _||_, not}
 use lib.ListN.{length, take, drop, getD}
 use lib.Dec.{ltb, leb, eqb}
 use Rattle.area.specs.Answer.{Answer, gives, refuses}
+use Rattle.area.specs.Area.{firstAt}
 use Rattle.utf8.specs.Characters.{encode}
 use Rattle.digits.specs.Digits.{value, isNumber}
 use Rattle.names.specs.Bytes.{bytes}
@@ -15,6 +16,7 @@ use Rattle.reference.specs.declared.Named.{Named}
 use Rattle.reference.specs.declared.Named.the-variants as of-name
 use Rattle.reference.specs.declared.Ref.{Ref}
 use Rattle.reference.specs.declared.Ref.the-variants.{Is, Not}
+use Rattle.refusal.specs.declared.Cause.the-variants as cause
 
 -- section 2.2: Char ::= #x9 | #xA | #xD | [#x20-#xD7FF] | [#xE000-#xFFFD] | [#x10000-#x10FFFF]
 unfoldable pub xmlChar : ℕ → Bool
@@ -37,11 +39,11 @@ entityChar name = getD entityChars (codeIn entities name - 1) 0
 
 abbrev pub entityAnswer : Entity → Answer ℕ
 entityAnswer (of-entity.Is c) = gives c
-entityAnswer of-entity.Unknown = refuses 8
+entityAnswer of-entity.Unknown = refuses cause.UnknownEntity
 
 -- "A Ref event takes the five names only, else 8"
 abbrev pub entityOf : List ℕ → Answer ℕ
-entityOf name = cond (isEntity name) (gives (entityChar name)) (refuses 8)
+entityOf name = cond (isEntity name) (gives (entityChar name)) (refuses cause.UnknownEntity)
 
 -- section 4.1: CharRef ::= '&#' [0-9]+ ';' | '&#x' [0-9a-fA-F]+ ';', of which name is what stands between & and ;
 unfoldable pub base : List ℕ → ℕ
@@ -53,7 +55,7 @@ digitsIn name = cond (eqb (getD name 1 0) 0x78) (drop 2 name) (drop 1 name)
 unfoldable pub number : List ℕ → ℕ
 number name = value (base name) (digitsIn name)
 
--- "Characters referred to using character references MUST match the production for Char", of which U+10FFFF is the last
+-- a character reference names a Char (section 4.1, its well-formedness constraint), of which U+10FFFF is the last
 unfoldable pub isCharRef : List ℕ → Bool
 isCharRef name = eqb (getD name 0 0) 0x23 && (isNumber (base name) 0x10FFFF (digitsIn name) && xmlChar (number name))
 
@@ -67,16 +69,15 @@ charOf name = cond (isEntity name) (entityChar name) (number name)
 
 abbrev pub namedAnswer : Named → Answer ℕ
 namedAnswer (of-name.Is c) = gives c
-namedAnswer of-name.Not = refuses 10
+namedAnswer of-name.Not = refuses cause.BadReference
 
 -- "References are the five predefined ones, decimal and `#x` hexadecimal naming an XML Char", else 10
 abbrev pub named : List ℕ → Answer ℕ
-named name = cond (isNamed name) (gives (charOf name)) (refuses 10)
+named name = cond (isNamed name) (gives (charOf name)) (refuses cause.BadReference)
 
 -- the place of the first semicolon, or the length
 abbrev pub semicolon : List ℕ → ℕ
-semicolon [] = 0
-semicolon (b ∷ s) = cond (eqb b 0x3B) 0 (suc (semicolon s))
+semicolon s = firstAt 0x3B s
 
 -- the reference behind an ampersand: its character, and how many bytes it takes there, with its semicolon
 unfoldable pub refAt : List ℕ → Ref

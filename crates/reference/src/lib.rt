@@ -6,7 +6,8 @@ ghost use Prim.Native.Nat.{_≤_};
 ghost use lib.ListN.{length};
 ghost use Rattle.area.specs.Answer.{gives, refuses};
 ghost use Rattle.digits.specs.Digits.{numberIn};
-ghost use Rattle.reference.specs.Reference.{xmlChar, entityAnswer, entityOf, base, digitsIn, number, isCharRef, namedAnswer, named, semicolon, refAt, refsOk};
+ghost use Rattle.reference.specs.Reference.{xmlChar, entityAnswer, entityOf, base, digitsIn, number, isCharRef, namedAnswer, named, refAt, refsOk};
+ghost use Rattle.refusal.specs.declared.Cause.the-variants as cause;
 
 // The character of a Ref event.
 pub enum Entity {
@@ -61,7 +62,7 @@ fn number_of(name: &[u8]) -> Number
 }
 
 fn char_ref_of(name: &[u8]) -> Named
-    ensures { λ r. ⌜ namedAnswer r ≡ cond (isCharRef (now (name .entry))) (gives (number (now (name .entry)))) (refuses 10) ⌝ }
+    ensures { λ r. ⌜ namedAnswer r ≡ cond (isCharRef (now (name .entry))) (gives (number (now (name .entry)))) (refuses cause.BadReference) ⌝ }
 {
     if name.len() < 2 {
         return Named::Not;
@@ -96,25 +97,11 @@ pub fn named_by(name: &[u8]) -> Named
     }
 }
 
-// The place of the first semicolon, or the length.
-fn semicolon_at(s: &[u8]) -> usize
-    ensures { λ r. ⌜ r ≡ semicolon (now (s .entry)) ⌝ }
-{
-    let mut i = 0;
-    while i < s.len() {
-        if s[i] == 0x3b {
-            return i;
-        }
-        i += 1;
-    }
-    i
-}
-
 // The reference that s, which stands behind an ampersand, begins with.
 pub fn ref_at(s: &[u8]) -> Ref
     ensures { λ r. ⌜ r ≡ refAt (now (s .entry)) ⌝ }
 {
-    let e = semicolon_at(s);
+    let e = area::first_at(s, 0x3b);
     if s.len() <= e {
         return Ref::Not;
     }

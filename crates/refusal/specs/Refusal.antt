@@ -1,14 +1,16 @@
 -- Document 01, "Seventeen refusals": the number of each cause, the path, event and attribute that a refusal carries. Definitions only.
-use Prim.Native.Nat.{ℕ, _+_}
-use mathlib.Core.List.{List}
+use Prim.Native.Nat.{ℕ, _+_, _-_}
+use mathlib.Core.List.{List, [], _++_}
 use mathlib.Core.Bool.{cond}
-use lib.ListN.{take, set, replicate}
+use lib.ListN.{length, set, replicate}
 use lib.Dec.{ltb}
 use Rattle.refusal.specs.declared.Cause.{Cause}
 use Rattle.refusal.specs.declared.Cause.the-variants.{XmlFault, EofInSkip, NotUtf8, BadInteger, BadTimestamp, BadTime, BadUuid, MissingAttribute, MissingReport, EofInElement, StatusRule, UnknownEntity, FaultyAttribute, RepeatedKey, BadReference, BadTable, RecordsSpent, TextFull, ScratchFull, NotLayout, OutputFull, CountLimit}
 use Rattle.refusal.specs.declared.PathElement.{PathElement}
 use Rattle.refusal.specs.declared.Path.{Path}
 use Rattle.refusal.specs.declared.Refusal.{Refusal}
+use Rattle.refusal.specs.declared.Verdict.{Verdict}
+use Rattle.refusal.specs.declared.Verdict.the-variants.{Accepted, Refused as IsRefused}
 
 -- "4294967295 stands where none is concerned"
 abbrev pub nowhere : ℕ
@@ -38,20 +40,23 @@ number NotLayout = 15
 number OutputFull = 16
 number CountLimit = 17
 
--- "a path of at most six elements"
-abbrev pub elementsOf : Path → List PathElement
-elementsOf p = take (p .len) (p .elements)
+-- "a path of at most six elements": behind them stand fillers
+abbrev pub filler : PathElement
+filler = record { kind = 0; index = 0; event = 0 }
+
+abbrev pub pathFrom : List PathElement → Path
+pathFrom es = record { elements = es ++ replicate (6 - length es) filler; len = length es }
 
 abbrev pub emptyPath : Path
-emptyPath = record { elements = replicate 6 (record { kind = 0; index = 0; event = 0 }); len = 0 }
+emptyPath = pathFrom []
 
 -- the path with one element more, where there is room
 abbrev pub longer : Path → PathElement → Path
 longer p e = cond (ltb (p .len) 6) (record { elements = set (p .elements) (p .len) e; len = p .len + 1 }) p
 
--- "Each returns its number, a path of at most six elements, the event and attribute number"
+-- "Each returns its number, a path of at most six elements, the event and attribute number"; the number is the cause's
 pub record Refused : Type 0 where
-  pub number : ℕ
+  pub cause : Cause
   pub path : List PathElement
   pub event : ℕ
   pub attribute : ℕ
@@ -61,5 +66,21 @@ pub data Outcome (A : Type 0) : Type 0 where
   accepted : A → Outcome A
   refused : Refused → Outcome A
 
-abbrev pub refusalOf : Refusal → Refused
-refusalOf r = record { number = number (r .cause); path = elementsOf (r .path); event = r .event; attribute = r .attribute }
+abbrev pub refusalFrom : Refused → Refusal
+refusalFrom r = record { cause = r .cause; path = pathFrom (r .path); event = r .event; attribute = r .attribute }
+
+-- "4294967295 stands where none is concerned, for both from 15 on", with an empty path
+abbrev pub late : Cause → Refused
+late cause = record { cause = cause; path = []; event = nowhere; attribute = nowhere }
+
+-- what stands in an answer's refusal where the call doesn't refuse
+abbrev pub noRefusal : Refusal
+noRefusal = refusalFrom (late BadTable)
+
+abbrev pub verdictOf : {A : Type 0} → Outcome A → Verdict
+verdictOf (accepted a) = Accepted
+verdictOf (refused r) = IsRefused
+
+abbrev pub refusalOf : {A : Type 0} → Outcome A → Refusal
+refusalOf (accepted a) = noRefusal
+refusalOf (refused r) = refusalFrom r

@@ -1,6 +1,9 @@
 // Why and where a call refuses (errors.rs of the crate).
 ghost use mathlib.Core.Path.{_≡_};
-ghost use Rattle.refusal.specs.Refusal.{number, emptyPath, longer};
+ghost use Rattle.refusal.specs.Refusal.{number, emptyPath, longer, refusalFrom, late, noRefusal};
+
+// Stands where no event, attribute or index is concerned.
+pub const NOWHERE: u32 = 4294967295;
 
 // What happened, finer than document 01's numbers.
 pub enum Cause {
@@ -77,6 +80,12 @@ pub struct Refusal {
     pub attribute: u32,
 }
 
+// Whether a call did its work.
+pub enum Verdict {
+    Accepted,
+    Refused,
+}
+
 impl Path {
     pub fn new() -> Self
         ensures { λ r. ⌜ r ≡ emptyPath ⌝ }
@@ -103,4 +112,23 @@ impl Path {
         }
         p
     }
+}
+
+// A refusal that concerns no event and no attribute: all from 15 on.
+pub fn refuse_late(cause: Cause) -> Refusal
+    ensures { λ r. ⌜ r ≡ refusalFrom (late cause) ⌝ }
+{
+    Refusal {
+        cause,
+        path: Path::new(),
+        event: NOWHERE,
+        attribute: NOWHERE,
+    }
+}
+
+// What stands in an answer's refusal where the call doesn't refuse.
+pub fn no_refusal() -> Refusal
+    ensures { λ r. ⌜ r ≡ noRefusal ⌝ }
+{
+    refuse_late(Cause::BadTable)
 }

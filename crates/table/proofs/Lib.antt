@@ -3,3 +3,4 @@ pub mod Scanning
 pub mod ValidTables
 pub mod Walking
 pub mod Resolving
+pub mod Examples

@@ -15,6 +15,7 @@ use Rattle.table.specs.declared.Checked.{Checked}
 use Rattle.table.specs.declared.Checked.the-variants.{Good, Bad}
 use Rattle.table.proofs.Words.{word-at}
 use Rattle.table.proofs.Scanning.{bad-none}
+use Rattle.refusal.specs.declared.Cause.the-variants as cause
 
 -- "tables not a multiple of five words, then over the limits (source too)", for so many words and bytes
 pub record ValidSizes (events attributes size : ℕ) : Type 0 where
@@ -147,13 +148,13 @@ module _ (events attributes source : List ℕ) where
   pub good-event : checkOf events attributes source ≡ Good → (i : ℕ) → i < countOf events → ValidEvent events attributes (length source) i
   good-event e i h = event-valid events attributes (length source) i (from-good events attributes (length source) (countOf events) 0 i (of-good e .1) (omega arith) (omega arith))
 
--- a check is told by its number and values
+-- a check is told by its values
 pub same-check : (c d : Checked) → checkedAnswer c ≡ checkedAnswer d → c ≡ d
 same-check Good Good e = refl
 same-check Good (Bad a b) e = let z : _≡_ {A = ℕ} 0 1 = cc in absurd (omega arith)
 same-check (Bad a b) Good e = let z : _≡_ {A = ℕ} 0 1 = cc in absurd (omega arith)
 same-check (Bad a b) (Bad x y) e =
-    let q : _≡_ {A = Refused} (record { number = 11; path = []; event = a; attribute = b }) (record { number = 11; path = []; event = x; attribute = y }) = cc in
+    let q : _≡_ {A = Refused} (record { cause = cause.BadTable; path = []; event = a; attribute = b }) (record { cause = cause.BadTable; path = []; event = x; attribute = y }) = cc in
     let p : a ≡ x = ap (λ (r : Refused). r .event) q in
     let r : b ≡ y = ap (λ (r : Refused). r .attribute) q in
     cc

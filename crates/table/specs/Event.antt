@@ -4,6 +4,7 @@ use mathlib.Core.List.{List, [], _∷_}
 use mathlib.Core.Bool.{Bool, cond}
 use lib.ListN.{take, drop}
 use lib.Dec.{eqb}
+use Rattle.table.specs.Kinds as kind
 use Rattle.table.specs.Table.{word, countOf}
 
 -- an attribute: whether its mark is good, and the bytes of its key and value
@@ -52,18 +53,28 @@ unfoldable pub attributesFrom : List ℕ → List ℕ → ℕ → ℕ → List A
 attributesFrom attributes source zero j = []
 attributesFrom attributes source (suc n) j = attributeAt attributes source j ∷ attributesFrom attributes source n (j + 1)
 
--- "Kinds: 0 Start, 1 Empty, 2 End, 3 Text, 4 CData, 5 Ref, 6 Other, 7 Eof, 8 Fault, 9 Indent (read as a Text of one newline)"
+-- the kind of an event that is a tag, and of one that is a piece
+abbrev pub tagKind : ℕ → TagKind
+tagKind k = cond (eqb k kind.start) Start (cond (eqb k kind.empty) Empty End)
+
+abbrev pub pieceKind : ℕ → PieceKind
+pieceKind k = cond (eqb k kind.text) Text (cond (eqb k kind.cdata) CData (cond (eqb k kind.ref) Ref (cond (eqb k kind.indent) Indent Other)))
+
+-- an Indent is "read as a Text of one newline; its own bytes are never read"
+abbrev pub pieceBytes : ℕ → List ℕ → List ℕ
+pieceBytes k bytes = cond (eqb k kind.indent) (10 ∷ []) bytes
+
 unfoldable pub eventOf : ℕ → List ℕ → ℕ → List Attribute → Event
-eventOf kind bytes first attributes =
-    cond (eqb kind 0) (Tag Start bytes first attributes)
-    (cond (eqb kind 1) (Tag Empty bytes first attributes)
-    (cond (eqb kind 2) (Tag End bytes 0 [])
-    (cond (eqb kind 3) (Piece Text bytes)
-    (cond (eqb kind 4) (Piece CData bytes)
-    (cond (eqb kind 5) (Piece Ref bytes)
-    (cond (eqb kind 6) (Piece Other bytes)
-    (cond (eqb kind 7) Eof
-    (cond (eqb kind 8) Fault (Piece Indent (10 ∷ []))))))))))
+eventOf k bytes first attributes =
+    cond (eqb k kind.start) (Tag Start bytes first attributes)
+    (cond (eqb k kind.empty) (Tag Empty bytes first attributes)
+    (cond (eqb k kind.end) (Tag End bytes 0 [])
+    (cond (eqb k kind.text) (Piece Text bytes)
+    (cond (eqb k kind.cdata) (Piece CData bytes)
+    (cond (eqb k kind.ref) (Piece Ref bytes)
+    (cond (eqb k kind.other) (Piece Other bytes)
+    (cond (eqb k kind.eof) Eof
+    (cond (eqb k kind.fault) Fault (Piece Indent (10 ∷ []))))))))))
 
 unfoldable pub eventAt : List ℕ → List ℕ → List ℕ → ℕ → Event
 eventAt events attributes source i =

@@ -4,9 +4,12 @@ use mathlib.Core.List.{List, []}
 use mathlib.Core.Bool.{Bool, cond, _&&_, _||_}
 use lib.ListN.{length, getD, drop}
 use lib.Dec.{leb, eqb}
+use Rattle.area.specs.Limits.{mostEntries, mostBytes}
+use Rattle.table.specs.Kinds as kind
 use Rattle.refusal.specs.Refusal.{nowhere, Outcome, accepted, refused}
 use Rattle.table.specs.declared.Checked.{Checked}
 use Rattle.table.specs.declared.Checked.the-variants.{Good, Bad}
+use Rattle.refusal.specs.declared.Cause.the-variants as cause
 
 -- "An event is five words", "An attribute is five words": word k of entry i
 abbrev pub word : List ℕ → ℕ → ℕ → ℕ
@@ -28,7 +31,7 @@ goodAttribute words size = leb (getD words 0 0) 1 && (within size (getD words 1 
 -- entry at the front of `words`, where there are n attributes
 unfoldable pub goodShape : List ℕ → ℕ → ℕ → Bool
 goodShape words n size =
-    leb (getD words 0 0) 9 && (within size (getD words 1 0) (getD words 2 0) && (eqb (getD words 4 0) 0 || (leb (getD words 0 0) 1 && within n (getD words 3 0) (getD words 4 0))))
+    leb (getD words 0 0) kind.indent && (within size (getD words 1 0) (getD words 2 0) && (eqb (getD words 4 0) 0 || (leb (getD words 0 0) kind.empty && within n (getD words 3 0) (getD words 4 0))))
 
 -- of `count` attributes from number j on, the first that is bad, or the number behind them
 unfoldable pub badFrom : List ℕ → ℕ → ℕ → ℕ → ℕ
@@ -55,7 +58,7 @@ checkFrom events attributes size (suc n) i = andThen (checkEvent events attribut
 -- "tables not a multiple of five words, then over the limits (source too)"
 unfoldable pub goodSizes : ℕ → ℕ → ℕ → Bool
 goodSizes events attributes size =
-    (eqb (events % 5) 0 && eqb (attributes % 5) 0) && (leb (events / 5) 65536 && (leb (attributes / 5) 65536 && leb size 16777216))
+    (eqb (events % 5) 0 && eqb (attributes % 5) 0) && (leb (events / 5) mostEntries && (leb (attributes / 5) mostEntries && leb size mostBytes))
 
 unfoldable pub checkOf : List ℕ → List ℕ → List ℕ → Checked
 checkOf events attributes source =
@@ -63,10 +66,10 @@ checkOf events attributes source =
     (checkFrom events attributes (length source) (countOf events) 0)
     (Bad nowhere nowhere)
 
--- 01's number and values: 11 with an empty path
+-- 01's values: 11 with an empty path
 abbrev pub checkedAnswer : Checked → Outcome (Unit {0})
 checkedAnswer Good = accepted tt
-checkedAnswer (Bad e a) = refused (record { number = 11; path = []; event = e; attribute = a })
+checkedAnswer (Bad e a) = refused (record { cause = cause.BadTable; path = []; event = e; attribute = a })
 
 -- "Refusal 11 comes first"
 abbrev pub tableOf : List ℕ → List ℕ → List ℕ → Outcome (Unit {0})

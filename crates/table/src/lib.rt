@@ -4,21 +4,18 @@ ghost use Prim.Native.Nat.{_-_, _*_, _/_, _≤_, _<_};
 ghost use lib.ListN.{length};
 ghost use Rattle.table.specs.Table.{within, goodAttribute, goodShape, goodSizes, badFrom, checkEvent, checkedAnswer, tableOf};
 
+pub mod kind;
 pub mod parts;
 
+use area::limit;
 use area::wide;
+use refusal::NOWHERE;
 
 // Whether a table is good, or where it is not: the event and the attribute, 4294967295 where none is concerned.
 pub enum Checked {
     Good,
     Bad(u32, u32),
 }
-
-const NOWHERE: u32 = 4294967295;
-
-const MOST_ENTRIES: usize = 65536;
-
-const MOST_BYTES: usize = 16777216;
 
 fn is_within(size: usize, start: u32, len: u32) -> bool
     ensures { λ r. ⌜ r ≡ within size start len ⌝ }
@@ -37,9 +34,9 @@ fn is_shape(words: &[u32], n: usize, size: usize) -> bool
     requires { ⌜ 5 ≤ length (now words) ⌝ }
     ensures { λ r. ⌜ r ≡ goodShape (now (words .entry)) n size ⌝ }
 {
-    (words[0] <= 9)
+    (words[0] <= kind::INDENT)
         & (is_within(size, words[1], words[2])
-            & ((words[4] == 0) | ((words[0] <= 1) & is_within(n, words[3], words[4]))))
+            & ((words[4] == 0) | ((words[0] <= kind::EMPTY) & is_within(n, words[3], words[4]))))
 }
 
 // The first bad attribute from number `first` to before number `end`, or `end`.
@@ -106,7 +103,8 @@ fn is_sized(events: usize, attributes: usize, size: usize) -> bool
     ensures { λ r. ⌜ r ≡ goodSizes events attributes size ⌝ }
 {
     ((events % 5 == 0) & (attributes % 5 == 0))
-        & ((events / 5 <= MOST_ENTRIES) & ((attributes / 5 <= MOST_ENTRIES) & (size <= MOST_BYTES)))
+        & ((events / 5 <= limit::ENTRIES)
+            & ((attributes / 5 <= limit::ENTRIES) & (size <= limit::BYTES)))
 }
 
 pub fn check_table(events: &[u32], attributes: &[u32], source: &[u8]) -> Checked

@@ -11,7 +11,7 @@ use Rattle.table.specs.declared.Checked.the-variants.{Good}
 use Rattle.table.specs.Event.{attributesFrom, kindAt}
 use Rattle.table.proofs.Resolving.{attributes-none}
 use Rattle.table.proofs.ValidTables.{good-event}
-use Rattle.table_events.specs.Ranges.{attributesAt, firstAt, endAt}
+use Rattle.table_events.specs.inside.Ranges.{attributesAt, firstAt, endAt}
 
 -- the range of event i: empty, or that of an event with attributes
 pub data Ranged (events : List ℕ) (i : ℕ) : ℕ → ℕ → Type 0 where

@@ -11,7 +11,7 @@ use Rattle.area.proofs.Parts.{rest-part}
 use Rattle.table.specs.Table.{word, countOf}
 use Rattle.table.specs.Event.{part, kindAt, bytesAt}
 use Rattle.table.proofs.Words.{word-at}
-use Rattle.table_events.specs.Ranges.{attributesAt, firstAt, endAt}
+use Rattle.table_events.specs.inside.Ranges.{attributesAt, firstAt, endAt}
 
 -- the words from event i on
 abbrev pub wordsAt : List ℕ → ℕ → List ℕ

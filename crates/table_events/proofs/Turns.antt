@@ -14,9 +14,10 @@ use Rattle.table.specs.Event.{Attribute, Event, Tag, Start, Empty, End, Piece, 
 use Rattle.table.proofs.Resolving.{event-of-kind, resolve-end, resolve-next}
 use Rattle.table_events.specs.Skip.{Skip, next, brokenAt, upFrom, skipOf, depthAfter}
 use Rattle.table_events.proofs.Numbered.{kind-within, kind-is, bytes-in}
+use Rattle.refusal.specs.declared.Cause.the-variants as cause
 
 -- ---- one event
-end-breaks : (name : List ℕ) (depth i : ℕ) → skipOf name depth i [] ≡ brokenAt i
+end-breaks : (name : List ℕ) (depth i : ℕ) → skipOf name depth i [] ≡ brokenAt cause.EofInSkip i
 unfolding skipOf
 end-breaks name depth i = refl
 
@@ -32,11 +33,11 @@ module _ (name : List ℕ) (depth i : ℕ) (es : List Event) (bytes : List ℕ) 
   abbrev over : ℕ → Skip
   over k = skipOf name depth i (eventOf k bytes first xs ∷ es)
 
-  eof-breaks : over 7 ≡ brokenAt i
+  eof-breaks : over 7 ≡ brokenAt cause.EofInSkip i
   unfolding skipOf eventOf
   eof-breaks = refl
 
-  fault-breaks : over 8 ≡ brokenAt i
+  fault-breaks : over 8 ≡ brokenAt cause.XmlFault i
   unfolding skipOf eventOf
   fault-breaks = refl
 
@@ -113,11 +114,11 @@ module _ (name : List ℕ) (depth i : ℕ) (es : List Event) (bytes : List ℕ) 
 -- what lies behind a skip is behind its first event, and a refusal names one of its events or the end of them
 abbrev pub Far : ℕ → ℕ → Skip → Type 0
 Far i end (next j) = (i < j) × (j ≤ end)
-Far i end (brokenAt j) = (i ≤ j) × (j ≤ end)
+Far i end (brokenAt why j) = (i ≤ j) × (j ≤ end)
 
 farther : (i n : ℕ) (s : Skip) → Far (i + 1) (i + 1 + n) s → Far i (i + suc n) s
 farther i n (next j) f = (let l = f .0 in omega arith, let h = f .1 in omega arith)
-farther i n (brokenAt j) f = (let l = f .0 in omega arith, let h = f .1 in omega arith)
+farther i n (brokenAt why j) f = (let l = f .0 in omega arith, let h = f .1 in omega arith)
 
 pub skip-far : (name : List ℕ) (depth i : ℕ) (es : List Event) → Far i (i + length es) (skipOf name depth i es)
 unfolding skipOf
@@ -164,10 +165,10 @@ module _ {events source : List ℕ} {start : ℕ} {name : List ℕ} {depth i : �
       s .same attributes ∙ ap (skipOf name depth i) (resolve-next events attributes source (countOf events) i h)
       ∙ ap (λ (x : Event). skipOf name depth i (x ∷ rest attributes)) (event-of-kind events attributes source i k q)
 
-  pub skipping-eof : k ≡ 7 → (attributes : List ℕ) → brokenAt i ≡ whole attributes
+  pub skipping-eof : k ≡ 7 → (attributes : List ℕ) → brokenAt cause.EofInSkip i ≡ whole attributes
   skipping-eof z attributes = sym (go (leb (countOf events) i) refl e)
     where
-      go : (t : Bool) → leb (countOf events) i ≡ t → k ≡ cond t 7 (kindAt events i) → whole attributes ≡ brokenAt i
+      go : (t : Bool) → leb (countOf events) i ≡ t → k ≡ cond t 7 (kindAt events i) → whole attributes ≡ brokenAt cause.EofInSkip i
       go true p q = s .same attributes ∙ ap (skipOf name depth i) (resolve-end events attributes source (countOf events) i (leb-true (countOf events) i p)) ∙ end-breaks name depth i
       go false p q = turn attributes (leb-false (countOf events) i p) (sym q) ∙ rw z (eof-breaks name depth i (rest attributes) (bytesAt events source i) (word events i 3) (attributesFrom attributes source (word events i 4) (word events i 3)))
 
@@ -179,7 +180,7 @@ module _ {events source : List ℕ} {start : ℕ} {name : List ℕ} {depth i : �
         whole attributes ≡ skipOf name depth i (eventOf k (bytesAt events source i) (word events i 3) (attributesFrom attributes source (word events i 4) (word events i 3)) ∷ rest attributes)
     here attributes = turn attributes skipping-in (kind-is events i k e h)
 
-    pub skipping-fault : k ≡ 8 → (attributes : List ℕ) → brokenAt i ≡ whole attributes
+    pub skipping-fault : k ≡ 8 → (attributes : List ℕ) → brokenAt cause.XmlFault i ≡ whole attributes
     skipping-fault z attributes = sym (here attributes ∙ rw z (fault-breaks name depth i (rest attributes) (bytesAt events source i) (word events i 3) (attributesFrom attributes source (word events i 4) (word events i 3))))
 
     -- the bytes that the event has, and whether they are the name's

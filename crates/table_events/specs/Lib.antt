@@ -1,2 +1,2 @@
-pub mod Ranges
 pub mod Skip
+pub mod inside

@@ -6,12 +6,14 @@ ghost use mathlib.Core.List.{List, []};
 ghost use lib.Dec.{leb};
 ghost use lib.ListN.{drop};
 ghost use Rattle.table.specs.Table.{countOf};
+ghost use Rattle.table.specs.Kinds as kind;
 ghost use Rattle.table.specs.Event.{kindAt, bytesAt, resolveFrom};
-ghost use Rattle.table_events.specs.Ranges.{firstAt, endAt};
-ghost use Rattle.table_events.specs.Skip.{depthAfter, skipOf, skipAnswer, IsOne};
+ghost use Rattle.table_events.specs.inside.Ranges.{firstAt, endAt};
+ghost use Rattle.table_events.specs.Skip.{depthAfter, skipOf, skipAnswer};
 use area::wide;
 use names::same;
 use refusal::Cause;
+use table::kind;
 use table::parts::bytes_of;
 use table::parts::word_of;
 
@@ -29,10 +31,10 @@ fn words_at(events: &[u32], i: usize) -> &[u32]
 
 // "The table's end counts as Eof."
 pub fn kind_at(events: &[u32], i: usize) -> u32
-    ensures { λ r. ⌜ r ≡ cond (leb (countOf (now (events .entry))) i) 7 (kindAt (now (events .entry)) i) ⌝ }
+    ensures { λ r. ⌜ r ≡ cond (leb (countOf (now (events .entry))) i) kind.eof (kindAt (now (events .entry)) i) ⌝ }
 {
     if events.len() / 5 <= i {
-        return 7;
+        return kind::EOF;
     }
     word_of(words_at(events, i), 0)
 }
@@ -78,10 +80,10 @@ fn depth_after(kind: u32, own: bool, depth: usize) -> usize
     requires { ⌜ depth < 18446744073709551615 ⌝ }
     ensures { λ r. ⌜ r ≡ depthAfter kind own depth ⌝ }
 {
-    if own & (kind == 0) {
+    if own & (kind == kind::START) {
         return depth + 1;
     }
-    if own & (kind == 2) & (0 < depth) {
+    if own & (kind == kind::END) & (0 < depth) {
         return depth - 1;
     }
     depth
@@ -91,7 +93,6 @@ fn depth_after(kind: u32, own: bool, depth: usize) -> usize
 pub fn skip_from(events: &[u32], source: &[u8], start: usize) -> Skipped
     requires { ⌜ start < countOf (now events) ⌝ }
     ensures { λ r. ⌜ ((attributes : List ℕ) → skipAnswer r ≡ skipOf (bytesAt (now (events .entry)) (now (source .entry)) start) 0 (start + 1) (resolveFrom (now (events .entry)) attributes (now (source .entry)) (countOf (now (events .entry)) - (start + 1)) (start + 1))) ⌝ }
-    ensures { λ r. ⌜ IsOne r ⌝ }
 {
     let name = bytes_at(events, source, start);
     let mut depth: usize = 0;
@@ -99,15 +100,15 @@ pub fn skip_from(events: &[u32], source: &[u8], start: usize) -> Skipped
     loop {
         let at = i;
         let kind = kind_at(events, at);
-        if kind == 7 {
+        if kind == kind::EOF {
             break Skipped::Refused(Cause::EofInSkip, at);
         }
-        if kind == 8 {
+        if kind == kind::FAULT {
             break Skipped::Refused(Cause::XmlFault, at);
         }
         i += 1;
         let own = same(bytes_at(events, source, at), name);
-        if own & (kind == 2) & (depth == 0) {
+        if own & (kind == kind::END) & (depth == 0) {
             break Skipped::Next(i);
         }
         depth = depth_after(kind, own, depth);

@@ -1,12 +1,12 @@
 // Examples of document 01 that are run: the limit of events, offsets of a timestamp, and rows 1 and 11 to 17 of "Seventeen refusals".
 // Each is told as crate `tell` does, behind a few words that name it.
-use tree_counts::Counts;
-use tree_counts::Outcome;
-use tree_counts::Verdict;
-use test_tell::tell_late;
+use refusal::Verdict;
 use test_tell::tell_listing;
+use test_tell::tell_refusal;
 use test_tell::tell_table;
 use test_tell::write;
+use tree_counts::Counts;
+use tree_counts::Outcome;
 ghost use mathlib.Core.Path.{_≡_};
 ghost use Prim.Native.Nat.{_≤_};
 ghost use lib.ListN.{length};
@@ -200,11 +200,11 @@ fn try_count(title: &[u8], tests: u64) {
     let after = counted.counts;
     write(title);
     match verdict {
-        Verdict::Added => {
+        Verdict::Accepted => {
             io::print_decimal(1, after.tests);
             write(b"\n");
         }
-        Verdict::Limit => tell_late(17),
+        Verdict::Refused => tell_refusal(counted.refusal),
     }
 }
 

@@ -1,15 +1,14 @@
 // How programs that check stored answers tell what a table comes to: its listing, or why it is refused, as number, event,
 // attribute, and each path element's kind, index and event, `-` where none is concerned.
-use reader::Verdict;
+use list_input::front;
+use lister::list;
 use reader::read;
+use refusal::NOWHERE;
 use refusal::Path;
 use refusal::PathElement;
 use refusal::Refusal;
+use refusal::Verdict;
 use refusal::number_of;
-use lister::Listed;
-use lister::list;
-
-const NOWHERE: u32 = 4294967295;
 
 pub fn write(bytes: &[u8]) {
     io::write_all(1, bytes);
@@ -54,7 +53,7 @@ fn tell_path(path: Path) {
     tell_if(e5, 5, len);
 }
 
-fn tell_refusal(refusal: Refusal) {
+pub fn tell_refusal(refusal: Refusal) {
     let cause = refusal.cause;
     let path = refusal.path;
     write(b"(refused)");
@@ -65,27 +64,12 @@ fn tell_refusal(refusal: Refusal) {
     write(b"\n");
 }
 
-// A refusal from 15 on, which concerns no event and no attribute and has an empty path.
-pub fn tell_late(number: u32) {
-    write(b"(refused)");
-    tell_number(number);
-    write(b" - -\n");
-}
-
-// The first n bytes of s, all of them where there are fewer.
-fn front(s: &[u8], n: usize) -> &[u8] {
-    if n < s.len() {
-        return &s[..n];
-    }
-    s
-}
-
 pub fn tell_listing(records: &[u32], text: &[u8], out: &mut [u8]) {
-    let listed = list(records, text, out);
-    match listed {
-        Listed::Wrote(n) => write(front(out, n)),
-        Listed::NotLayout => tell_late(15),
-        Listed::TooShort => tell_late(16),
+    let listing = list(records, text, out);
+    let verdict = listing.verdict;
+    match verdict {
+        Verdict::Accepted => write(front(out, listing.length)),
+        Verdict::Refused => tell_refusal(listing.refusal),
     }
 }
 

@@ -1,7 +1,8 @@
-// Published vectors, run through the leaves: each line of standard input is a leaf and a text, and is written with the result behind it.
+// Boundary values of the leaves, with examples of the RFCs and of XML 1.0 written down from memory. Each line of standard input is a
+// leaf and a text, and is written with the result behind it; expected.py computes the same from the rules.
 mod show;
 
-use time::read::Time;
+use area::first_at;
 use integer::Integer;
 use reference::Named;
 use show::bytes_of;
@@ -12,10 +13,10 @@ use show::show_moment;
 use show::show_refusal;
 use show::show_words;
 use show::write;
+use text::kept::kept_of;
+use time::read::Time;
 use timestamp::Timestamp;
 use uuid::Uuid;
-ghost use Prim.Native.Nat.{_≤_};
-ghost use lib.ListN.{length};
 
 fn try_utf8(hex: &[u8]) {
     let mut room = [0u8; 32];
@@ -34,7 +35,7 @@ fn try_trim(hex: &[u8]) {
 }
 
 fn show_char(c: u32) {
-    let coded = utf8::encode_of(c);
+    let coded = utf8_chars::encode_of(c);
     let bytes = coded.bytes;
     show_bytes(front(&bytes, coded.n));
 }
@@ -51,16 +52,61 @@ fn try_char(digits: &[u8]) {
     }
 }
 
-fn try_value(text: &[u8]) {
+fn try_text(text: &[u8]) {
     let mut room = [0u8; 64];
     let kept = text_pieces::gather_text(&mut room, text);
-    show_kept(kept, &room);
+    show_kept(kept, 14, &room);
+}
+
+fn try_cdata(hex: &[u8]) {
+    let mut text = [0u8; 32];
+    let n = bytes_of(hex, &mut text);
+    let mut room = [0u8; 64];
+    let kept = text_pieces::gather_cdata(&mut room, &text[..n]);
+    show_kept(kept, 14, &room);
+}
+
+fn try_indent() {
+    let mut room = [0u8; 64];
+    let kept = text_pieces::gather_indent(&mut room);
+    show_kept(kept, 14, &room);
+}
+
+fn try_attribute(text: &[u8]) {
+    let mut room = [0u8; 64];
+    let kept = text::value::store_value(&mut room, text);
+    show_kept(kept, 13, &room);
+}
+
+fn try_filter(hex: &[u8]) {
+    let mut text = [0u8; 32];
+    let n = bytes_of(hex, &mut text);
+    let mut room = [0u8; 64];
+    let kept = kept_of(text::filter::store(&mut room, &text[..n]));
+    show_kept(kept, 13, &room);
+}
+
+fn try_escape(hex: &[u8]) {
+    let mut text = [0u8; 32];
+    let n = bytes_of(hex, &mut text);
+    let mut room = [0u8; 64];
+    let kept = kept_of(escape::escape_into(&mut room, &text[..n]));
+    show_kept(kept, 16, &room);
+}
+
+// Ten digits of seconds and, behind a space, ten of nanoseconds.
+fn try_written(text: &[u8]) {
+    let secs = fixed::decimal_at(text, 0, 10, 4294967295);
+    let nanos = fixed::decimal_at(text, 11, 10, 4294967295);
+    let mut room = [0u8; 64];
+    let kept = kept_of(time_text::write_time(&mut room, secs.number, nanos.number));
+    show_kept(kept, 16, &room);
 }
 
 fn try_entity(name: &[u8]) {
     let mut room = [0u8; 64];
     let kept = text_pieces::gather_reference(&mut room, name);
-    show_kept(kept, &room);
+    show_kept(kept, 14, &room);
 }
 
 fn try_integer(text: &[u8]) {
@@ -107,42 +153,34 @@ fn try_uuid(text: &[u8]) {
 
 fn try_leaf(leaf: &[u8], text: &[u8]) {
     let code = names::code_in(
-        b"utf8charvalueentitytrimintegertimetimestampuuid",
-        b"\x04\x04\x05\x06\x04\x07\x04\x09\x04",
+        b"utf8chartextentitytrimintegertimetimestampuuidattributefiltercdataindentescapewritten",
+        b"\x04\x04\x04\x06\x04\x07\x04\x09\x04\x09\x06\x05\x06\x06\x07",
         leaf,
     );
     match code {
         1 => try_utf8(text),
         2 => try_char(text),
-        3 => try_value(text),
+        3 => try_text(text),
         4 => try_entity(text),
         5 => try_trim(text),
         6 => try_integer(text),
         7 => try_time(text),
         8 => try_timestamp(text),
         9 => try_uuid(text),
+        10 => try_attribute(text),
+        11 => try_filter(text),
+        12 => try_cdata(text),
+        13 => try_indent(),
+        14 => try_escape(text),
+        15 => try_written(text),
         _ => write(b"no such leaf"),
     }
-}
-
-// The place of the first b, or the length.
-fn place_of(b: u8, s: &[u8]) -> usize
-    ensures { λ r. ⌜ r ≤ length (now (s .entry)) ⌝ }
-{
-    let mut i = 0;
-    while i < s.len() {
-        if s[i] == b {
-            return i;
-        }
-        i += 1;
-    }
-    i
 }
 
 fn try_line(line: &[u8]) {
     write(line);
     write(b": ");
-    let end = place_of(b' ', line);
+    let end = first_at(line, b' ');
     if end < line.len() {
         let from = end + 1;
         try_leaf(&line[..end], &line[from..]);
@@ -154,7 +192,7 @@ fn try_lines(s: &[u8]) {
     let mut at = 0;
     while at < s.len() {
         let rest = &s[at..];
-        let end = place_of(b'\n', rest);
+        let end = first_at(rest, b'\n');
         try_line(&rest[..end]);
         at += end + 1;
     }

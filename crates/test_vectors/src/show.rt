@@ -1,6 +1,6 @@
 // Texts from hexadecimal digits, and results to standard output.
-use timestamp::Moment;
 use text::kept::Kept;
+use timestamp::Moment;
 use uuid::Words;
 ghost use Prim.Native.Nat.{_<_};
 ghost use Rattle.io.specs.Counts.{Counts};
@@ -30,10 +30,11 @@ pub fn front(s: &[u8], n: usize) -> &[u8] {
     s
 }
 
-pub fn show_kept(kept: Kept, room: &[u8; 64]) {
+// `full` is the refusal of an area that is too short.
+pub fn show_kept(kept: Kept, full: u64, room: &[u8; 64]) {
     match kept {
         Kept::Put(n) => show_bytes(front(room, n)),
-        Kept::Full => show_refusal(14),
+        Kept::Full => show_refusal(full),
         Kept::NotUtf8 => show_refusal(2),
         Kept::BadReference => show_refusal(10),
         Kept::UnknownName => show_refusal(8),

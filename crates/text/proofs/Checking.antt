@@ -15,9 +15,11 @@ use Rattle.text.specs.Value.{checkedOf}
 use Rattle.text.specs.Kept.{keptAnswer}
 use Rattle.text.specs.declared.kept.Kept.{Kept}
 use Rattle.text.proofs.Putting.{first-fails, second-fails, kept-both}
+use Rattle.refusal.specs.declared.Cause.the-variants as cause
+use Rattle.refusal.specs.declared.Cause.{Cause}
 
 abbrev two : Bool → Bool → Answer (Unit {0})
-two t u = cond t (cond u (gives tt) (refuses 10)) (refuses 2)
+two t u = cond t (cond u (gives tt) (refuses cause.BadReference)) (refuses cause.NotUtf8)
 
 module _ (s : List ℕ) where
   pub checked-good : gives tt ≡ checkedOf s → (utf8 s ≡ true) × (refsOk s 0 ≡ true)
@@ -28,42 +30,42 @@ module _ (s : List ℕ) where
       go true false e = let z : _≡_ {A = ℕ} 0 1 = cc in absurd (omega arith)
       go false u e = let z : _≡_ {A = ℕ} 0 1 = cc in absurd (omega arith)
 
-  pub checked-not-utf8 : refuses 2 ≡ checkedOf s → utf8 s ≡ false
+  pub checked-not-utf8 : refuses cause.NotUtf8 ≡ checkedOf s → utf8 s ≡ false
   checked-not-utf8 = go (utf8 s) (refsOk s 0)
     where
-      go : (t u : Bool) → refuses 2 ≡ two t u → t ≡ false
+      go : (t u : Bool) → refuses cause.NotUtf8 ≡ two t u → t ≡ false
       go true true e = let z : _≡_ {A = ℕ} 0 1 = cc in absurd (omega arith)
       go true false e = let z : _≡_ {A = ℕ} 2 10 = cc in absurd (omega arith)
       go false u e = refl
 
-  pub checked-bad : refuses 10 ≡ checkedOf s → (utf8 s ≡ true) × (refsOk s 0 ≡ false)
+  pub checked-bad : refuses cause.BadReference ≡ checkedOf s → (utf8 s ≡ true) × (refsOk s 0 ≡ false)
   checked-bad = go (utf8 s) (refsOk s 0)
     where
-      go : (t u : Bool) → refuses 10 ≡ two t u → (t ≡ true) × (u ≡ false)
+      go : (t u : Bool) → refuses cause.BadReference ≡ two t u → (t ≡ true) × (u ≡ false)
       go true true e = let z : _≡_ {A = ℕ} 0 1 = cc in absurd (omega arith)
       go true false e = (refl, refl)
       go false u e = let z : _≡_ {A = ℕ} 10 2 = cc in absurd (omega arith)
 
 -- a value put into an area, by the outcome of its check
 module _ (clean : Bool) (out s : List ℕ) where
-  pub decoded-not-utf8 : refuses 2 ≡ checkedOf s → ((short : ℕ) → refuses 2 ≡ decodedOf short clean (length out) s) × (out ≡ decodedLaid clean out s)
-  decoded-not-utf8 e = (λ short. short-of short .0, short-of 13 .1)
+  pub decoded-not-utf8 : refuses cause.NotUtf8 ≡ checkedOf s → ((short : Cause) → refuses cause.NotUtf8 ≡ decodedOf short clean (length out) s) × (out ≡ decodedLaid clean out s)
+  decoded-not-utf8 e = (λ short. short-of short .0, short-of cause.TextFull .1)
     where
-      short-of : (short : ℕ) → (refuses 2 ≡ decodedOf short clean (length out) s) × (out ≡ decodedLaid clean out s)
-      short-of short = first-fails (utf8 s) (refsOk s 0) (placing short (length out) (cleaned clean (decoded s 0))) (refuses 10) (refuses 2) out (laid out (cleaned clean (decoded s 0))) (checked-not-utf8 s e)
+      short-of : (short : Cause) → (refuses cause.NotUtf8 ≡ decodedOf short clean (length out) s) × (out ≡ decodedLaid clean out s)
+      short-of short = first-fails (utf8 s) (refsOk s 0) (placing short (length out) (cleaned clean (decoded s 0))) (refuses cause.BadReference) (refuses cause.NotUtf8) out (laid out (cleaned clean (decoded s 0))) (checked-not-utf8 s e)
 
-  pub decoded-bad : refuses 10 ≡ checkedOf s → ((short : ℕ) → refuses 10 ≡ decodedOf short clean (length out) s) × (out ≡ decodedLaid clean out s)
-  decoded-bad e = (λ short. short-of short .0, short-of 13 .1)
+  pub decoded-bad : refuses cause.BadReference ≡ checkedOf s → ((short : Cause) → refuses cause.BadReference ≡ decodedOf short clean (length out) s) × (out ≡ decodedLaid clean out s)
+  decoded-bad e = (λ short. short-of short .0, short-of cause.TextFull .1)
     where
-      short-of : (short : ℕ) → (refuses 10 ≡ decodedOf short clean (length out) s) × (out ≡ decodedLaid clean out s)
+      short-of : (short : Cause) → (refuses cause.BadReference ≡ decodedOf short clean (length out) s) × (out ≡ decodedLaid clean out s)
       short-of short =
-          second-fails (utf8 s) (refsOk s 0) (placing short (length out) (cleaned clean (decoded s 0))) (refuses 10) (refuses 2) out (laid out (cleaned clean (decoded s 0))) (checked-bad s e .0) (checked-bad s e .1)
+          second-fails (utf8 s) (refsOk s 0) (placing short (length out) (cleaned clean (decoded s 0))) (refuses cause.BadReference) (refuses cause.NotUtf8) out (laid out (cleaned clean (decoded s 0))) (checked-bad s e .0) (checked-bad s e .1)
 
-  pub decoded-good : (out′ : List ℕ) (put : Stored) (k : Kept) → gives tt ≡ checkedOf s → storedAnswer 13 put ≡ placing 13 (length out) (cleaned clean (decoded s 0))
-      → ((short : ℕ) → keptAnswer short k ≡ storedAnswer short put) → out′ ≡ laid out (cleaned clean (decoded s 0))
-      → ((short : ℕ) → keptAnswer short k ≡ decodedOf short clean (length out) s) × (out′ ≡ decodedLaid clean out s)
-  decoded-good out′ put k e p q o = (λ short. short-of short .0, short-of 13 .1)
+  pub decoded-good : (out′ : List ℕ) (put : Stored) (k : Kept) → gives tt ≡ checkedOf s → storedAnswer cause.TextFull put ≡ placing cause.TextFull (length out) (cleaned clean (decoded s 0))
+      → ((short : Cause) → keptAnswer short k ≡ storedAnswer short put) → out′ ≡ laid out (cleaned clean (decoded s 0))
+      → ((short : Cause) → keptAnswer short k ≡ decodedOf short clean (length out) s) × (out′ ≡ decodedLaid clean out s)
+  decoded-good out′ put k e p q o = (λ short. short-of short .0, short-of cause.TextFull .1)
     where
-      short-of : (short : ℕ) → (keptAnswer short k ≡ decodedOf short clean (length out) s) × (out′ ≡ decodedLaid clean out s)
+      short-of : (short : Cause) → (keptAnswer short k ≡ decodedOf short clean (length out) s) × (out′ ≡ decodedLaid clean out s)
       short-of short =
-          kept-both short 13 out out′ (cleaned clean (decoded s 0)) put k p q (utf8 s) (refsOk s 0) (refuses 10) (refuses 2) (checked-good s e .0) (checked-good s e .1) o
+          kept-both short cause.TextFull out out′ (cleaned clean (decoded s 0)) put k p q (utf8 s) (refsOk s 0) (refuses cause.BadReference) (refuses cause.NotUtf8) (checked-good s e .0) (checked-good s e .1) o

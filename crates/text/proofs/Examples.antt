@@ -1,34 +1,40 @@
--- Worked cases of document 01. Assumes nothing.
+-- Values, computed. Assumes nothing.
 use mathlib.Core.Path.{_≡_, refl}
 use mathlib.Core.List.{[], _∷_}
-use Rattle.area.specs.Answer.{refuses}
+use Rattle.area.specs.Answer.{gives, refuses}
 use Rattle.utf8.specs.Utf8.{need, low, high}
 use Rattle.utf8.specs.Characters.{encode}
 use Rattle.names.specs.Names.{sameBytes, codeFrom}
 use Rattle.reference.specs.Reference.{entities, entityChars, isEntity, entityChar, isCharRef, refAt}
 use Rattle.text.specs.Filter.{filtered}
-use Rattle.text.specs.Value.{valueText, valueOf}
+use Rattle.text.specs.Value.{valueText, checkedOf, valueOf, valueLaid}
+use Rattle.refusal.specs.declared.Cause.the-variants as cause
 
--- "an output U+0001, space, `a` keeps its space"
-output : filtered (0x01 ∷ 0x20 ∷ 0x61 ∷ []) ≡ 0x20 ∷ 0x61 ∷ []
-output = refl
+-- what the filter drops ends beside tab, newline, return and space
+edges : filtered (0x00 ∷ 0x08 ∷ 0x09 ∷ 0x0A ∷ 0x0B ∷ 0x0C ∷ 0x0D ∷ 0x0E ∷ 0x1F ∷ 0x20 ∷ 0x7F ∷ []) ≡ 0x09 ∷ 0x0A ∷ 0x0D ∷ 0x20 ∷ 0x7F ∷ []
+edges = refl
 
 -- U+0001 is dropped, and &lt; decoded
 decoded-filtered : valueText (0x01 ∷ 0x26 ∷ 0x6C ∷ 0x74 ∷ 0x3B ∷ []) ≡ 0x3C ∷ []
 unfolding refAt isEntity entityChar entities entityChars sameBytes codeFrom encode
 decoded-filtered = refl
 
--- row 2: name FF, and before row 10
-not-utf8 : valueOf 9 (0xFF ∷ 0x26 ∷ 0x78 ∷ 0x3B ∷ []) ≡ refuses 2
+-- FF and a bad reference: 2 comes before 10
+not-utf8 : (valueOf 9 (0xFF ∷ 0x26 ∷ 0x78 ∷ 0x3B ∷ []) ≡ refuses cause.NotUtf8) × (checkedOf (0x26 ∷ 0x78 ∷ 0x3B ∷ 0xFF ∷ []) ≡ refuses cause.NotUtf8)
 unfolding need low high
-not-utf8 = refl
+not-utf8 = (refl, refl)
 
--- row 10: name &x;, and before row 13
-unknown : valueOf 0 (0x61 ∷ 0x26 ∷ 0x78 ∷ 0x3B ∷ []) ≡ refuses 10
+-- a bad reference, and no byte left: 10 comes before 13
+unknown : valueOf 0 (0x61 ∷ 0x26 ∷ 0x78 ∷ 0x3B ∷ []) ≡ refuses cause.BadReference
 unfolding need low high refAt isEntity entities sameBytes codeFrom isCharRef
 unknown = refl
 
--- row 13: name `ab`, 1 byte
-short-area : valueOf 1 (0x61 ∷ 0x62 ∷ []) ≡ refuses 13
+-- document 01's example of 13, `ab` in 1 byte; 2 bytes suffice, and so does 1 where the filter drops the other
+short-area : (valueOf 1 (0x61 ∷ 0x62 ∷ []) ≡ refuses cause.TextFull) × (valueOf 2 (0x61 ∷ 0x62 ∷ []) ≡ gives 2) × (valueOf 1 (0x61 ∷ 0x01 ∷ []) ≡ gives 1)
 unfolding need low high
-short-area = refl
+short-area = (refl, refl, refl)
+
+-- what is no value leaves the area as it was
+untouched : (valueLaid (9 ∷ 9 ∷ []) (0x61 ∷ 0xFF ∷ []) ≡ 9 ∷ 9 ∷ []) × (valueLaid (9 ∷ 9 ∷ []) (0x61 ∷ []) ≡ 0x61 ∷ 9 ∷ [])
+unfolding need low high
+untouched = (refl, refl)

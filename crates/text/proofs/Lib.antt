@@ -1,9 +1,8 @@
 pub mod Filtering
 pub mod Putting
 mod Cleaning
-mod Pieces
+pub mod Pieces
 mod Writing
-mod Keys
 pub mod Checking
 pub mod Values
 mod Examples

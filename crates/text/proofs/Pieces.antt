@@ -1,6 +1,6 @@
 -- What a value stands for, piece by piece. Assumes nothing.
 use Prim.Native.Nat.{ℕ, suc, _+_, _-_, _≤_, _<_}
-use mathlib.Core.Path.{_≡_, refl, ap, _∙_}
+use mathlib.Core.Path.{_≡_, refl, sym, ap, _∙_}
 use mathlib.Core.List.{List, [], _∷_, _++_}
 use mathlib.Core.Bool.{Bool, true, false, cond}
 use native.Mathlib.Omega.{arith}
@@ -35,6 +35,11 @@ width-in (b ∷ s) h = go (eqb b 0x26) (ref-fits s)
     go : (t : Bool) → bytesOf (refAt s) ≤ length s → (0 < cond t (suc (bytesOf (refAt s))) 1) × (cond t (suc (bytesOf (refAt s))) 1 ≤ suc (length s))
     go true f = (omega arith, omega arith)
     go false f = (omega arith, omega arith)
+
+-- no piece at the end
+pub piece-none : (s : List ℕ) (clean : Bool) → length s ≡ 0 → (p : Piece) → p .n ≡ 0 → p .width ≡ 0 → Pieced (cleaned clean (pieceOf s)) (pieceWidth s) p
+piece-none [] clean h p n w = record { fits = omega (arith, n); front = ap (λ (k : ℕ). take k (p .bytes)) n ∙ sym (cleaned-nil clean); takes = w }
+piece-none (b ∷ s) clean h p n w = absurd (omega arith)
 
 -- the first piece, from what the code finds at the front
 module _ (s : List ℕ) (h : 0 < length s) where
@@ -73,10 +78,6 @@ module _ (s : List ℕ) (h : 0 < length s) where
 
 pub pieced-on : {f g : List ℕ} {v w : ℕ} {p : Piece} → Pieced f v p → f ≡ g → v ≡ w → Pieced g w p
 pieced-on k e m = record { fits = k .fits; front = k .front ∙ e; takes = k .takes ∙ m }
-
--- the part of s that begins at i has a first piece
-pub part-some : (s : List ℕ) (i : ℕ) → i < length s → 0 < length (take (length s - i) (drop i s))
-part-some s i h = rw (rest-part s i, length-drop i s) (omega arith)
 
 -- a piece p was made of the part of s that begins at i
 module _ (clean : Bool) (s : List ℕ) (i : ℕ) (h : i < length s) (p : Piece) (k : Pieced (cleaned clean (pieceOf (take (length s - i) (drop i s)))) (pieceWidth (take (length s - i) (drop i s))) p) where

@@ -11,6 +11,7 @@ use Rattle.area.specs.declared.Stored.{Stored}
 use Rattle.area.proofs.Laying.{other-area, put-fits}
 use Rattle.text.specs.Kept.{keptAnswer}
 use Rattle.text.specs.declared.kept.Kept.{Kept}
+use Rattle.refusal.specs.declared.Cause.{Cause}
 
 -- a choice by one test, and by two, from their outcomes
 module _ {A : Type 0} (t : Bool) (x y : A) where
@@ -39,7 +40,7 @@ module _ (t u : Bool) (good bad not-utf8 : Answer ℕ) (out full : List ℕ) whe
   both-hold a out′ p q e o = (e ∙ both-yes t u good bad not-utf8 p q, o ∙ cond-yes (t && u) full out (ap (λ (b : Bool). b && u) p ∙ q))
 
 -- f was put at the front of out, an area for which "too short" has the number `here`, by a function that has `there` for it
-module _ (here there : ℕ) (out out′ f : List ℕ) (put : Stored) (k : Kept) (e : storedAnswer there put ≡ placing there (length out) f) (g : (short : ℕ) → keptAnswer short k ≡ storedAnswer short put) where
+module _ (here there : Cause) (out out′ f : List ℕ) (put : Stored) (k : Kept) (e : storedAnswer there put ≡ placing there (length out) f) (g : (short : Cause) → keptAnswer short k ≡ storedAnswer short put) where
   pub kept-placing : keptAnswer here k ≡ placing here (length out) f
   kept-placing = g here ∙ other-area there here (length out) f put e
 
@@ -51,8 +52,8 @@ module _ (here there : ℕ) (out out′ f : List ℕ) (put : Stored) (k : Kept) 
   kept-both t u bad not-utf8 p q o = both-hold t u (placing here (length out) f) bad not-utf8 out (laid out f) (keptAnswer here k) out′ p q kept-placing o
 
 -- what a count tells of both tests and of the room
-pub put-both : (t u : Bool) (short n bad not-utf8 m : ℕ) (f : List ℕ) → gives m ≡ cond t (cond u (placing short n f) (refuses bad)) (refuses not-utf8)
+pub put-both : (t u : Bool) (short bad not-utf8 : Cause) (n m : ℕ) (f : List ℕ) → gives m ≡ cond t (cond u (placing short n f) (refuses bad)) (refuses not-utf8)
     → (t ≡ true) × (u ≡ true) × (length f ≤ n) × (m ≡ length f)
-put-both true true short n bad not-utf8 m f e = let p = put-fits short n f m e in (refl, refl, p .0, p .1)
-put-both true false short n bad not-utf8 m f e = let z : _≡_ {A = ℕ} 0 1 = cc in absurd (omega arith)
-put-both false u short n bad not-utf8 m f e = let z : _≡_ {A = ℕ} 0 1 = cc in absurd (omega arith)
+put-both true true short bad not-utf8 n m f e = let p = put-fits short n f m e in (refl, refl, p .0, p .1)
+put-both true false short bad not-utf8 n m f e = let z : _≡_ {A = ℕ} 0 1 = cc in absurd (omega arith)
+put-both false u short bad not-utf8 n m f e = let z : _≡_ {A = ℕ} 0 1 = cc in absurd (omega arith)

@@ -15,6 +15,7 @@ use Rattle.text.specs.Filter.{filtered, unfiltered}
 use Rattle.text.specs.Value.{valueText, checkedOf, valueOf}
 use Rattle.text.proofs.Filtering.{utf8-filtered, unfiltered-filtered, filtered-same, length-filtered}
 use Rattle.text.proofs.Putting.{both-yes}
+use Rattle.refusal.specs.declared.Cause.the-variants as cause
 
 module _ (s : List ℕ) where
   pub utf8-value : utf8 s ≡ true → utf8 (valueText s) ≡ true
@@ -32,8 +33,8 @@ module _ (s : List ℕ) where
     plain-value e = ap filtered (plain-decoded s plain) ∙ filtered-same s e
 
     pub plain-checked : utf8 s ≡ true → checkedOf s ≡ gives tt
-    plain-checked u = sym (both-yes (utf8 s) (refsOk s 0) (gives tt) (refuses 10) (refuses 2) u (plain-refs s plain))
+    plain-checked u = sym (both-yes (utf8 s) (refsOk s 0) (gives tt) (refuses cause.BadReference) (refuses cause.NotUtf8) u (plain-refs s plain))
 
-    pub plain-stored : (n : ℕ) → utf8 s ≡ true → unfiltered s ≡ true → valueOf n s ≡ placing 13 n s
+    pub plain-stored : (n : ℕ) → utf8 s ≡ true → unfiltered s ≡ true → valueOf n s ≡ placing cause.TextFull n s
     plain-stored n u e =
-        sym (both-yes (utf8 s) (refsOk s 0) (placing 13 n (valueText s)) (refuses 10) (refuses 2) u (plain-refs s plain)) ∙ ap (placing 13 n) (plain-value e)
+        sym (both-yes (utf8 s) (refsOk s 0) (placing cause.TextFull n (valueText s)) (refuses cause.BadReference) (refuses cause.NotUtf8) u (plain-refs s plain)) ∙ ap (placing cause.TextFull n) (plain-value e)

@@ -11,6 +11,7 @@ use Rattle.reference.specs.Reference.{decoded}
 use Rattle.text.specs.Decode.{cleaned, pieceOf, pieceWidth, Pieced}
 use Rattle.text.specs.declared.decode.Piece.{Piece}
 use Rattle.text.proofs.Pieces.{piece-fits, piece-next}
+use Rattle.refusal.specs.declared.Cause.the-variants as cause
 
 -- k bytes are put, and s is read up to i
 pub record Writing (clean : Bool) (out₀ s out : List ℕ) (i k : ℕ) : Type 0 where
@@ -23,14 +24,14 @@ module _ {clean : Bool} {out₀ s out : List ℕ} {i k : ℕ} (w : Writing clean
   turn = laying-on (w .laying) (piece-next clean s i h p e)
 
   module _ (out′ : List ℕ) (o : out′ ≡ take k out ++ laid (drop k out) (take (p .n) (p .bytes))) where
-    pub writing-more : (n : ℕ) → gives n ≡ placing 16 (length out - k) (take (p .n) (p .bytes)) → Writing clean out₀ s out′ (i + p .width) (k + n)
+    pub writing-more : (n : ℕ) → gives n ≡ placing cause.OutputFull (length out - k) (take (p .n) (p .bytes)) → Writing clean out₀ s out′ (i + p .width) (k + n)
     writing-more n a =
-        let f = put-fits 16 (length out - k) (take (p .n) (p .bytes)) n a in
+        let f = put-fits cause.OutputFull (length out - k) (take (p .n) (p .bytes)) n a in
         record {
           within = piece-fits clean s i h p e;
           laying = rw (f .1) (laying-chunk (take (p .n) (p .bytes)) (cleaned clean (decoded (drop (i + p .width) s) 0)) turn out′ o (f .0));
         }
 
-    pub writing-full : refuses 16 ≡ placing 16 (length out - k) (take (p .n) (p .bytes)) → (refuses 13 ≡ placing 13 (length out₀) (cleaned clean (decoded s 0))) × (out′ ≡ laid out₀ (cleaned clean (decoded s 0)))
+    pub writing-full : refuses cause.OutputFull ≡ placing cause.OutputFull (length out - k) (take (p .n) (p .bytes)) → (refuses cause.TextFull ≡ placing cause.TextFull (length out₀) (cleaned clean (decoded s 0))) × (out′ ≡ laid out₀ (cleaned clean (decoded s 0)))
     writing-full a =
-        laying-over (take (p .n) (p .bytes)) (cleaned clean (decoded (drop (i + p .width) s) 0)) turn 13 out′ o (full-over 16 (length out - k) (take (p .n) (p .bytes)) a)
+        laying-over (take (p .n) (p .bytes)) (cleaned clean (decoded (drop (i + p .width) s) 0)) turn cause.TextFull out′ o (full-over cause.OutputFull (length out - k) (take (p .n) (p .bytes)) a)

@@ -12,6 +12,8 @@ use Rattle.utf8.specs.Characters.{encode}
 use Rattle.reference.specs.Reference.{refAt, codeOf, bytesOf, refsOk, decoded}
 use Rattle.text.specs.Filter.{filtered}
 use Rattle.text.specs.declared.decode.Piece.{Piece}
+use Rattle.refusal.specs.declared.Cause.the-variants as cause
+use Rattle.refusal.specs.declared.Cause.{Cause}
 
 -- filtered where clean asks for it
 abbrev pub cleaned : Bool → List ℕ → List ℕ
@@ -20,9 +22,9 @@ cleaned clean l = cond clean (filtered l) l
 abbrev pub isValue : List ℕ → Bool
 isValue s = utf8 s && refsOk s 0
 
--- the answer of an area of n bytes, for which "too short" has the number short. The whole value is "UTF-8 (2), references (10)" before it is too long
-abbrev pub decodedOf : ℕ → Bool → ℕ → List ℕ → Answer ℕ
-decodedOf short clean n s = cond (utf8 s) (cond (refsOk s 0) (placing short n (cleaned clean (decoded s 0))) (refuses 10)) (refuses 2)
+-- the answer of an area of n bytes, for which "too short" has the cause short. The whole value is "UTF-8 (2), references (10)" before it is too long
+abbrev pub decodedOf : Cause → Bool → ℕ → List ℕ → Answer ℕ
+decodedOf short clean n s = cond (utf8 s) (cond (refsOk s 0) (placing short n (cleaned clean (decoded s 0))) (refuses cause.BadReference)) (refuses cause.NotUtf8)
 
 -- the area: what is no value leaves it as it was
 abbrev pub decodedLaid : Bool → List ℕ → List ℕ → List ℕ

@@ -8,15 +8,17 @@ use area::Stored;
 use area::copy_into;
 use reference::Ref;
 use reference::ref_at;
-use utf8::encode_of;
+use utf8_chars::encode_of;
 ghost use mathlib.Core.Path.{_≡_};
 ghost use mathlib.Core.List.{[], _∷_, _++_};
-ghost use Prim.Native.Nat.{ℕ, _-_, _≤_, _<_};
+ghost use Prim.Native.Nat.{_-_, _≤_};
 ghost use lib.ListN.{length, take, drop};
 ghost use Rattle.area.specs.Area.{storedAnswer, placing, laid};
 ghost use Rattle.reference.specs.Reference.{decoded};
 ghost use Rattle.text.specs.Kept.{keptAnswer};
 ghost use Rattle.text.specs.Decode.{cleaned, pieceOf, pieceWidth, Pieced, decodedOf, decodedLaid};
+ghost use Rattle.refusal.specs.declared.Cause.the-variants as cause;
+ghost use Rattle.refusal.specs.declared.Cause.{Cause};
 
 // The bytes of a piece, the first n of the four, and how many bytes of the value it takes.
 pub struct Piece {
@@ -45,9 +47,15 @@ fn byte_piece(b: u8, clean: bool) -> Piece
 // The first piece of s. A reference names an XML Char, whose bytes the filter never drops, so the filter looks at plain bytes only.
 // An ampersand that begins no reference stands for U+0000.
 pub fn piece_of(s: &[u8], clean: bool) -> Piece
-    requires { ⌜ 0 < length (now s) ⌝ }
     ensures { λ r. ⌜ Pieced (cleaned clean (pieceOf (now (s .entry)))) (pieceWidth (now (s .entry))) r ⌝ }
 {
+    if s.len() == 0 {
+        return Piece {
+            bytes: [0, 0, 0, 0],
+            n: 0,
+            width: 0,
+        };
+    }
     let b = s[0];
     if b != 0x26 {
         return byte_piece(b, clean);
@@ -70,7 +78,7 @@ pub fn piece_of(s: &[u8], clean: bool) -> Piece
 fn put_piece(out: &mut [u8], k: usize, p: Piece) -> Stored
     requires { ⌜ k ≤ length (now out) ⌝ }
     requires { ⌜ p .n ≤ length (p .bytes) ⌝ }
-    ensures { λ r. ⌜ storedAnswer 16 r ≡ placing 16 (length (now (out .entry)) - k) (take (p .n) (p .bytes)) ⌝ }
+    ensures { λ r. ⌜ storedAnswer cause.OutputFull r ≡ placing cause.OutputFull (length (now (out .entry)) - k) (take (p .n) (p .bytes)) ⌝ }
     ensures { λ r. ⌜ now (out .exit) ≡ take k (now (out .entry)) ++ laid (drop k (now (out .entry))) (take (p .n) (p .bytes)) ⌝ }
 {
     let bytes = p.bytes;
@@ -80,7 +88,7 @@ fn put_piece(out: &mut [u8], k: usize, p: Piece) -> Stored
 
 // Puts what s stands for at the front of out, filtered where `clean` asks for it.
 pub fn write_decoded(out: &mut [u8], s: &[u8], clean: bool) -> Stored
-    ensures { λ r. ⌜ storedAnswer 13 r ≡ placing 13 (length (now (out .entry))) (cleaned clean (decoded (now (s .entry)) 0)) ⌝ }
+    ensures { λ r. ⌜ storedAnswer cause.TextFull r ≡ placing cause.TextFull (length (now (out .entry))) (cleaned clean (decoded (now (s .entry)) 0)) ⌝ }
     ensures { λ r. ⌜ now (out .exit) ≡ laid (now (out .entry)) (cleaned clean (decoded (now (s .entry)) 0)) ⌝ }
 {
     let mut i = 0;
@@ -99,7 +107,7 @@ pub fn write_decoded(out: &mut [u8], s: &[u8], clean: bool) -> Stored
 
 // 2 and 10 come before "too short": the whole value is checked before any of it is put.
 pub fn put_decoded(out: &mut [u8], s: &[u8], clean: bool) -> Kept
-    ensures { λ r. ⌜ ((short : ℕ) → keptAnswer short r ≡ decodedOf short clean (length (now (out .entry))) (now (s .entry))) ⌝ }
+    ensures { λ r. ⌜ ((short : Cause) → keptAnswer short r ≡ decodedOf short clean (length (now (out .entry))) (now (s .entry))) ⌝ }
     ensures { λ r. ⌜ now (out .exit) ≡ decodedLaid clean (now (out .entry)) (now (s .entry)) ⌝ }
 {
     let checked = check_value(s);

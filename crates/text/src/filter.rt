@@ -4,6 +4,7 @@ ghost use mathlib.Core.Path.{_≡_};
 ghost use lib.ListN.{length};
 ghost use Rattle.area.specs.Area.{storedAnswer, placing, laid};
 ghost use Rattle.text.specs.Filter.{dropped, filtered};
+ghost use Rattle.refusal.specs.declared.Cause.the-variants as cause;
 
 pub fn is_dropped(b: u8) -> bool
     ensures { λ r. ⌜ r ≡ dropped b ⌝ }
@@ -13,7 +14,7 @@ pub fn is_dropped(b: u8) -> bool
 
 // Puts s without the dropped bytes at the front of out.
 pub fn store(out: &mut [u8], s: &[u8]) -> Stored
-    ensures { λ r. ⌜ storedAnswer 13 r ≡ placing 13 (length (now (out .entry))) (filtered (now (s .entry))) ⌝ }
+    ensures { λ r. ⌜ storedAnswer cause.TextFull r ≡ placing cause.TextFull (length (now (out .entry))) (filtered (now (s .entry))) ⌝ }
     ensures { λ r. ⌜ now (out .exit) ≡ laid (now (out .entry)) (filtered (now (s .entry))) ⌝ }
 {
     let mut i = 0;

@@ -1,6 +1,5 @@
-// Texts on their way into a lent area: the filter, attribute values; and an extra's key.
+// Texts on their way into a lent area: the filter, attribute values.
 pub mod decode;
 pub mod filter;
 pub mod kept;
-pub mod key;
 pub mod value;

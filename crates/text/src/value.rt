@@ -7,6 +7,7 @@ ghost use mathlib.Core.Path.{_≡_};
 ghost use lib.ListN.{length};
 ghost use Rattle.text.specs.Kept.{keptAnswer};
 ghost use Rattle.text.specs.Value.{checkedAnswer, checkedOf, valueOf, valueLaid};
+ghost use Rattle.refusal.specs.declared.Cause.the-variants as cause;
 
 pub enum Checked {
     Good,
@@ -27,7 +28,7 @@ pub fn check_value(s: &[u8]) -> Checked
 }
 
 pub fn store_value(out: &mut [u8], s: &[u8]) -> Kept
-    ensures { λ r. ⌜ keptAnswer 13 r ≡ valueOf (length (now (out .entry))) (now (s .entry)) ⌝ }
+    ensures { λ r. ⌜ keptAnswer cause.TextFull r ≡ valueOf (length (now (out .entry))) (now (s .entry)) ⌝ }
     ensures { λ r. ⌜ now (out .exit) ≡ valueLaid (now (out .entry)) (now (s .entry)) ⌝ }
 {
     put_decoded(out, s, true)

@@ -7,17 +7,18 @@ use Rattle.area.specs.Area.{placing, laid}
 use Rattle.utf8.specs.Utf8.{utf8}
 use Rattle.reference.specs.Reference.{isEntity, entityChar}
 use Rattle.text.specs.Decode.{decodedOf, decodedLaid}
+use Rattle.refusal.specs.declared.Cause.the-variants as cause
 
 -- a Text; n bytes are left
 abbrev pub textOf : ℕ → List ℕ → Answer ℕ
-textOf n s = decodedOf 14 false n s
+textOf n s = decodedOf cause.ScratchFull false n s
 
 abbrev pub textLaid : List ℕ → List ℕ → List ℕ
 textLaid out s = decodedLaid false out s
 
 -- a CData
 abbrev pub cdataOf : ℕ → List ℕ → Answer ℕ
-cdataOf n s = cond (utf8 s) (placing 14 n s) (refuses 2)
+cdataOf n s = cond (utf8 s) (placing cause.ScratchFull n s) (refuses cause.NotUtf8)
 
 abbrev pub cdataLaid : List ℕ → List ℕ → List ℕ
 cdataLaid out s = cond (utf8 s) (laid out s) out
@@ -27,7 +28,7 @@ abbrev pub referenceText : List ℕ → List ℕ
 referenceText name = entityChar name ∷ []
 
 abbrev pub referenceOf : ℕ → List ℕ → Answer ℕ
-referenceOf n name = cond (utf8 name) (cond (isEntity name) (placing 14 n (referenceText name)) (refuses 8)) (refuses 2)
+referenceOf n name = cond (utf8 name) (cond (isEntity name) (placing cause.ScratchFull n (referenceText name)) (refuses cause.UnknownEntity)) (refuses cause.NotUtf8)
 
 abbrev pub referenceLaid : List ℕ → List ℕ → List ℕ
 referenceLaid out name = cond (utf8 name && isEntity name) (laid out (referenceText name)) out
@@ -37,7 +38,7 @@ abbrev pub newline : List ℕ
 newline = 0x0A ∷ []
 
 abbrev pub indentOf : ℕ → Answer ℕ
-indentOf n = placing 14 n newline
+indentOf n = placing cause.ScratchFull n newline
 
 abbrev pub indentLaid : List ℕ → List ℕ
 indentLaid out = laid out newline

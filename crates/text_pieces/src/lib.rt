@@ -10,16 +10,17 @@ ghost use mathlib.Core.Path.{_≡_};
 ghost use lib.ListN.{length};
 ghost use Rattle.text.specs.Kept.{keptAnswer};
 ghost use Rattle.text_pieces.specs.Gather.{textOf, textLaid, cdataOf, cdataLaid, referenceOf, referenceLaid, indentOf, indentLaid};
+ghost use Rattle.refusal.specs.declared.Cause.the-variants as cause;
 
 pub fn gather_text(out: &mut [u8], s: &[u8]) -> Kept
-    ensures { λ r. ⌜ keptAnswer 14 r ≡ textOf (length (now (out .entry))) (now (s .entry)) ⌝ }
+    ensures { λ r. ⌜ keptAnswer cause.ScratchFull r ≡ textOf (length (now (out .entry))) (now (s .entry)) ⌝ }
     ensures { λ r. ⌜ now (out .exit) ≡ textLaid (now (out .entry)) (now (s .entry)) ⌝ }
 {
     put_decoded(out, s, false)
 }
 
 pub fn gather_cdata(out: &mut [u8], s: &[u8]) -> Kept
-    ensures { λ r. ⌜ keptAnswer 14 r ≡ cdataOf (length (now (out .entry))) (now (s .entry)) ⌝ }
+    ensures { λ r. ⌜ keptAnswer cause.ScratchFull r ≡ cdataOf (length (now (out .entry))) (now (s .entry)) ⌝ }
     ensures { λ r. ⌜ now (out .exit) ≡ cdataLaid (now (out .entry)) (now (s .entry)) ⌝ }
 {
     if is_utf8(s) {
@@ -30,7 +31,7 @@ pub fn gather_cdata(out: &mut [u8], s: &[u8]) -> Kept
 
 // The name of a Ref event.
 pub fn gather_reference(out: &mut [u8], name: &[u8]) -> Kept
-    ensures { λ r. ⌜ keptAnswer 14 r ≡ referenceOf (length (now (out .entry))) (now (name .entry)) ⌝ }
+    ensures { λ r. ⌜ keptAnswer cause.ScratchFull r ≡ referenceOf (length (now (out .entry))) (now (name .entry)) ⌝ }
     ensures { λ r. ⌜ now (out .exit) ≡ referenceLaid (now (out .entry)) (now (name .entry)) ⌝ }
 {
     if !is_utf8(name) {
@@ -45,7 +46,7 @@ pub fn gather_reference(out: &mut [u8], name: &[u8]) -> Kept
 }
 
 pub fn gather_indent(out: &mut [u8]) -> Kept
-    ensures { λ r. ⌜ keptAnswer 14 r ≡ indentOf (length (now (out .entry))) ⌝ }
+    ensures { λ r. ⌜ keptAnswer cause.ScratchFull r ≡ indentOf (length (now (out .entry))) ⌝ }
     ensures { λ r. ⌜ now (out .exit) ≡ indentLaid (now (out .entry)) ⌝ }
 {
     kept_of(copy_into(out, b"\n"))

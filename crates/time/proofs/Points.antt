@@ -1,53 +1,21 @@
--- The point of a time's text: found byte by byte, and the two parts that it makes. Assumes nothing.
-use Prim.Native.Nat.{ℕ, suc, _+_, _≤_, _<_}
+-- The point of a time's text, and the two parts that it makes. Assumes nothing.
+use Prim.Native.Nat.{ℕ, suc, _+_, _≤_}
 use mathlib.Core.Path.{_≡_, refl, sym, ap, _∙_}
 use mathlib.Core.List.{List, [], _∷_, _++_}
 use mathlib.Core.Bool.{Bool, true, false, cond, and-eq-true-iff}
 use native.Mathlib.Omega.{arith}
 use native.Mathlib.Numerals.{add-one}
-use borrow.Author.Tests.{eq-eqb, ne-eqb, eqb-true}
+use borrow.Author.Tests.{ne-eqb, eqb-true}
 use lib.Dec.{eqb}
-use lib.ListN.{length, take, drop, getD, drop-of-length-le}
+use lib.ListN.{length, take, drop, drop-of-length-le}
 use lib.Seq.{take-all, take-at, drop-at}
-use Rattle.area.proofs.Lists.{drop-next, drop-more}
+use Rattle.area.proofs.Lists.{drop-more}
 use Rattle.utf8.specs.Utf8.{utf8}
 use Rattle.utf8.proofs.Rules.{ascii-on}
 use Rattle.digits.specs.Digits.{isDigit, allDigits}
 use Rattle.digits.proofs.Ascii.{digit-decimal, digit-ascii}
 use Rattle.digits.proofs.Texts.{digits-utf8}
 use Rattle.time.specs.Time.{point, whole, fraction}
-
--- i bytes are passed, and none is a point
-pub record Seeking (s : List ℕ) (i : ℕ) : Type 0 where
-  pub within : i ≤ length s
-  pub ahead : i + point (drop i s) ≡ point s
-
-pub seeking-start : (s : List ℕ) → Seeking s 0
-seeking-start s = record { within = omega arith; ahead = omega arith }
-
-module _ {s : List ℕ} {i : ℕ} (k : Seeking s i) where
-  pub seeking-found : i < length s → getD s i 0 ≡ 0x2E → i ≡ point s
-  seeking-found h e =
-      let z : point (drop i s) ≡ 0 = ap point (drop-next s i h) ∙ ap (λ (t : Bool). cond t 0 (suc (point (drop (i + 1) s)))) (eq-eqb (getD s i 0) 0x2E e) in
-      omega (arith, k .ahead)
-
-  pub seeking-more : i < length s → (getD s i 0 ≡ 0x2E → ⊥) → Seeking s (i + 1)
-  seeking-more h n =
-      let z : point (drop i s) ≡ suc (point (drop (i + 1) s)) = ap point (drop-next s i h) ∙ ap (λ (t : Bool). cond t 0 (suc (point (drop (i + 1) s)))) (ne-eqb (getD s i 0) 0x2E n) in
-      record { within = omega arith; ahead = omega (arith, k .ahead) }
-
-  pub seeking-end : length s ≤ i → i ≡ point s
-  seeking-end h =
-      let z : point (drop i s) ≡ 0 = ap point (drop-of-length-le s {i = i} h) in
-      omega (arith, k .ahead)
-
-pub point-within : (s : List ℕ) → point s ≤ length s
-point-within [] = omega arith
-point-within (b ∷ s) = go (eqb b 0x2E) (point-within s)
-  where
-    go : (t : Bool) → point s ≤ length s → cond t 0 (suc (point s)) ≤ suc (length s)
-    go true h = omega arith
-    go false h = omega arith
 
 -- the parts, as code has them that found the point at p
 module _ (s : List ℕ) (p : ℕ) (e : p ≡ point s) where

@@ -1,23 +1,22 @@
 -- When a whole part and a fraction make a time, and what a time's text stands for. Assumes nothing.
-use Prim.Native.Nat.{ℕ, zero, suc, _+_, _-_, _*_, _^_, _≤_, _<_}
+use Prim.Native.Nat.{ℕ, zero, suc, _+_, _-_, _≤_, _<_}
 use mathlib.Core.Path.{_≡_, refl, sym, ap, _∙_, subst}
 use mathlib.Core.List.{List, [], _∷_}
 use mathlib.Core.Bool.{Bool, true, false, cond, _&&_, and-eq-true-iff}
-use native.Mathlib.Nat.{le-trans, le-of-eq, lt-of-lt-of-le, lt-of-le-of-lt, mul-assoc, le-mul-of-pos-right, mul-lt-mul-of-pos-right, pow-succ', pow-le-pow-right}
 use native.Mathlib.Omega.{arith}
-use borrow.Author.Tests.{le-leb, lt-leb, lt-ltb, le-ltb, leb-true, leb-false, ltb-true, eqb-true, eqb-false}
-use lib.Dec.{leb, ltb, eqb, lit<}
-use lib.Pow.{pow-add}
+use borrow.Author.Tests.{le-leb, lt-ltb, le-ltb, leb-true, leb-false, ltb-true, eqb-true, eqb-false}
+use lib.Dec.{leb, ltb, eqb}
 use lib.ListN.{length}
 use Rattle.area.specs.Answer.{Answer, gives, refuses}
-use Rattle.area.proofs.Lists.{one-less}
 use Rattle.utf8.specs.Utf8.{utf8}
 use Rattle.digits.specs.Digits.{allDigits, value, isNumber, numberIn}
 use Rattle.digits.specs.declared.Number.the-variants as number
-use Rattle.digits.proofs.Values.{value-below}
 use Rattle.time.specs.declared.read.Formed.the-variants as formed
-use Rattle.time.specs.Time.{makeTime, billionths, isTime, secondsOf, nanosOf, timeOf, whole, fraction, upTo, formedTime}
+use Rattle.fraction.specs.Fraction.{isFraction, billionths, billionthsOf}
+use Rattle.fraction.proofs.Fractions.{is-fraction, nine-below}
+use Rattle.time.specs.Time.{makeTime, isTime, secondsOf, nanosOf, timeOf, whole, fraction, upTo, formedTime}
 use Rattle.time.proofs.Points.{parts-utf8}
+use Rattle.refusal.specs.declared.Cause.the-variants as cause
 
 -- ---- a number that may have no digit
 module _ (most : ℕ) (s : List ℕ) where
@@ -54,18 +53,6 @@ and-no : (a b : Bool) → b ≡ false → (a && b) ≡ false
 and-no true b h = h
 and-no false b h = refl
 
-ten-positive : (k : ℕ) → 0 < 10 ^ k
-ten-positive k = lt-of-lt-of-le (lit< tt) (pow-le-pow-right (lit< tt) {i = 0} {j = k} (omega arith))
-
--- nine digits or fewer, all of them counted
-pub nine-below : (f : List ℕ) → allDigits 10 f ≡ true → length f ≤ 9 → billionths f < 1000000000
-nine-below f d h =
-    lt-of-lt-of-le (mul-lt-mul-of-pos-right (value-below 10 f d) (ten-positive (9 - length f)))
-    (le-of-eq (sym (pow-add 10 (length f) (9 - length f)) ∙ ap (λ (k : ℕ). 10 ^ k) (go (length f) h)))
-  where
-    go : (n : ℕ) → n ≤ 9 → n + (9 - n) ≡ 9
-    go n h = omega arith
-
 module _ (w f : List ℕ) where
   pub no-digit : (eqb (length w) 0 && eqb (length f) 0) ≡ true → makeTime w f ≡ false
   unfolding makeTime
@@ -85,13 +72,6 @@ module _ (w f : List ℕ) where
       go zero n h = let k = eqb-false n 0 h in omega arith
       go (suc m) n h = omega arith
 
-  pub long-fraction : 9 < length f → makeTime w f ≡ false
-  unfolding makeTime
-  long-fraction h =
-      let d = ltb 0 (length w + length f) && ltb (value 10 w) 8388608 in
-      let e : (leb (length f) 9 && d) ≡ false = ap (λ (t : Bool). t && d) (lt-leb (length f) 9 h) in
-      and-no (allDigits 10 w) (allDigits 10 f && (leb (length f) 9 && d)) (and-no (allDigits 10 f) (leb (length f) 9 && d) e)
-
   pub bad-whole : number.Not ≡ upTo 8388607 w → makeTime w f ≡ false
   unfolding makeTime
   bad-whole e =
@@ -104,19 +84,14 @@ module _ (w f : List ℕ) where
           let z = ltb (value 10 w) 8388608 in
           and-no b (c && (d && z)) (and-no c (d && z) (and-no d z (le-ltb (value 10 w) 8388608 (omega arith))))
 
-  pub bad-fraction : length f ≤ 9 → number.Not ≡ upTo 999999999 f → makeTime w f ≡ false
+  pub bad-fraction : isFraction f ≡ false → makeTime w f ≡ false
   unfolding makeTime
-  bad-fraction l e =
-      let rest = leb (length f) 9 && (ltb 0 (length w + length f) && ltb (value 10 w) 8388608) in
-      and-no (allDigits 10 w) (allDigits 10 f && rest) (ap (λ (t : Bool). t && rest) (go (allDigits 10 f) refl (leb (value 10 f) 999999999) refl (up-to-not 999999999 f e)))
+  bad-fraction e = go (allDigits 10 w) (allDigits 10 f) (leb (length f) 9) (ltb 0 (length w + length f) && ltb (value 10 w) 8388608) e
     where
-      go : (a : Bool) → allDigits 10 f ≡ a → (x : Bool) → leb (value 10 f) 999999999 ≡ x → (a && x) ≡ false → allDigits 10 f ≡ false
-      go false d x q h = d
-      go true d x q h =
-          let v : value 10 f < 10 ^ length f = value-below 10 f d in
-          let p : 10 ^ length f ≤ 10 ^ 9 = pow-le-pow-right (lit< tt) l in
-          let over = leb-false (value 10 f) 999999999 (q ∙ h) in
-          absurd (omega arith)
+      go : (a b c d : Bool) → (b && c) ≡ false → (a && (b && (c && d))) ≡ false
+      go false b c d h = refl
+      go true false c d h = refl
+      go true true c d h = ap (λ (t : Bool). t && d) h
 
   pub good-parts : allDigits 10 w ≡ true → allDigits 10 f ≡ true → length f ≤ 9 → 0 < length w + length f → value 10 w ≤ 8388607 → makeTime w f ≡ true
   unfolding makeTime
@@ -139,6 +114,21 @@ module _ (w f : List ℕ) where
 
   pub formed-is : makeTime w f ≡ true → (a b : ℕ) → a ≡ value 10 w → b ≡ billionths f → formed.Is a b ≡ formedTime w f
   formed-is h a b p q = rw (h, p, q) refl
+
+  -- both parts are numbers
+  module _ (seconds nanos : ℕ) (es : number.Is seconds ≡ upTo 8388607 w) (en : number.Is nanos ≡ billionthsOf f) where
+    pub seconds-small : seconds ≤ 8388607
+    seconds-small = let p = up-to-is 8388607 w seconds es in omega (arith, p .1, p .2)
+
+    pub nanos-small : nanos < 1000000000
+    nanos-small = let p = is-fraction f nanos en in rw (p .1) (nine-below f (p .0))
+
+    pub formed-good : (eqb (length w) 0 && eqb (length f) 0) ≡ false → formed.Is seconds nanos ≡ formedTime w f
+    formed-good s =
+        let p = up-to-is 8388607 w seconds es in
+        let q = is-fraction f nanos en in
+        let r = and-eq-true-iff (allDigits 10 f) (leb (length f) 9) .0 (q .0) in
+        formed-is (good-parts w f (p .0) (r .0) (leb-true (length f) 9 (r .1)) (some-digit w f s) (p .2)) seconds nanos (p .1) (q .1)
 
   is-formed : (a b : ℕ) → formed.Is a b ≡ formedTime w f → (makeTime w f ≡ true) × (a ≡ value 10 w) × (b ≡ billionths f)
   is-formed a b e = go (makeTime w f) refl e
@@ -165,24 +155,16 @@ module _ (s : List ℕ) where
   pub time-range : (a b : ℕ) → timeOf s ≡ gives (a, b) → (a < 8388608) × (b < 1000000000)
   time-range a b e = go (utf8 s) (isTime s) refl e
     where
-      go : (u t : Bool) → isTime s ≡ t → cond {A = Answer (ℕ × ℕ)} u (cond t (gives (secondsOf s, nanosOf s)) (refuses 5)) (refuses 2) ≡ gives (a, b) → (a < 8388608) × (b < 1000000000)
+      go : (u t : Bool) → isTime s ≡ t → cond {A = Answer (ℕ × ℕ)} u (cond t (gives (secondsOf s, nanosOf s)) (refuses cause.BadTime)) (refuses cause.NotUtf8) ≡ gives (a, b) → (a < 8388608) × (b < 1000000000)
       go true true i e =
           let k = time-parts (whole s) (fraction s) i in
           let q : _≡_ {A = ℕ × ℕ} (secondsOf s, nanosOf s) (a, b) = cc in
-          subst (λ (p : ℕ × ℕ). (p .0 < 8388608) × (p .1 < 1000000000)) q (k .3, nine-below (fraction s) (k .1) (k .2))
+          subst (λ (p : ℕ × ℕ). (p .0 < 8388608) × (p .1 < 1000000000)) q (k .3, nine-below (fraction s) (rw (k .1, le-leb (length (fraction s)) 9 (k .2)) refl))
       go true false i e = let z : _≡_ {A = ℕ} 0 1 = cc in absurd (omega arith)
       go false t i e = let z : _≡_ {A = ℕ} 0 1 = cc in absurd (omega arith)
 
   pub read-is : (a b : ℕ) → formed.Is a b ≡ formedTime (whole s) (fraction s) → gives (a, b) ≡ timeOf s
   read-is a b e = let p = is-formed (whole s) (fraction s) a b e in rw (p .1, p .2) (sym (time-is (p .0)))
 
-  pub read-bad : formed.Not ≡ formedTime (whole s) (fraction s) → utf8 s ≡ true → refuses 5 ≡ timeOf s
+  pub read-bad : formed.Not ≡ formedTime (whole s) (fraction s) → utf8 s ≡ true → refuses cause.BadTime ≡ timeOf s
   read-bad e u = rw (u, not-formed (whole s) (fraction s) e) refl
-
--- ---- multiplied by ten, k times more
-module _ (r k : ℕ) (h : 0 < k) where
-  pub ten-less : r * 10 * 10 ^ (k - 1) ≡ r * 10 ^ k
-  ten-less = mul-assoc r 10 (10 ^ (k - 1)) ∙ ap (λ (x : ℕ). r * x) (sym (pow-succ' 10 (k - 1)) ∙ ap (λ (j : ℕ). 10 ^ j) (sym (one-less k h)))
-
-  pub ten-fits : r * 10 ^ k < 2 ^ 32 → r * 10 < 2 ^ 32
-  ten-fits b = lt-of-le-of-lt (le-trans (le-mul-of-pos-right (r * 10) (ten-positive (k - 1))) (le-of-eq ten-less)) b

@@ -1,30 +1,32 @@
 -- A time as it is read: "digits, optional `.`, at most nine fraction digits, one digit somewhere, under 8388608 seconds; exact
 -- nanoseconds" (document 01, Text and numbers). Definitions only.
-use Prim.Native.Nat.{ℕ, suc, _+_, _-_, _*_, _^_}
-use mathlib.Core.List.{List, [], _∷_}
+use Prim.Native.Nat.{ℕ, suc, _+_}
+use mathlib.Core.List.{List}
 use mathlib.Core.Bool.{Bool, cond, _&&_}
 use lib.ListN.{length, take, drop}
-use lib.Dec.{ltb, leb, eqb}
+use lib.Dec.{ltb, leb}
 use Rattle.area.specs.Answer.{Answer, gives, refuses}
+use Rattle.area.specs.Area.{firstAt}
 use Rattle.utf8.specs.Utf8.{utf8}
 use Rattle.digits.specs.Digits.{allDigits, value}
 use Rattle.digits.specs.declared.Number.{Number}
 use Rattle.digits.specs.declared.Number.the-variants as number
+use Rattle.fraction.specs.Fraction.{billionths}
 use Rattle.time.specs.declared.read.Formed.{Formed}
 use Rattle.time.specs.declared.read.Formed.the-variants as formed
 use Rattle.time.specs.declared.read.Time.{Time}
 use Rattle.time.specs.declared.read.Time.the-variants.{Is, NotUtf8, Bad}
+use Rattle.refusal.specs.declared.Cause.the-variants as cause
 
 -- seconds and nanoseconds, or 2 for "not UTF-8", 5 for "time"
 abbrev pub timeAnswer : Time → Answer (ℕ × ℕ)
 timeAnswer (Is secs nanos) = gives (secs, nanos)
-timeAnswer NotUtf8 = refuses 2
-timeAnswer Bad = refuses 5
+timeAnswer NotUtf8 = refuses cause.NotUtf8
+timeAnswer Bad = refuses cause.BadTime
 
 -- how many bytes stand before the first point
 abbrev pub point : List ℕ → ℕ
-point [] = 0
-point (b ∷ s) = cond (eqb b 0x2E) 0 (suc (point s))
+point s = firstAt 0x2E s
 
 -- what stands before the first point, and what behind it: nothing where there is no point
 abbrev pub whole : List ℕ → List ℕ
@@ -38,21 +40,18 @@ unfoldable pub makeTime : List ℕ → List ℕ → Bool
 makeTime w f =
     allDigits 10 w && (allDigits 10 f && (leb (length f) 9 && (ltb 0 (length w + length f) && ltb (value 10 w) 8388608)))
 
--- "exact nanoseconds": the last of nine digits counts nanoseconds
-abbrev pub billionths : List ℕ → ℕ
-billionths f = value 10 f * 10 ^ (9 - length f)
-
 abbrev pub isTime : List ℕ → Bool
 isTime s = makeTime (whole s) (fraction s)
 
 abbrev pub secondsOf : List ℕ → ℕ
 secondsOf s = value 10 (whole s)
 
+-- "exact nanoseconds"
 abbrev pub nanosOf : List ℕ → ℕ
 nanosOf s = billionths (fraction s)
 
 abbrev pub timeOf : List ℕ → Answer (ℕ × ℕ)
-timeOf s = cond (utf8 s) (cond (isTime s) (gives (secondsOf s, nanosOf s)) (refuses 5)) (refuses 2)
+timeOf s = cond (utf8 s) (cond (isTime s) (gives (secondsOf s, nanosOf s)) (refuses cause.BadTime)) (refuses cause.NotUtf8)
 
 -- ---- what the steps of the code find
 -- digits, or none, that stand for at most `most`

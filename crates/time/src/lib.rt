@@ -1,3 +1,2 @@
-// Times: read exactly, and written as the float sum of seconds and nanoseconds at its nearest thousandth.
+// Times as attribute values.
 pub mod read;
-pub mod write;

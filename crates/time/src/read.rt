@@ -1,8 +1,7 @@
 // Times as they are read.
 use digits::Number;
 ghost use mathlib.Core.Path.{_≡_};
-ghost use Prim.Native.Nat.{_*_, _^_, _<_};
-ghost use Rattle.time.specs.Time.{timeAnswer, timeOf, point, whole, fraction, upTo, formedTime};
+ghost use Rattle.time.specs.Time.{timeAnswer, timeOf, whole, fraction, upTo, formedTime};
 
 // Seconds and nanoseconds, or what is wrong with the text.
 pub enum Time {
@@ -17,20 +16,6 @@ enum Formed {
     Not,
 }
 
-// How many bytes stand before the first point.
-fn point_at(s: &[u8]) -> usize
-    ensures { λ r. ⌜ r ≡ point (now (s .entry)) ⌝ }
-{
-    let mut i = 0;
-    while i < s.len() {
-        if s[i] == 0x2e {
-            return i;
-        }
-        i += 1;
-    }
-    i
-}
-
 // A number that may have no digit at all.
 fn up_to(s: &[u8], most: u64) -> Number
     ensures { λ r. ⌜ r ≡ upTo most (now (s .entry)) ⌝ }
@@ -41,45 +26,28 @@ fn up_to(s: &[u8], most: u64) -> Number
     digits::decimal(s, most)
 }
 
-fn scaled(n: u32, k: usize) -> u32
-    requires { ⌜ n * 10 ^ k < 2 ^ 32 ⌝ }
-    ensures { λ r. ⌜ r ≡ n * 10 ^ k ⌝ }
-{
-    let mut r = n;
-    let mut left = k;
-    while left > 0 {
-        r *= 10;
-        left -= 1;
-    }
-    r
-}
-
 // The time that a whole part and the digits behind the point make.
-fn time_in(whole: &[u8], fraction: &[u8]) -> Formed
-    ensures { λ r. ⌜ r ≡ formedTime (now (whole .entry)) (now (fraction .entry)) ⌝ }
+fn time_in(whole: &[u8], digits: &[u8]) -> Formed
+    ensures { λ r. ⌜ r ≡ formedTime (now (whole .entry)) (now (digits .entry)) ⌝ }
 {
-    if (whole.len() == 0) & (fraction.len() == 0) {
-        return Formed::Not;
-    }
-    if 9 < fraction.len() {
+    if (whole.len() == 0) & (digits.len() == 0) {
         return Formed::Not;
     }
     let secs = up_to(whole, 8388607);
     let Number::Is(seconds) = secs else {
         return Formed::Not;
     };
-    let part = up_to(fraction, 999999999);
-    let Number::Is(n) = part else {
+    let part = fraction::billionths_of(digits);
+    let Number::Is(nanos) = part else {
         return Formed::Not;
     };
-    let nanos = scaled(n as u32, 9 - fraction.len());
-    Formed::Is(seconds as u32, nanos)
+    Formed::Is(seconds as u32, nanos as u32)
 }
 
 fn formed_time(s: &[u8]) -> Formed
     ensures { λ r. ⌜ r ≡ formedTime (whole (now (s .entry))) (fraction (now (s .entry))) ⌝ }
 {
-    let p = point_at(s);
+    let p = area::first_at(s, 0x2e);
     if p < s.len() {
         let from = p + 1;
         return time_in(&s[..p], &s[from..]);

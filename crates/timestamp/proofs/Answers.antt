@@ -15,10 +15,11 @@ use Rattle.fixed.specs.Fields.{part, all}
 use Rattle.fixed.proofs.Tests.{passes}
 use Rattle.fixed.proofs.Texts.{digits-on, byte-on}
 use Rattle.timestamp.specs.Timestamp.{dateTests, clockTests, hasPoint, places, fractionWidth, isUtc, offsetTests, tail, zone, timestampTests, isTimestamp, momentOf, timestampOf}
-use Rattle.timestamp.specs.Leaves.{formOf}
+use Rattle.timestamp.specs.inside.Leaves.{formOf}
 use Rattle.timestamp.specs.declared.Moment.{Moment}
 use Rattle.timestamp.specs.declared.Form.the-variants.{Right, Wrong}
 use Rattle.timestamp.proofs.Fractions.{run-part}
+use Rattle.refusal.specs.declared.Cause.the-variants as cause
 
 -- ---- a timestamp is ASCII
 either : (b x y : ℕ) → x < 0x80 → y < 0x80 → (eqb b x || eqb b y) ≡ true → b < 0x80
@@ -94,15 +95,15 @@ module _ (s : List ℕ) where
       go true h e = let z : m ≡ momentOf s = cc in rw (timestamp-utf8 h, h, z)
       go false h e = let z : _≡_ {A = ℕ} 0 1 = cc in absurd (omega arith)
 
-  pub answer-bad : Wrong ≡ formOf s → utf8 s ≡ true → refuses 4 ≡ timestampOf s
+  pub answer-bad : Wrong ≡ formOf s → utf8 s ≡ true → refuses cause.BadTimestamp ≡ timestampOf s
   unfolding timestampOf formOf
   answer-bad e u = go (isTimestamp s) refl e
     where
-      go : (b : Bool) → isTimestamp s ≡ b → Wrong ≡ cond b (Right (momentOf s)) Wrong → refuses 4 ≡ timestampOf s
+      go : (b : Bool) → isTimestamp s ≡ b → Wrong ≡ cond b (Right (momentOf s)) Wrong → refuses cause.BadTimestamp ≡ timestampOf s
       go true h e = let z : _≡_ {A = ℕ} 0 1 = cc in absurd (omega arith)
       go false h e = rw (u, h)
 
-  pub answer-not-utf8 : utf8 s ≡ false → refuses 2 ≡ timestampOf s
+  pub answer-not-utf8 : utf8 s ≡ false → refuses cause.NotUtf8 ≡ timestampOf s
   unfolding timestampOf
   answer-not-utf8 u = rw u
 
@@ -111,7 +112,7 @@ module _ (s : List ℕ) where
   unfolding timestampOf
   timestamp-read m e = go (utf8 s) (isTimestamp s) refl e
     where
-      go : (u b : Bool) → isTimestamp s ≡ b → cond u (cond b (gives (momentOf s)) (refuses 4)) (refuses 2) ≡ gives m → (isTimestamp s ≡ true) × (m ≡ momentOf s)
+      go : (u b : Bool) → isTimestamp s ≡ b → cond u (cond b (gives (momentOf s)) (refuses cause.BadTimestamp)) (refuses cause.NotUtf8) ≡ gives m → (isTimestamp s ≡ true) × (m ≡ momentOf s)
       go true true h e = (h, cc)
       go true false h e = let z : _≡_ {A = ℕ} 0 1 = cc in absurd (omega arith)
       go false b h e = let z : _≡_ {A = ℕ} 0 1 = cc in absurd (omega arith)

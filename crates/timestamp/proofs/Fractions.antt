@@ -1,25 +1,22 @@
 -- The fraction of a second: its digits, and what they stand for. Assumes nothing.
-use Prim.Native.Nat.{ℕ, suc, _+_, _-_, _*_, _^_, _≤_, _<_}
+use Prim.Native.Nat.{ℕ, suc, _+_, _-_, _≤_, _<_}
 use mathlib.Core.Path.{_≡_, refl, sym, ap, _∙_}
 use mathlib.Core.Bool.{Bool, true, false, cond, _&&_, and-eq-true-iff}
 use mathlib.Core.List.{List, [], _∷_}
-use native.Mathlib.Nat.{pow-suc, pow-le-pow-right, mul-assoc, mul-comm}
-use native.Mathlib.Numerals.{add-one}
 use native.Mathlib.Omega.{arith}
 use borrow.Author.Tests.{eq-eqb, ne-eqb, lt-leb, le-leb, leb-true, lt-ltb}
-use lib.Dec.{leb, ltb, eqb, lit<}
+use lib.Dec.{leb, ltb, eqb}
 use lib.ListN.{length, getD, take, drop, length-drop, drop-of-length-le}
 use lib.Seq.{length-take-le}
 use Rattle.area.proofs.Lists.{drop-next}
-use Rattle.digits.specs.Digits.{digit, isDigit, allDigits, value, isNumber}
-use Rattle.digits.proofs.Values.{value-below}
-use Rattle.digits.proofs.Numbers.{number-whole}
-use Rattle.fixed.specs.Fields.{part, fieldOf}
-use Rattle.fixed.specs.declared.Field.{Field}
+use Rattle.digits.specs.Digits.{digit, isDigit, allDigits}
+use Rattle.digits.specs.declared.Number.the-variants.{Is, Not}
+use Rattle.fraction.specs.Fraction.{isFraction, billionthsOf}
+use Rattle.fraction.proofs.Fractions.{is-fraction, not-fraction, nine-below}
+use Rattle.fixed.specs.Fields.{part}
 use Rattle.fixed.proofs.Tests.{fails}
-use Rattle.fixed.proofs.Numerals.{field-good, field-number}
-use Rattle.timestamp.specs.Timestamp.{digitRun, places, fractionTests}
-use Rattle.timestamp.specs.Leaves.{fractionOf}
+use Rattle.timestamp.specs.Timestamp.{digitRun, places, fractionTests, nanosOf}
+use Rattle.timestamp.specs.inside.Leaves.{fractionOf}
 use Rattle.timestamp.specs.declared.parts.Fraction.the-variants.{Of, NoFraction}
 
 -- ---- how many digits a text begins with
@@ -57,33 +54,6 @@ module _ (s : List ℕ) (i : ℕ) where
   pub run-next : i < length s → (t : Bool) → (leb 0x30 (getD s i 0) && leb (getD s i 0) 0x39) ≡ t → digitRun (drop i s) ≡ cond t (suc (digitRun (drop (i + 1) s))) 0
   run-next h t e = ap digitRun (drop-next s i h) ∙ rw (decimal-class (getD s i 0) ∙ e)
 
--- ---- moved to the ninth place
-pub record Scaling (v n r k : ℕ) : Type 0 where
-  pub within : k ≤ 9
-  pub small : r < 10 ^ k
-  pub same : r * 10 ^ (9 - k) ≡ v * 10 ^ (9 - n)
-
-pub scaling-small : {v n r k : ℕ} → Scaling v n r k → k < 9 → r * 10 < 1000000000
-scaling-small {v} {n} {r} {k} x h =
-    let b : 10 ^ k ≤ 10 ^ 8 = pow-le-pow-right (lit< tt) {i = k} {j = 8} (omega arith) in
-    omega (arith, x .small)
-
-pub scaling-more : {v n r k : ℕ} → Scaling v n r k → k < 9 → Scaling v n (r * 10) (k + 1)
-scaling-more {v} {n} {r} {k} x h =
-    let e : 9 - k ≡ suc (9 - (k + 1)) = omega arith in
-    let p : 10 ^ (9 - k) ≡ 10 * 10 ^ (9 - (k + 1)) = ap (λ (j : ℕ). 10 ^ j) e ∙ pow-suc 10 (9 - (k + 1)) ∙ mul-comm (10 ^ (9 - (k + 1))) 10 in
-    record {
-      within = omega arith;
-      small = rw (add-one k, pow-suc 10 k) (omega (arith, x .small));
-      same = mul-assoc r 10 (10 ^ (9 - (k + 1))) ∙ ap (λ (j : ℕ). r * j) (sym p) ∙ x .same;
-    }
-
-pub scaling-done : {v n r k : ℕ} → Scaling v n r k → 9 ≤ k → r ≡ v * 10 ^ (9 - n)
-scaling-done {v} {n} {r} {k} x h =
-    let e : k ≡ 9 = omega (arith, x .within) in
-    let z : r * 10 ^ (9 - k) ≡ r * 1 = ap (λ (j : ℕ). r * 10 ^ (9 - j)) e in
-    omega (arith, x .same)
-
 -- ---- the fraction that t may begin with
 module _ (t : List ℕ) where
   pub fraction-none : (getD t 0 0 ≡ 0x2E → ⊥) → Of 0 0 ≡ fractionOf t
@@ -111,8 +81,8 @@ module _ (t : List ℕ) where
     length-run : length (part 1 (places t) t) ≡ places t
     length-run = length-take-le (places t) (drop 1 t) (rw places-run (run-length (drop 1 t)))
 
-    pub point-below : value 10 (part 1 (places t) t) < 10 ^ places t
-    point-below = rw length-run at (value-below 10 (part 1 (places t) t) run-part)
+    pub run-fraction : isFraction (part 1 (places t) t) ≡ leb (places t) 9
+    run-fraction = rw (run-part, length-run)
 
     module _ (n : ℕ) (e : n ≡ digitRun (drop 1 t)) where
       count : n ≡ places t
@@ -122,26 +92,26 @@ module _ (t : List ℕ) where
       unfolding fractionOf
       fraction-empty h = rw (fails (fractionTests t) 0 (rw (eq-eqb (getD t 0 0) 0x2E p) (lt-leb 1 (places t) (omega (arith, count)))))
 
-      pub fraction-long : 9 < n → NoFraction ≡ fractionOf t
-      unfolding fractionOf
-      fraction-long h = rw (fails (fractionTests t) 1 (lt-leb (places t) 9 (omega (arith, count))))
+      -- the digits, as code has them that stops in front of m
+      module _ (m : ℕ) (em : m - 1 ≡ n) where
+        digits-at : part 1 (m - 1) t ≡ part 1 (places t) t
+        digits-at = ap (λ (k : ℕ). part 1 k t) (em ∙ count)
 
-      module _ (f : Field) (ef : f ≡ fieldOf 10 999999999 (part 1 n t)) (lo : 1 ≤ n) (hi : n ≤ 9) where
-        pub fraction-value : f .number ≡ value 10 (part 1 (places t) t)
-        fraction-value =
-            let g : isNumber 10 999999999 (part 1 (places t) t) ≡ true =
-            (let b : 10 ^ places t ≤ 10 ^ 9 = pow-le-pow-right (lit< tt) {i = places t} {j = 9} (omega (arith, count)) in
-            number-whole 10 999999999 (part 1 (places t) t) (omega (arith, length-run, count)) run-part (omega (arith, point-below))) in
-            let e′ : f ≡ fieldOf 10 999999999 (part 1 (places t) t) = ef ∙ ap (λ (k : ℕ). fieldOf 10 999999999 (part 1 k t)) count in
-            field-number 10 999999999 (part 1 (places t) t) f e′ (field-good 10 999999999 (part 1 (places t) t) f e′ ∙ g)
-
-        pub fraction-small : f .number < 10 ^ n
-        fraction-small = rw (fraction-value, count) point-below
-
-        pub fraction-right : (r : ℕ) → r ≡ f .number * 10 ^ (9 - n) → Of r (n + 1) ≡ fractionOf t
+        pub fraction-long : Not ≡ billionthsOf (part 1 (m - 1) t) → NoFraction ≡ fractionOf t
         unfolding fractionOf
-        fraction-right r er =
-            let b : eqb (getD t 0 0) 0x2E ≡ true = eq-eqb (getD t 0 0) 0x2E p in
-            let k : leb 1 (places t) ≡ true = le-leb 1 (places t) (omega (arith, count)) in
-            let j : leb (places t) 9 ≡ true = le-leb (places t) 9 (omega (arith, count)) in
-            rw (er, fraction-value, count, b, k, j)
+        fraction-long h = rw (fails (fractionTests t) 1 (sym run-fraction ∙ not-fraction (part 1 (places t) t) (h ∙ ap billionthsOf digits-at)))
+
+        module _ (v : ℕ) (h : Is v ≡ billionthsOf (part 1 (m - 1) t)) where
+          told : (isFraction (part 1 (places t) t) ≡ true) × (v ≡ nanosOf t)
+          told = is-fraction (part 1 (places t) t) v (h ∙ ap billionthsOf digits-at)
+
+          pub fraction-small : v < 1000000000
+          fraction-small = rw (told .1) (nine-below (part 1 (places t) t) (told .0))
+
+          pub fraction-right : 1 ≤ n → Of v (n + 1) ≡ fractionOf t
+          unfolding fractionOf
+          fraction-right lo =
+              let b : eqb (getD t 0 0) 0x2E ≡ true = eq-eqb (getD t 0 0) 0x2E p in
+              let k : leb 1 (places t) ≡ true = le-leb 1 (places t) (omega (arith, count)) in
+              let j : leb (places t) 9 ≡ true = sym run-fraction ∙ told .0 in
+              rw (told .1, count, b, k, j)

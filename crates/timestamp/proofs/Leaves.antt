@@ -10,9 +10,9 @@ use Rattle.fixed.specs.Fields.{part, all, fieldOf}
 use Rattle.fixed.specs.declared.Field.{Field}
 use Rattle.fixed.proofs.Tests.{passes, fails}
 use Rattle.fixed.proofs.Numerals.{field-good, field-number}
-use Rattle.timestamp.specs.Calendar.{monthLength}
+use Rattle.calendar.specs.Calendar.{monthLength}
 use Rattle.timestamp.specs.Timestamp.{yearOf, monthOf, dayOf, dateTests, clockTests, isUtc, offsetTests, awayOf}
-use Rattle.timestamp.specs.Leaves.{dateOf, clockOf, zoneOf}
+use Rattle.timestamp.specs.inside.Leaves.{dateOf, clockOf, zoneOf}
 use Rattle.timestamp.specs.declared.parts.Date.the-variants.{On, NoDate}
 use Rattle.timestamp.specs.declared.parts.Clock.the-variants.{At, NoClock}
 use Rattle.timestamp.specs.declared.parts.Zone.the-variants.{East, NoZone}

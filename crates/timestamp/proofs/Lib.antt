@@ -1,4 +1,3 @@
-pub mod Months
 pub mod Leaves
 pub mod Fractions
 pub mod Forms

@@ -1,23 +1,22 @@
 -- The moment of a timestamp is in range. Assumes nothing.
-use Prim.Native.Nat.{ℕ, _+_, _-_, _^_, _≤_, _<_}
-use mathlib.Core.Path.{_≡_, refl, sym, ap, _∙_}
+use Prim.Native.Nat.{ℕ, _+_, _-_, _≤_, _<_}
+use mathlib.Core.Path.{_≡_, refl, ap, _∙_}
 use mathlib.Core.Bool.{Bool, true, false, cond, _||_}
 use mathlib.Core.List.{List}
-use native.Mathlib.Nat.{mul-lt-mul-of-pos-right, one-le-pow}
 use native.Mathlib.Omega.{arith}
 use borrow.Author.Tests.{le-leb, leb-true, lt-ltb, ltb-true, eqb-true}
 use lib.Dec.{eqb, lit<}
 use lib.ListN.{getD}
-use lib.Pow.{pow-add}
 use Rattle.area.specs.Answer.{gives}
 use Rattle.digits.specs.Digits.{value, isNumber}
 use Rattle.digits.proofs.Numbers.{number-parts}
 use Rattle.fixed.specs.Fields.{part, all}
 use Rattle.fixed.proofs.Tests.{passes}
-use Rattle.timestamp.specs.Calendar.{monthLength}
+use Rattle.calendar.specs.Calendar.{monthLength}
 use Rattle.timestamp.specs.Timestamp.{dateTests, clockTests, hasPoint, places, fractionTests, nanosOf, isUtc, offsetTests, awayOf, offsetOf, tail, zone, timestampTests, isTimestamp, momentOf, timestampOf, rangeTests, inRange}
 use Rattle.timestamp.specs.declared.Moment.{Moment}
-use Rattle.timestamp.proofs.Fractions.{point-below}
+use Rattle.fraction.proofs.Fractions.{nine-below}
+use Rattle.timestamp.proofs.Fractions.{run-fraction}
 use Rattle.timestamp.proofs.Answers.{timestamp-read}
 
 pub record InRange (m : Moment) : Type 0 where
@@ -73,9 +72,7 @@ nanos-small t e = go (hasPoint t) refl
     go : (b : Bool) → hasPoint t ≡ b → nanosOf t < 1000000000
     go true h =
         let p = eqb-true (getD t 0 0) 0x2E h in
-        let k : places t ≤ 9 = leb-true (places t) 9 (passes (fractionTests t) 1 e) in
-        let z : places t + (9 - places t) ≡ 9 = omega arith in
-        rw (ap (λ (j : ℕ). 10 ^ j) (sym z) ∙ pow-add 10 (places t) (9 - places t)) (mul-lt-mul-of-pos-right (point-below t p) (one-le-pow (9 - places t) 10 (lit< tt)))
+        nine-below (part 1 (places t) t) (run-fraction t p ∙ passes (fractionTests t) 1 e)
     go false h = rw h (lit< tt)
 
 offset-small : (z : List ℕ) → (isUtc z || all (offsetTests z)) ≡ true → offsetOf z ≤ 2878

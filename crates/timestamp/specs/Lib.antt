@@ -1,3 +1,2 @@
-pub mod Calendar
 pub mod Timestamp
-pub mod Leaves
+pub mod inside

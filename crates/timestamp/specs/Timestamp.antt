@@ -1,5 +1,5 @@
 -- Timestamps by RFC 3339, section 5.6, each rule by its name there. Definitions only.
-use Prim.Native.Nat.{ℕ, suc, _+_, _-_, _*_, _^_}
+use Prim.Native.Nat.{ℕ, suc, _+_, _-_, _*_}
 use mathlib.Core.Bool.{Bool, not, _&&_, _||_, cond}
 use mathlib.Core.List.{List, [], _∷_}
 use lib.ListN.{length, getD, drop}
@@ -8,10 +8,12 @@ use Rattle.area.specs.Answer.{Answer, gives, refuses}
 use Rattle.utf8.specs.Utf8.{utf8}
 use Rattle.digits.specs.Digits.{isDigit, isNumber, value}
 use Rattle.fixed.specs.Fields.{part, all}
-use Rattle.timestamp.specs.Calendar.{monthLength}
+use Rattle.calendar.specs.Calendar.{monthLength}
+use Rattle.fraction.specs.Fraction.{billionths}
 use Rattle.timestamp.specs.declared.Moment.{Moment}
 use Rattle.timestamp.specs.declared.Timestamp.{Timestamp}
 use Rattle.timestamp.specs.declared.Timestamp.the-variants.{Is, NotUtf8, Bad}
+use Rattle.refusal.specs.declared.Cause.the-variants as cause
 
 -- full-date = date-fullyear "-" date-month "-" date-mday, the bytes 0 to 9
 abbrev pub yearOf : List ℕ → ℕ
@@ -23,7 +25,7 @@ monthOf s = value 10 (part 5 2 s)
 abbrev pub dayOf : List ℕ → ℕ
 dayOf s = value 10 (part 8 2 s)
 
--- "real dates in every year 0000–9999"
+-- dates that there are, in every year from 0000 to 9999
 abbrev pub dateTests : List ℕ → List Bool
 dateTests s =
     isNumber 10 9999 (part 0 4 s) ∷ eqb (getD s 4 0) 0x2D
@@ -67,7 +69,7 @@ abbrev pub fractionTests : List ℕ → List Bool
 fractionTests t = (not (hasPoint t) || leb 1 (places t)) ∷ leb (places t) 9 ∷ []
 
 abbrev pub nanosOf : List ℕ → ℕ
-nanosOf t = value 10 (part 1 (places t) t) * 10 ^ (9 - places t)
+nanosOf t = billionths (part 1 (places t) t)
 
 abbrev pub fractionWidth : List ℕ → ℕ
 fractionWidth t = cond (hasPoint t) (places t + 1) 0
@@ -118,11 +120,11 @@ momentOf s = record {
 
 abbrev pub timestampAnswer : Timestamp → Answer Moment
 timestampAnswer (Is m) = gives m
-timestampAnswer NotUtf8 = refuses 2
-timestampAnswer Bad = refuses 4
+timestampAnswer NotUtf8 = refuses cause.NotUtf8
+timestampAnswer Bad = refuses cause.BadTimestamp
 
 unfoldable pub timestampOf : List ℕ → Answer Moment
-timestampOf s = cond (utf8 s) (cond (isTimestamp s) (gives (momentOf s)) (refuses 4)) (refuses 2)
+timestampOf s = cond (utf8 s) (cond (isTimestamp s) (gives (momentOf s)) (refuses cause.BadTimestamp)) (refuses cause.NotUtf8)
 
 -- "timestamps in the ranges above"
 abbrev pub rangeTests : Moment → List Bool

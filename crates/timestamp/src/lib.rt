@@ -1,5 +1,4 @@
 // Timestamps by RFC 3339, read from their text.
-pub mod calendar;
 mod parts;
 
 use calendar::month_length;
@@ -9,7 +8,7 @@ use parts::Fraction;
 use parts::Zone;
 ghost use mathlib.Core.Path.{_≡_};
 ghost use Rattle.timestamp.specs.Timestamp.{timestampAnswer, timestampOf, inRange};
-ghost use Rattle.timestamp.specs.Leaves.{formOf};
+ghost use Rattle.timestamp.specs.inside.Leaves.{formOf};
 
 // A moment as it is written; `offset` is minutes east of UTC, and 1439.
 pub struct Moment {

@@ -1,11 +1,13 @@
 // The parts of a timestamp.
-use crate::calendar::month_length;
-use fixed::decimal_field;
+use calendar::month_length;
+use digits::Number;
+use fixed::decimal_at;
+use fraction::billionths_of;
 ghost use mathlib.Core.Path.{_≡_};
-ghost use Prim.Native.Nat.{_-_, _*_, _^_, _≤_, _<_};
+ghost use Prim.Native.Nat.{_≤_};
 ghost use lib.ListN.{length};
 ghost use Rattle.timestamp.specs.Timestamp.{digitRun};
-ghost use Rattle.timestamp.specs.Leaves.{dateOf, clockOf, fractionOf, zoneOf};
+ghost use Rattle.timestamp.specs.inside.Leaves.{dateOf, clockOf, fractionOf, zoneOf};
 
 // Year, month and day.
 pub enum Date {
@@ -35,9 +37,9 @@ pub fn date_of(s: &[u8]) -> Date
     requires { ⌜ 20 ≤ length (now s) ⌝ }
     ensures { λ r. ⌜ r ≡ dateOf (now (s .entry)) ⌝ }
 {
-    let y = decimal_field(&s[0..4], 9999);
-    let m = decimal_field(&s[5..7], 12);
-    let d = decimal_field(&s[8..10], 31);
+    let y = decimal_at(s, 0, 4, 9999);
+    let m = decimal_at(s, 5, 2, 12);
+    let d = decimal_at(s, 8, 2, 31);
     let year = y.number as u16;
     let month = m.number as u8;
     let day = d.number as u8;
@@ -52,9 +54,9 @@ pub fn clock_of(s: &[u8]) -> Clock
     requires { ⌜ 20 ≤ length (now s) ⌝ }
     ensures { λ r. ⌜ r ≡ clockOf (now (s .entry)) ⌝ }
 {
-    let hour = decimal_field(&s[11..13], 23);
-    let minute = decimal_field(&s[14..16], 59);
-    let second = decimal_field(&s[17..19], 59);
+    let hour = decimal_at(s, 11, 2, 23);
+    let minute = decimal_at(s, 14, 2, 59);
+    let second = decimal_at(s, 17, 2, 59);
     let letter = (s[10] == 0x54) | (s[10] == 0x74);
     if letter & hour.good & (s[13] == 0x3a) & minute.good & (s[16] == 0x3a) & second.good {
         return Clock::At(hour.number as u8, minute.number as u8, second.number as u8);
@@ -78,20 +80,6 @@ fn digit_run(s: &[u8]) -> usize
     i
 }
 
-// n digits of a fraction as nanoseconds.
-fn scaled(v: u32, n: usize) -> u32
-    requires { ⌜ (n ≤ 9) × (v < 10 ^ n) ⌝ }
-    ensures { λ r. ⌜ r ≡ v * 10 ^ (9 - n) ⌝ }
-{
-    let mut nanos = v;
-    let mut k = n;
-    while k < 9 {
-        nanos *= 10;
-        k += 1;
-    }
-    nanos
-}
-
 pub fn fraction_of(t: &[u8]) -> Fraction
     requires { ⌜ 1 ≤ length (now t) ⌝ }
     ensures { λ r. ⌜ r ≡ fractionOf (now (t .entry)) ⌝ }
@@ -103,12 +91,12 @@ pub fn fraction_of(t: &[u8]) -> Fraction
     if n < 1 {
         return Fraction::NoFraction;
     }
-    if 9 < n {
-        return Fraction::NoFraction;
-    }
     let end = n + 1;
-    let f = decimal_field(&t[1..end], 999999999);
-    Fraction::Of(scaled(f.number, n), end)
+    let f = billionths_of(&t[1..end]);
+    let Number::Is(nanos) = f else {
+        return Fraction::NoFraction;
+    };
+    Fraction::Of(nanos as u32, end)
 }
 
 pub fn zone_of(z: &[u8]) -> Zone
@@ -123,8 +111,8 @@ pub fn zone_of(z: &[u8]) -> Zone
     if z.len() != 6 {
         return Zone::NoZone;
     }
-    let hour = decimal_field(&z[1..3], 23);
-    let minute = decimal_field(&z[4..6], 59);
+    let hour = decimal_at(z, 1, 2, 23);
+    let minute = decimal_at(z, 4, 2, 59);
     let away = (hour.number * 60 + minute.number) as u16;
     if hour.good & (z[3] == 0x3a) & minute.good {
         if z[0] == 0x2b {

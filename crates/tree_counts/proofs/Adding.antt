@@ -6,9 +6,13 @@ use native.Mathlib.Omega.{arith}
 use native.Mathlib.Decide.{decLt}
 use borrow.Author.Tests.{le-leb, lt-leb, leb-true}
 use lib.Dec.{leb}
-use Rattle.area.specs.Answer.{gives, refuses}
+use Rattle.refusal.specs.Refusal.{accepted, refused, late, refusalFrom, noRefusal}
+use Rattle.refusal.specs.declared.Cause.the-variants.{CountLimit}
+use Rattle.refusal.specs.declared.Refusal.{Refusal}
+use Rattle.refusal.specs.declared.Verdict.the-variants.{Accepted, Refused}
 use Rattle.tree_counts.specs.declared.Counts.{Counts}
-use Rattle.tree_counts.specs.Counts.{isCount, areCounts, kept, disabledOf, added, withSuite}
+use Rattle.tree_counts.specs.declared.Counted.{Counted}
+use Rattle.tree_counts.specs.Counts.{isCount, areCounts, disabledOf, added, withSuite, countedFrom}
 
 -- a sum is a count where one part is at most the limit less the other
 pub sum-test : (most a b : ℕ) → b ≤ most → leb a (most - b) ≡ leb (a + b) most
@@ -55,10 +59,17 @@ module _ (c s : Counts) where
   pub tested : {own more : ℕ} {t f e k d : Bool} → own ≡ disabledOf c → more ≡ disabledOf s → t ≡ isCount (c .tests + s .tests) → f ≡ isCount (c .failures + s .failures) → e ≡ isCount (c .errors + s .errors) → k ≡ isCount (c .skipped + s .skipped) → d ≡ isCount (own + more) → (t && (f && (e && (k && d)))) ≡ areCounts (added c s)
   tested o m t f e k d = rw (t, f, e, k, d, o, m)
 
-  pub adding : areCounts (added c s) ≡ true → (gives (added c s) ≡ withSuite c s) × (added c s ≡ kept (withSuite c s) c)
+  pub adding : areCounts (added c s) ≡ true → withSuite c s ≡ accepted (added c s)
   unfolding withSuite
-  adding e = (rw e refl, rw e refl)
+  adding e = rw e refl
 
-  pub refusing : areCounts (added c s) ≡ false → (refuses 17 ≡ withSuite c s) × (c ≡ kept (withSuite c s) c)
+  pub refusing : areCounts (added c s) ≡ false → withSuite c s ≡ refused (late CountLimit)
   unfolding withSuite
-  refusing e = (rw e refl, rw e refl)
+  refusing e = rw e refl
+
+  -- the answers whole; n is the counts that were made
+  pub adding-whole : {n : Counts} {r : Refusal} → areCounts (added c s) ≡ true → n ≡ added c s → r ≡ noRefusal → _≡_ {A = Counted} (record { verdict = Accepted; counts = n; refusal = r }) (countedFrom c (withSuite c s))
+  adding-whole e p q = rw (adding e, p, q) refl
+
+  pub refusing-whole : {r : Refusal} → areCounts (added c s) ≡ false → r ≡ refusalFrom (late CountLimit) → _≡_ {A = Counted} (record { verdict = Refused; counts = c; refusal = r }) (countedFrom c (withSuite c s))
+  refusing-whole e q = rw (refusing e, q) refl

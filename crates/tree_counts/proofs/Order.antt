@@ -3,7 +3,8 @@ use Prim.Native.Nat.{ℕ, _+_}
 use mathlib.Core.Path.{_≡_, refl, sym, ap, _∙_}
 use mathlib.Core.Bool.{Bool, true, false, cond, _||_, or-assoc, or-comm}
 use native.Mathlib.Omega.{arith}
-use Rattle.area.specs.Answer.{gives, refuses}
+use Rattle.refusal.specs.Refusal.{accepted, refused, late}
+use Rattle.refusal.specs.declared.Cause.the-variants.{CountLimit}
 use Rattle.tree_counts.specs.declared.Counts.{Counts}
 use Rattle.tree_counts.specs.declared.Outcome.{Outcome}
 use Rattle.tree_counts.specs.declared.Outcome.the-variants.{Success, Failure, Error, Skipped}
@@ -11,26 +12,26 @@ use Rattle.tree_counts.specs.Counts.{areCounts, disabledOf, added, withS
 use Rattle.tree_counts.proofs.Adding.{Within, within, within-counts, adding, refusing}
 
 module _ (c s : Counts) where
-  pub gives-added : Within (added c s) → withSuite c s ≡ gives (added c s)
-  gives-added w = sym (adding c s (within-counts (added c s) w) .0)
+  pub gives-added : Within (added c s) → withSuite c s ≡ accepted (added c s)
+  gives-added w = adding c s (within-counts (added c s) w)
 
-  pub refuses-past : (Within (added c s) → ⊥) → withSuite c s ≡ refuses 17
+  pub refuses-past : (Within (added c s) → ⊥) → withSuite c s ≡ refused (late CountLimit)
   refuses-past h = go (areCounts (added c s)) refl
     where
-      go : (b : Bool) → areCounts (added c s) ≡ b → withSuite c s ≡ refuses 17
+      go : (b : Bool) → areCounts (added c s) ≡ b → withSuite c s ≡ refused (late CountLimit)
       go true t = absurd (h (within (added c s) t))
-      go false t = sym (refusing c s t .0)
+      go false t = refusing c s t
 
   -- what is given is the sums, all within the limit
-  pub given : {n : Counts} → withSuite c s ≡ gives n → (n ≡ added c s) × Within n
+  pub given : {n : Counts} → withSuite c s ≡ accepted n → (n ≡ added c s) × Within n
   given {n} e = go (areCounts (added c s)) refl
     where
       go : (b : Bool) → areCounts (added c s) ≡ b → (n ≡ added c s) × Within n
       go true t =
-          let same : n ≡ added c s = cc (adding c s t .0) in
+          let same : n ≡ added c s = cc (adding c s t) in
           (same, rw same (within (added c s) t))
       go false t =
-          let z : _≡_ {A = ℕ} 0 1 = cc (refusing c s t .0) in
+          let z : _≡_ {A = ℕ} 0 1 = cc (refusing c s t) in
           absurd (omega arith)
 
   -- the count of disabled tests is a sum too, whichever of the two are missing
@@ -44,7 +45,7 @@ module _ (c s : Counts) where
       go false false = refl
 
 -- "tests there, add a case": 17, whatever the case comes to
-pub full : (c : Counts) (o : Outcome) → c .tests ≡ 18446744073709551615 → withCase c o ≡ refuses 17
+pub full : (c : Counts) (o : Outcome) → c .tests ≡ 18446744073709551615 → withCase c o ≡ refused (late CountLimit)
 full c o e = refuses-past c (caseCounts o) (λ w. omega (arith, w .tests, one o))
   where
     one : (o : Outcome) → caseCounts o .tests ≡ 1
@@ -65,7 +66,7 @@ module _ (c s t : Counts) where
       cc
 
   -- where s and then t can be added, t and then s can, with the same sums
-  pub order : {n m : Counts} → withSuite c s ≡ gives n → withSuite n t ≡ gives m → (withSuite c t ≡ gives (added c t)) × (withSuite (added c t) s ≡ gives m)
+  pub order : {n m : Counts} → withSuite c s ≡ accepted n → withSuite n t ≡ accepted m → (withSuite c t ≡ accepted (added c t)) × (withSuite (added c t) s ≡ accepted m)
   order {n} {m} e h =
       let first = given c s e in
       let second = given n t h in
@@ -82,5 +83,5 @@ module _ (c s t : Counts) where
               skipped = omega (arith, w .skipped);
               disabled = omega (arith, w .disabled, disabled-added c s);
             },
-        gives-added (added c t) s swapped ∙ ap gives (sym (sum ∙ added-swap)),
+        gives-added (added c t) s swapped ∙ ap accepted (sym (sum ∙ added-swap)),
       )

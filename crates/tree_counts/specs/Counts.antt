@@ -2,12 +2,11 @@
 use Prim.Native.Nat.{ℕ, _+_}
 use mathlib.Core.Bool.{Bool, false, cond, _&&_, _||_}
 use lib.Dec.{leb}
-use Rattle.area.specs.Answer.{Answer, gives, refuses}
+use Rattle.refusal.specs.Refusal.{Outcome as Result, accepted, refused, late, verdictOf, refusalOf}
+use Rattle.refusal.specs.declared.Cause.the-variants.{CountLimit}
 use Rattle.tree_counts.specs.declared.Counts.{Counts}
 use Rattle.tree_counts.specs.declared.Outcome.{Outcome}
 use Rattle.tree_counts.specs.declared.Outcome.the-variants.{Success, Failure, Error, Skipped}
-use Rattle.tree_counts.specs.declared.Verdict.{Verdict}
-use Rattle.tree_counts.specs.declared.Verdict.the-variants.{Added, Limit}
 use Rattle.tree_counts.specs.declared.Counted.{Counted}
 
 -- "a count would pass 18446744073709551615"
@@ -17,21 +16,9 @@ isCount n = leb n 18446744073709551615
 abbrev pub areCounts : Counts → Bool
 areCounts c = isCount (c .tests) && (isCount (c .failures) && (isCount (c .errors) && (isCount (c .skipped) && isCount (c .disabled))))
 
--- the counts, or 17 for one that would pass the limit
-abbrev pub verdictAnswer : Verdict → Counts → Answer Counts
-verdictAnswer Added c = gives c
-verdictAnswer Limit c = refuses 17
-
-abbrev pub countedAnswer : Counted → Answer Counts
-countedAnswer r = verdictAnswer (r .verdict) (r .counts)
-
-abbrev pub limited : Counts → Answer Counts
-limited c = cond (areCounts c) (gives c) (refuses 17)
-
--- the counts that come back: "counts unchanged" where 17 is due
-abbrev pub kept : Answer Counts → Counts → Counts
-kept (gives c) old = c
-kept (refuses n) old = old
+-- the counts, or 17 where one would pass the limit
+abbrev pub limited : Counts → Result Counts
+limited c = cond (areCounts c) (accepted c) (refused (late CountLimit))
 
 -- a missing count of disabled tests counts 0
 abbrev pub disabledOf : Counts → ℕ
@@ -49,7 +36,7 @@ added c s =
       disabled = disabledOf c + disabledOf s;
     }
 
-unfoldable pub withSuite : Counts → Counts → Answer Counts
+unfoldable pub withSuite : Counts → Counts → Result Counts
 withSuite c s = limited (added c s)
 
 -- one case by its status, as counts: failures, errors, skipped
@@ -63,5 +50,14 @@ caseCounts Error = oneCase 0 1 0
 caseCounts Skipped = oneCase 0 0 1
 
 -- "a case added raises tests and its status"
-abbrev pub withCase : Counts → Outcome → Answer Counts
+abbrev pub withCase : Counts → Outcome → Result Counts
 withCase c o = withSuite c (caseCounts o)
+
+-- the counts that come back: "counts unchanged" where 17 is due
+abbrev pub kept : Counts → Result Counts → Counts
+kept old (accepted c) = c
+kept old (refused r) = old
+
+-- the whole answer of a call on the counts `old`
+abbrev pub countedFrom : Counts → Result Counts → Counted
+countedFrom old a = record { verdict = verdictOf a; counts = kept old a; refusal = refusalOf a }

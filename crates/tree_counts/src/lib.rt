@@ -1,7 +1,12 @@
 // The counts of a suite and of a report (report.rs of the crate): they go in by value and come back by value.
+use refusal::Cause;
+use refusal::Refusal;
+use refusal::Verdict;
+use refusal::no_refusal;
+use refusal::refuse_late;
 ghost use mathlib.Core.Path.{_≡_};
 ghost use Prim.Native.Nat.{_+_};
-ghost use Rattle.tree_counts.specs.Counts.{isCount, countedAnswer, disabledOf, withSuite, oneCase, caseCounts, withCase, kept};
+ghost use Rattle.tree_counts.specs.Counts.{isCount, disabledOf, withSuite, oneCase, caseCounts, withCase, countedFrom};
 
 pub struct Counts {
     pub tests: u64,
@@ -21,15 +26,11 @@ pub enum Outcome {
     Skipped,
 }
 
-pub enum Verdict {
-    Added,
-    Limit,
-}
-
 // The counts with what was added, or as they were where one would pass the limit.
 pub struct Counted {
     pub verdict: Verdict,
     pub counts: Counts,
+    pub refusal: Refusal,
 }
 
 // Whether a + b is a count.
@@ -75,8 +76,7 @@ fn counts_of(outcome: Outcome) -> Counts
 
 impl Counts {
     pub fn add_test_suite(self, suite: Counts) -> Counted
-        ensures { λ r. ⌜ countedAnswer r ≡ withSuite self suite ⌝ }
-        ensures { λ r. ⌜ r .counts ≡ kept (withSuite self suite) self ⌝ }
+        ensures { λ r. ⌜ r ≡ countedFrom self (withSuite self suite) ⌝ }
     {
         let own = disabled_of(self);
         let more = disabled_of(suite);
@@ -86,7 +86,7 @@ impl Counts {
                     & (is_sum(self.skipped, suite.skipped) & is_sum(own, more))))
         {
             return Counted {
-                verdict: Verdict::Added,
+                verdict: Verdict::Accepted,
                 counts: Counts {
                     tests: self.tests + suite.tests,
                     failures: self.failures + suite.failures,
@@ -95,17 +95,18 @@ impl Counts {
                     presence: self.presence | suite.presence,
                     disabled: own + more,
                 },
+                refusal: no_refusal(),
             };
         }
         Counted {
-            verdict: Verdict::Limit,
+            verdict: Verdict::Refused,
             counts: self,
+            refusal: refuse_late(Cause::CountLimit),
         }
     }
 
     pub fn add_test_case(self, outcome: Outcome) -> Counted
-        ensures { λ r. ⌜ countedAnswer r ≡ withCase self outcome ⌝ }
-        ensures { λ r. ⌜ r .counts ≡ kept (withCase self outcome) self ⌝ }
+        ensures { λ r. ⌜ r ≡ countedFrom self (withCase self outcome) ⌝ }
     {
         self.add_test_suite(counts_of(outcome))
     }

@@ -1,13 +1,12 @@
 -- The texts of the text area, up to the first zero byte. Assumes nothing.
-use Prim.Native.Nat.{ℕ, suc, _+_, _-_, _≤_, _<_}
+use Prim.Native.Nat.{ℕ, suc, _-_, _≤_}
 use mathlib.Core.Bool.{Bool, true, false, cond, _&&_}
 use mathlib.Core.List.{List, [], _∷_}
 use mathlib.Core.Path.{_≡_, refl, ap, _∙_}
 use native.Mathlib.Omega.{arith}
-use borrow.Author.Tests.{eq-eqb, ne-eqb}
 use lib.Dec.{eqb}
-use lib.ListN.{length, take, drop, getD, drop-of-length-le}
-use Rattle.area.proofs.Lists.{drop-next}
+use lib.ListN.{length, take, drop}
+use Rattle.area.specs.Area.{firstAt}
 use Rattle.area.proofs.Parts.{rest-part}
 use Rattle.utf8.specs.Utf8.{utf8}
 use Rattle.text.specs.Filter.{unfiltered}
@@ -29,34 +28,17 @@ filled-length (b ∷ s) = go (eqb b 0) (filled-length s)
     go true h = omega arith
     go false h = omega arith
 
--- the first i bytes are no zero bytes
-pub record Filling (s : List ℕ) (i : ℕ) : Type 0 where
-  pub fits : i ≤ length s
-  pub left : length (filled s) ≡ i + length (filled (drop i s))
+-- they end in front of the first zero byte
+first-filled : (s : List ℕ) → firstAt 0 s ≡ length (filled s)
+first-filled [] = refl
+first-filled (b ∷ s) = go (eqb b 0) (first-filled s)
+  where
+    go : (t : Bool) → firstAt 0 s ≡ length (filled s) → cond t 0 (suc (firstAt 0 s)) ≡ length (cond t [] (b ∷ filled s))
+    go true h = refl
+    go false h = ap suc h
 
-pub filling-start : (s : List ℕ) → Filling s 0
-filling-start s = record { fits = omega arith; left = omega arith }
-
-module _ {s : List ℕ} {i : ℕ} (m : Filling s i) where
-  next : i < length s → filled (drop i s) ≡ cond (eqb (getD s i 0) 0) [] (getD s i 0 ∷ filled (drop (i + 1) s))
-  next h = ap filled (drop-next s i h)
-
-  pub filling-more : i < length s → (getD s i 0 ≡ 0 → ⊥) → Filling s (i + 1)
-  filling-more h e =
-      let n : filled (drop i s) ≡ getD s i 0 ∷ filled (drop (i + 1) s) = next h ∙ rw (ne-eqb (getD s i 0) 0 e) refl in
-      let z : length (filled (drop i s)) ≡ suc (length (filled (drop (i + 1) s))) = ap length n in
-      record { fits = omega arith; left = omega (arith, m .left) }
-
-  pub filling-zero : i < length s → getD s i 0 ≡ 0 → i ≡ length (filled s)
-  filling-zero h e =
-      let n : filled (drop i s) ≡ [] = next h ∙ rw (eq-eqb (getD s i 0) 0 e) refl in
-      let z : length (filled (drop i s)) ≡ 0 = ap length n in
-      omega (arith, m .left)
-
-  pub filling-done : length s ≤ i → i ≡ length (filled s)
-  filling-done h =
-      let z : length (filled (drop i s)) ≡ 0 = ap (λ (l : List ℕ). length (filled l)) (drop-of-length-le s {i = i} h) in
-      omega (arith, m .left)
+pub fill-first : (s : List ℕ) (fill : ℕ) → fill ≡ firstAt 0 s → fill ≡ length (filled s)
+fill-first s fill e = e ∙ first-filled s
 
 -- the three tests of the text area, from its fill
 pub good-text : (s : List ℕ) (fill : ℕ) → fill ≡ length (filled s) → (utf8 (take fill s) && (unfiltered (take fill s) && allZero (take (length s - fill) (drop fill s)))) ≡ goodText s

@@ -9,37 +9,14 @@ use lib.Dec.{leb, eqb}
 use lib.ListN.{length, getD, take, drop}
 use lib.Seq.{drop-drop, getD-drop, take-nil}
 use Rattle.area.proofs.Parts.{length-part}
-use Rattle.tree_report.specs.Fields.{kindOf, live, isReport, isSuite, isCase, isSuiteProperty, isCaseProperty, isSuiteExtra, isCaseExtra}
+use Rattle.tree_record.specs.Record.{kindOf, live}
+use Rattle.tree_status.specs.Status.{noStatus, Few}
+use Rattle.tree_status.proofs.Tallies.{few-more, few-none, few-tallied}
+use Rattle.tree_report.specs.Fields.{isReport, isSuite, isCase, isSuiteProperty, isCaseProperty, isSuiteExtra, isCaseExtra}
 use Rattle.tree_report.specs.Layout.{Open, allZero, goodRecord, allGood, nothing, mayEnd, mayFollow, following, goodOrder, recordsFrom}
-use Rattle.tree_report.specs.Status as rule
-use Rattle.tree_layout.specs.Open.{Few}
-use Rattle.tree_layout.specs.Walk.{admits, behind, standsAt, layoutFrom, walked}
+use Rattle.tree_layout.specs.inside.Walk.{admits, behind, standsAt, layoutFrom, walked}
 
 -- ---- no count of status elements is above the number of words passed
-pub few-more : {n m : ℕ} {t : rule.Tally} → Few n t → n ≤ m → Few m t
-few-more f h =
-    let a = f .mains in
-    let b = f .flaky in
-    let c = f .reruns in
-    record { mains = omega arith; flaky = omega arith; reruns = omega arith }
-
-few-none : (n : ℕ) → Few n rule.noStatus
-few-none n = record { mains = omega arith; flaky = omega arith; reruns = omega arith }
-
-few-cond : {n : ℕ} (b : Bool) {t u : rule.Tally} → Few n t → Few n u → Few n (cond b t u)
-few-cond true f g = f
-few-cond false f g = g
-
-few-tallied : {n : ℕ} {t : rule.Tally} (k : ℕ) → Few n t → Few (n + 32) (rule.tallied t k)
-unfolding rule.tallied
-few-tallied {n} {t} k f =
-    let a = f .mains in
-    let b = f .flaky in
-    let c = f .reruns in
-    few-cond (leb k 8) (record { mains = omega arith; flaky = omega arith; reruns = omega arith })
-    (few-cond (leb k 10) (record { mains = omega arith; flaky = omega arith; reruns = omega arith })
-    (record { mains = omega arith; flaky = omega arith; reruns = omega arith }))
-
 few-open : {n : ℕ} (b : Bool) (o p : Open) → Few n (o .tally) → Few n (p .tally) → Few n ((cond b o p) .tally)
 few-open true o p f g = f
 few-open false o p f g = g
@@ -47,7 +24,7 @@ few-open false o p f g = g
 few-following : {n : ℕ} (o : Open) (r : List ℕ) → Few n (o .tally) → Few (n + 32) ((following o r) .tally)
 unfolding following
 few-following {n} o r f =
-    let none : Few (n + 32) rule.noStatus = few-none (n + 32) in
+    let none : Few (n + 32) noStatus = few-none (n + 32) in
     let same : Few (n + 32) (o .tally) = few-more f (omega arith) in
     few-open (isReport r) _ _ none
     (few-open (isSuite r) _ _ none
@@ -55,7 +32,7 @@ few-following {n} o r f =
     (few-open (isSuiteExtra r || isCaseExtra r) _ _ same
     (few-open (isSuiteProperty r) _ _ none
     (few-open (isCaseProperty r) _ _ same
-    (few-tallied (kindOf r) f))))))
+    (few-more (few-tallied (o .tally) (kindOf r) f) (omega arith)))))))
 
 few-behind : {n : ℕ} (o : Open) (r : List ℕ) → Few n (o .tally) → Few (n + 32) ((behind o r) .tally)
 unfolding behind

@@ -6,8 +6,9 @@ use mathlib.Core.Path.{_≡_, refl, sym, ap, _∙_}
 use native.Mathlib.Nat.{min-zero, suc-min-suc, min-comm}
 use lib.ListN.{length, take, length-take}
 use lib.Seq.{take-nil}
+use Rattle.area.specs.Limits.{mostWords, mostBytes}
 use Rattle.tree_report.specs.Layout.{usedWords, usedText, filled, goodText, nothing, recordsOf, layout}
-use Rattle.tree_layout.specs.Walk.{layoutFrom, walked}
+use Rattle.tree_layout.specs.inside.Walk.{layoutFrom, walked}
 use Rattle.tree_layout.proofs.Filling.{filled-front}
 
 take-least : (l : List ℕ) (n : ℕ) → take (min (length l) n) l ≡ take n l
@@ -15,18 +16,18 @@ take-least [] n = take-nil (min 0 n) ∙ sym (take-nil n)
 take-least (x ∷ l) zero = rw (min-zero (suc (length l))) refl
 take-least (x ∷ l) (suc n) = rw (suc-min-suc (length l) n) (ap (λ (r : List ℕ). x ∷ r) (take-least l n))
 
-module _ (words text : List ℕ) (bytes fill limit : ℕ) (p : bytes ≡ min (length text) 16777216) (q : fill ≡ length (filled (take bytes text))) (m : limit ≡ min (length words) 2097152) where
+module _ (words text : List ℕ) (bytes fill limit : ℕ) (p : bytes ≡ min (length text) mostBytes) (q : fill ≡ length (filled (take bytes text))) (m : limit ≡ min (length words) mostWords) where
   used : take bytes text ≡ usedText text
-  used = ap (λ (n : ℕ). take n text) p ∙ take-least text 16777216
+  used = ap (λ (n : ℕ). take n text) p ∙ take-least text mostBytes
 
   texts : take fill (take bytes text) ≡ filled (usedText text)
   texts = ap (λ (n : ℕ). take n (take bytes text)) q ∙ filled-front (take bytes text) ∙ ap filled used
 
   limit-words : limit ≡ length (usedWords words)
-  limit-words = m ∙ min-comm (length words) 2097152 ∙ sym (length-take 2097152 words)
+  limit-words = m ∙ min-comm (length words) mostWords ∙ sym (length-take mostWords words)
 
   front : take limit words ≡ usedWords words
-  front = ap (λ (n : ℕ). take n words) m ∙ take-least words 2097152
+  front = ap (λ (n : ℕ). take n words) m ∙ take-least words mostWords
 
   pub layout-whole : (goodText (take bytes text) && walked (take fill (take bytes text)) words limit) ≡ layout words text
   unfolding walked layout layoutFrom recordsOf

@@ -4,20 +4,6 @@ ghost use lib.ListN.{length};
 ghost use Rattle.text.specs.Filter.{unfiltered};
 ghost use Rattle.tree_report.specs.Layout.{filled, allZero, goodText};
 
-// The place of the first zero byte, or the length.
-pub fn fill_of(s: &[u8]) -> usize
-    ensures { λ r. ⌜ r ≡ length (filled (now (s .entry))) ⌝ }
-{
-    let mut i = 0;
-    while i < s.len() {
-        if s[i] == 0 {
-            return i;
-        }
-        i += 1;
-    }
-    i
-}
-
 fn is_clean(s: &[u8]) -> bool
     ensures { λ r. ⌜ r ≡ unfiltered (now (s .entry)) ⌝ }
 {

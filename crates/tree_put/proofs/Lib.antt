@@ -1,3 +1,2 @@
-pub mod Bits
-pub mod Marks
 pub mod Puts
+pub mod Examples

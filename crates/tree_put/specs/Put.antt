@@ -1,28 +1,17 @@
 -- Words put into a record, docs/TREE.md. Definitions only.
-use Prim.Native.Nat.{ℕ, _+_, _/_, _%_, _^_, min}
+use Prim.Native.Nat.{ℕ, _+_, _/_, _%_, _^_}
 use mathlib.Core.List.{List, [], _∷_}
-use mathlib.Core.Bool.{Bool, cond}
-use lib.ListN.{getD, set}
-use lib.Dec.{eqb}
+use lib.ListN.{set}
 use Rattle.area.specs.Area.{zeros}
 use Rattle.timestamp.specs.declared.Moment.{Moment}
 use Rattle.uuid.specs.declared.Words.{Words}
+use Rattle.tree_record.specs.Words as word
+use Rattle.tree_record.specs.Bits as bit
+use Rattle.tree_record.specs.Record.{marked}
 
 -- a record of a kind with nothing in it
 abbrev pub blank : ℕ → List ℕ
 blank kind = kind ∷ zeros 31
-
--- "Word 1 holds the presence bits": the value of bit k from 0 to 9, the last; a higher k counts as 9
-abbrev pub maskOf : ℕ → ℕ
-maskOf k = 2 ^ min k 9
-
--- the presence bit k is set
-abbrev pub hasBit : ℕ → List ℕ → Bool
-hasBit k r = eqb (getD r 1 0 / maskOf k % 2) 1
-
--- the record with the presence bit k set
-unfoldable pub marked : ℕ → List ℕ → List ℕ
-marked k r = cond (hasBit k r) r (set r 1 (getD r 1 0 + maskOf k))
 
 -- two words from word o on
 abbrev pub putPair : ℕ → ℕ → ℕ → List ℕ → List ℕ
@@ -46,15 +35,15 @@ abbrev pub uuidWords : Words → List ℕ
 uuidWords w = w .a ∷ w .b ∷ w .c ∷ w .d ∷ []
 
 abbrev pub putUuid : Words → List ℕ → List ℕ
-putUuid w r = marked 1 (putWords 4 (uuidWords w) r)
+putUuid w r = marked bit.uuid (putWords word.uuid (uuidWords w) r)
 
 -- a timestamp: its eight words in the order of docs/TREE.md
 abbrev pub momentWords : Moment → List ℕ
 momentWords m = m .year ∷ m .month ∷ m .day ∷ m .hour ∷ m .minute ∷ m .second ∷ m .nanos ∷ m .offset ∷ []
 
 abbrev pub putMoment : Moment → List ℕ → List ℕ
-putMoment m r = marked 3 (putWords 8 (momentWords m) r)
+putMoment m r = marked bit.timestamp (putWords word.timestamp (momentWords m) r)
 
 -- a time: seconds and nanoseconds
 abbrev pub putTime : ℕ × ℕ → List ℕ → List ℕ
-putTime t r = marked 4 (putPair 16 (t .0) (t .1) r)
+putTime t r = marked bit.time (putPair word.time (t .0) (t .1) r)

@@ -1,1 +1,4 @@
 pub mod RecordLaws
+pub mod Bits
+pub mod Marks
+pub mod Examples

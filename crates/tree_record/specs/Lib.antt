@@ -1,1 +1,4 @@
+pub mod Words
+pub mod Bits
+pub mod Kinds
 pub mod Record

@@ -1,9 +1,12 @@
-// Records of 32 words: one read, one put, one word of one changed. A record stands at the front of the part it is given as.
-use area::Stored;
+// Records of 32 words: one word or one presence bit of one read or changed. A record stands at the front of the part it is
+// given as.
 ghost use mathlib.Core.Path.{_≡_};
-ghost use lib.ListN.{length, getD, set};
-ghost use Rattle.area.specs.Area.{storedAnswer, placing};
-ghost use Rattle.tree_record.specs.Record.{wholly};
+ghost use lib.ListN.{getD, set};
+ghost use Rattle.tree_record.specs.Record.{maskOf, hasBit, marked};
+
+pub mod bit;
+pub mod kind;
+pub mod word;
 
 // Word o of a record, 0 behind the part's end.
 pub fn field(words: &[u32], o: usize) -> u32
@@ -25,18 +28,33 @@ pub fn put_field(words: &mut [u32], o: usize, v: u32)
     words[o] = v;
 }
 
-// Puts a record at the front of the words, where there is room for all of it.
-pub fn put_record(words: &mut [u32], made: &[u32]) -> Stored
-    ensures { λ r. ⌜ storedAnswer 12 r ≡ placing 12 (length (now (words .entry))) (now (made .entry)) ⌝ }
-    ensures { λ r. ⌜ now (words .exit) ≡ wholly (now (words .entry)) (now (made .entry)) ⌝ }
+// The values of the ten presence bits.
+const MASKS: [u32; 10] = [1, 2, 4, 8, 16, 32, 64, 128, 256, 512];
+
+// A higher k counts as 9.
+fn mask_of(k: u32) -> u32
+    ensures { λ r. ⌜ r ≡ maskOf k ⌝ }
 {
-    if words.len() < made.len() {
-        return Stored::Full;
+    if 9 < k {
+        return 512;
     }
-    let mut i = 0;
-    while i < made.len() {
-        words[i] = made[i];
-        i += 1;
+    MASKS[k as usize]
+}
+
+// Whether the presence bit k is set.
+pub fn has_bit(words: &[u32], k: u32) -> bool
+    ensures { λ r. ⌜ r ≡ hasBit k (now (words .entry)) ⌝ }
+{
+    field(words, word::BITS) / mask_of(k) % 2 == 1
+}
+
+// Sets the presence bit k. Where it isn't set, the sum has no carry.
+pub fn put_bit(words: &mut [u32], k: u32)
+    ensures { λ _. ⌜ now (words .exit) ≡ marked k (now (words .entry)) ⌝ }
+{
+    if has_bit(words, k) {
+        return;
     }
-    Stored::Put(i)
+    let bits = field(words, word::BITS);
+    put_field(words, word::BITS, bits + mask_of(k));
 }

@@ -1,5 +1,5 @@
 -- The cells of a record: each is good in a layout, and is read back. Assumes nothing.
-use Prim.Native.Nat.{ℕ, zero, suc, _+_, _*_, _/_, _%_, _^_}
+use Prim.Native.Nat.{ℕ, zero, suc, _+_, _*_, _/_, _%_, _^_, min}
 use mathlib.Core.Bool.{Bool, true, false, cond}
 use mathlib.Core.List.{List, [], _∷_, _++_}
 use mathlib.Core.Option.{Option, none, some}
@@ -9,8 +9,9 @@ use native.Mathlib.Omega.{arith}
 use borrow.Author.Tests.{eq-eqb}
 use lib.Dec.{eqb}
 use lib.ListN.{getD, take, drop}
+use Rattle.tree_record.specs.Record.{maskOf}
 use Rattle.tree_report.specs.Encode.{Cell, isGiven, firstWord, secondWord, ofText, ofNumber, isSome, momentOrZero, timeOrZero, fitsMoment, fitsTime, flagsOf}
-use Rattle.tree_report.specs.Fields.{bit, given, textAt, numberAt, momentOf, timestamp, time}
+use Rattle.tree_report.specs.Fields.{hasBit, given, textAt, numberAt, momentOf, timestamp, time}
 use Rattle.tree_report.specs.Layout.{zeroAt, slot, textSlot, goodTextAt, momentSlot, timeSlot, bitsOf, onlyBits}
 use Rattle.timestamp.specs.declared.Moment.{Moment}
 use Rattle.tree_report.specs.Report.{Text, Duration}
@@ -35,7 +36,7 @@ bit-flag (suc k) (b ∷ bs) =
 -- what these bits come to, of all that are set
 abbrev pub weights : List ℕ → List Bool → ℕ
 weights [] bs = 0
-weights (k ∷ ks) bs = 2 ^ k * cond (getD bs k false) 1 0 + weights ks bs
+weights (k ∷ ks) bs = maskOf k * cond (getD bs (min k 9) false) 1 0 + weights ks bs
 
 weight : (b : Bool) (n : ℕ) → cond b n 0 ≡ n * cond b 1 0
 weight true n = omega arith
@@ -44,8 +45,8 @@ weight false n = omega arith
 bits-weights : (r : List ℕ) (bs : List Bool) → getD r 1 0 ≡ flagsOf bs → (ks : List ℕ) → bitsOf ks r ≡ weights ks bs
 bits-weights r bs e [] = refl
 bits-weights r bs e (k ∷ ks) =
-    let b : bit k r ≡ getD bs k false = ap (λ (n : ℕ). eqb (n / 2 ^ k % 2) 1) e ∙ bit-flag k bs in
-    rw (b, weight (getD bs k false) (2 ^ k), bits-weights r bs e ks) refl
+    let b : hasBit k r ≡ getD bs (min k 9) false = ap (λ (n : ℕ). eqb (n / maskOf k % 2) 1) e ∙ bit-flag (min k 9) bs in
+    rw (b, weight (getD bs (min k 9) false) (maskOf k), bits-weights r bs e ks) refl
 
 pub only-bits : (r : List ℕ) (bs : List Bool) (ks : List ℕ) → getD r 1 0 ≡ flagsOf bs → flagsOf bs ≡ weights ks bs → onlyBits ks r ≡ true
 only-bits r bs ks e h = eq-eqb (getD r 1 0) (bitsOf ks r) (e ∙ h ∙ sym (bits-weights r bs e ks))
@@ -57,19 +58,19 @@ Pairing r o a b = (getD r o 0 ≡ a) × (getD r (o + 1) 0 ≡ b) × (take 2 (dro
 
 pub record TextBack (texts r : List ℕ) (k o : ℕ) (t : Option Text) : Type 0 where
   pub good : textSlot texts r k o ≡ true
-  pub back : (z : List ℕ) → given (bit k r) (textAt (texts ++ z) r o) ≡ t
+  pub back : (z : List ℕ) → given (hasBit k r) (textAt (texts ++ z) r o) ≡ t
 
-pub text-back : {texts : List ℕ} {fill : ℕ} (r : List ℕ) (k o : ℕ) (t : Option Text) {ss : List Cell} → Standing texts fill (ofText t ∷ ss) → bit k r ≡ isGiven (ofText t)
+pub text-back : {texts : List ℕ} {fill : ℕ} (r : List ℕ) (k o : ℕ) (t : Option Text) {ss : List Cell} → Standing texts fill (ofText t ∷ ss) → hasBit k r ≡ isGiven (ofText t)
     → Pairing r o (firstWord fill (ofText t)) (secondWord (ofText t)) → TextBack texts r k o t
 unfolding goodTextAt
 text-back r k o none h b w = record { good = rw (b, w .2) refl; back = λ z. rw b refl }
 text-back r k o (some t) h b w = record { good = rw (b, w .0, w .1) (text-good h); back = λ z. rw (b, w .0, w .1) (ap (λ (s : Text). some s) (text-read h z)) }
 
 pub record NumberBack (r : List ℕ) (k o : ℕ) (n : Option ℕ) : Type 0 where
-  pub good : slot (bit k r) true (zeroAt r o 2) ≡ true
-  pub back : given (bit k r) (numberAt r o) ≡ n
+  pub good : slot (hasBit k r) true (zeroAt r o 2) ≡ true
+  pub back : given (hasBit k r) (numberAt r o) ≡ n
 
-pub number-back : (fill : ℕ) (r : List ℕ) (k o : ℕ) (n : Option ℕ) → bit k r ≡ isGiven (ofNumber n) → Pairing r o (firstWord fill (ofNumber n)) (secondWord (ofNumber n)) → NumberBack r k o n
+pub number-back : (fill : ℕ) (r : List ℕ) (k o : ℕ) (n : Option ℕ) → hasBit k r ≡ isGiven (ofNumber n) → Pairing r o (firstWord fill (ofNumber n)) (secondWord (ofNumber n)) → NumberBack r k o n
 number-back fill r k o none b w = record { good = rw (b, w .2) refl; back = rw b refl }
 number-back fill r k o (some n) b w = record { good = rw b refl; back = rw (b, w .0, w .1) (ap (λ (m : ℕ). some m) (mod-add-div' n 4294967296)) }
 
@@ -80,7 +81,7 @@ pub record MomentBack (r : List ℕ) (m : Option Moment) : Type 0 where
   pub good : fitsMoment m ≡ true → momentSlot r ≡ true
   pub back : timestamp r ≡ m
 
-pub moment-back : (r : List ℕ) (m : Option Moment) → bit 3 r ≡ isSome m → momentOf r ≡ momentOrZero m → take 8 (drop 8 r) ≡ momentWords (momentOrZero m) → MomentBack r m
+pub moment-back : (r : List ℕ) (m : Option Moment) → hasBit 3 r ≡ isSome m → momentOf r ≡ momentOrZero m → take 8 (drop 8 r) ≡ momentWords (momentOrZero m) → MomentBack r m
 moment-back r none b e w = record { good = λ f. rw (b, w) refl; back = rw b refl }
 moment-back r (some m) b e w = record { good = λ f. rw (b, e) f; back = rw (b, e) refl }
 
@@ -88,6 +89,6 @@ pub record TimeBack (r : List ℕ) (d : Option Duration) : Type 0 where
   pub good : fitsTime d ≡ true → timeSlot r ≡ true
   pub back : time r ≡ d
 
-pub time-back : (r : List ℕ) (d : Option Duration) → bit 4 r ≡ isSome d → Pairing r 16 (timeOrZero d .seconds) (timeOrZero d .nanos) → TimeBack r d
+pub time-back : (r : List ℕ) (d : Option Duration) → hasBit 4 r ≡ isSome d → Pairing r 16 (timeOrZero d .seconds) (timeOrZero d .nanos) → TimeBack r d
 time-back r none b w = record { good = λ f. rw (b, w .2) refl; back = rw b refl }
 time-back r (some d) b w = record { good = λ f. rw (b, w .0, w .1) f; back = rw (b, w .0, w .1) refl }

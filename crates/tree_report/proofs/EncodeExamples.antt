@@ -1,6 +1,6 @@
 -- Small reports, encoded and read back by computing. Assumes nothing.
 use mathlib.Core.Bool.{true, false}
-use mathlib.Core.List.{[], _∷_}
+use mathlib.Core.List.{[], _∷_, _++_}
 use mathlib.Core.Option.{none, some}
 use mathlib.Core.Path.{_≡_, refl}
 use Rattle.area.specs.Area.{zeros}
@@ -8,7 +8,7 @@ use Rattle.tree_report.specs.Encode.{recordAt, encode, wordsOf, textOf, 
 use Rattle.tree_report.specs.Layout.{goodText, goodTextAt, goodCommon, goodOutputs, goodCounts, goodReport, goodSuite, goodCase, bitsFor, goodOther, goodRecord, mayEnd, mayFollow, following, goodOrder, recordsFrom, recordsOf, layout}
 use Rattle.tree_report.specs.Report.{Counts, failure, flaky, nonSuccess, Report}
 use Rattle.tree_report.specs.ReportOf.{reportOf}
-use Rattle.tree_report.specs.Status.{tallied, ruled}
+use Rattle.tree_status.specs.Status.{tallied, ruled}
 use Rattle.utf8.specs.Utf8.{need, low, high}
 
 abbrev noCounts : Counts
@@ -77,3 +77,12 @@ flaky-layout = refl
 flaky-read : reportOf (wordsOf flakyFailure 200) (textOf flakyFailure 5) ≡ some flakyFailure
 unfolding reportOf wordsOf textOf encode recordAt recordsOf recordsFrom
 flaky-read = refl
+
+-- the suite's second extra has an empty value behind the first one's two bytes; the case's name stands behind it
+flaky-places : wordsOf flakyFailure 160 ≡
+    (1 ∷ 19 ∷ 0 ∷ 0 ∷ 1 ∷ 2 ∷ 3 ∷ 4 ∷ zeros 8) ++ ((8388607 ∷ 999999999 ∷ zeros 14)
+    ++ ((2 ∷ 257 ∷ 0 ∷ 1 ∷ zeros 14) ++ ((4294967295 ∷ 4294967295 ∷ 1 ∷ zeros 11)
+    ++ ((13 ∷ 3 ∷ 1 ∷ 0 ∷ 1 ∷ 2 ∷ zeros 26) ++ ((13 ∷ 3 ∷ 3 ∷ 0 ∷ 3 ∷ 0 ∷ zeros 26)
+    ++ ((3 ∷ 65 ∷ 3 ∷ 1 ∷ zeros 16) ++ (0 ∷ 1 ∷ zeros 10)))))))
+unfolding wordsOf encode recordAt
+flaky-places = refl

@@ -8,10 +8,11 @@ use borrow.Author.Tests.{le-leb, eq-eqb, ne-eqb, lt-ltb, le-ltb}
 use lib.Dec.{leb, ltb, eqb, lit≤}
 use lib.ListN.{length}
 use Rattle.tree_report.specs.Encode.{storedIn, presence, cellsOf, Row, recordAt, recordsAt, rowsOfEach, pairRow, mainRow, kindOfMain, kindOfRun, runRow, isFlakyAlone, statusRows, caseRow, caseRows, suiteRow, suiteRows, reportRow, rowsOf}
-use Rattle.tree_report.specs.Fields.{kindOf, live, bit}
+use Rattle.tree_report.specs.Fields.{kindOf, live, hasBit}
 use Rattle.tree_report.specs.Layout.{Open, nothing, over, mayEnd, mayFollow, following, goodOrder}
 use Rattle.tree_report.specs.Report.{Pair, NonSuccessKind, failure, error, FlakyOrRerun, flaky, rerun, TestRerun, Reason, TestCaseStatus, success, nonSuccess, skipped, TestCase, TestSuite, Report}
-use Rattle.tree_report.specs.Status.{Tally, noStatus, tallied, ruled}
+use Rattle.tree_status.specs.declared.Tally.{Tally}
+use Rattle.tree_status.specs.Status.{noStatus, tallied, ruled}
 use Rattle.tree_report.proofs.EncodeLists.{both}
 use Rattle.tree_report.proofs.EncodeCells.{bit-flag}
 use Rattle.tree_report.proofs.EncodeRecords.{run-bounds}
@@ -110,7 +111,7 @@ behindStatus o r = record {
   suiteList = o .suiteList;
   caseList = over (o .caseList);
   tally = tallied (o .tally) (kindOf r);
-  flagged = o .flagged || bit 9 r;
+  flagged = o .flagged || hasBit 9 r;
 }
 
 status-step : (o : Open) (r : List ℕ) (Q : Open → Type 0) → 6 ≤ kindOf r → kindOf r ≤ 12 → o .level ≡ 3 → Q (behindStatus o r) → Step o r Q

@@ -10,7 +10,7 @@ use borrow.Author.Tests.{lt-ltb, le-leb, lt-leb, ne-eqb}
 use lib.Dec.{eqb, leb, lit≤}
 use lib.ListN.{take, drop}
 use Rattle.tree_report.specs.Encode.{Cell, absent, firstWord, secondWord, isGiven, ofText, uuidFront, uuidBack, lowWord, highWord, fitsCell, fitsMoment, fitsTime, fitsRow, every, presence, cellsOf, Row, recordAt, flagsOf, pairRow, mainRow, kindOfMain, kindOfRun, runRow, caseRow, suiteRow, reportRow}
-use Rattle.tree_report.specs.Fields.{kindOf, bit, textAt, numberAt, first, systemOut, systemErr, second, description, stackTrace, uuid, timestamp, time, counts, assertions}
+use Rattle.tree_report.specs.Fields.{kindOf, hasBit, textAt, numberAt, first, systemOut, systemErr, second, description, stackTrace, uuid, timestamp, time, counts, assertions}
 use Rattle.tree_report.specs.Layout.{slot, zeroAt, goodCommon, goodOutputs, goodCounts, goodReport, goodSuite, goodCase, bitsFor, goodOther, goodRecord}
 use Rattle.timestamp.specs.declared.Moment.{Moment}
 use Rattle.uuid.specs.declared.Words.{Words}
@@ -299,10 +299,10 @@ good-suite s texts fill ss h f =
 
 -- ---- the report
 pub record UuidBack (r : List ℕ) (u : Option Words) : Type 0 where
-  pub good : slot (bit 1 r) true (zeroAt r 4 4) ≡ true
+  pub good : slot (hasBit 1 r) true (zeroAt r 4 4) ≡ true
   pub back : uuid r ≡ u
 
-uuid-back : (r : List ℕ) (fill : ℕ) (fill′ : ℕ) (u : Option Words) → bit 1 r ≡ isGiven (uuidFront u) → take 4 (drop 4 r) ≡ firstWord fill (uuidFront u) ∷ secondWord (uuidFront u) ∷ firstWord fill′ (uuidBack u) ∷ secondWord (uuidBack u) ∷ []
+uuid-back : (r : List ℕ) (fill : ℕ) (fill′ : ℕ) (u : Option Words) → hasBit 1 r ≡ isGiven (uuidFront u) → take 4 (drop 4 r) ≡ firstWord fill (uuidFront u) ∷ secondWord (uuidFront u) ∷ firstWord fill′ (uuidBack u) ∷ secondWord (uuidBack u) ∷ []
     → Pairing r 4 (firstWord fill (uuidFront u)) (secondWord (uuidFront u)) → Pairing r 6 (firstWord fill′ (uuidBack u)) (secondWord (uuidBack u)) → UuidBack r u
 uuid-back r fill fill′ none b w v v′ = record { good = rw (b, w) refl; back = rw b refl }
 uuid-back r fill fill′ (some u) b w v v′ = record { good = rw b refl; back = rw (b, v .0, v .1, v′ .0, v′ .1) refl }

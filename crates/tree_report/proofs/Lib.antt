@@ -8,3 +8,4 @@ pub mod EncodeOrder
 pub mod EncodeReading
 pub mod Encode
 pub mod EncodeExamples
+pub mod LayoutExamples

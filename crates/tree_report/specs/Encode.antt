@@ -6,12 +6,14 @@ use mathlib.Core.Option.{Option, none, some}
 use lib.ListN.{length}
 use lib.Dec.{leb}
 use Rattle.area.specs.Area.{zeros, laid}
+use Rattle.area.specs.Limits.{mostRecords, mostBytes}
 use Rattle.utf8.specs.Characters.{joined}
 use Rattle.utf8.specs.Utf8.{utf8}
 use Rattle.text.specs.Filter.{unfiltered}
 use Rattle.timestamp.specs.Timestamp.{inRange}
 use Rattle.timestamp.specs.declared.Moment.{Moment}
 use Rattle.uuid.specs.declared.Words.{Words}
+use Rattle.tree_record.specs.Kinds as kind
 use Rattle.tree_report.specs.Report.{Text, Duration, Pair, NonSuccessKind, failure, error, FlakyOrRerun, flaky, rerun, TestRerun, Reason, TestCaseStatus, success, nonSuccess, skipped, TestCase, TestSuite, Report}
 
 -- ---- two words of a record
@@ -77,7 +79,7 @@ uuidBack none = absent
 uuidBack (some u) = constant (u .c) (u .d)
 
 -- ---- one record
--- its parts from word 2 on, where Fields.antt finds them: at 2, 4, 6, 8, 16, 18, 20, 22, 24 and 26
+-- its parts from word 2 on, in the order of their words, where Fields.antt finds them
 pub record Row : Type 0 where
   pub kind : ℕ
   pub first : Cell
@@ -135,11 +137,11 @@ unfoldable pub recordAt : ℕ → Row → List ℕ
 recordAt fill r = r .kind ∷ flagsOf (presence r) ∷ cellWords fill (cellsOf r)
 
 -- ---- the records of a report, in their order: an element, its extras, its properties, and what else it holds
--- a property (4 of a suite, 5 of a case) or an extra (13, 14)
+-- a property or an extra
 abbrev pub pairRow : ℕ → Pair → Row
-pairRow kind p =
+pairRow k p =
     record {
-      kind = kind;
+      kind = k;
       first = written (p .key);
       out = written (p .value);
       err = absent;
@@ -153,11 +155,11 @@ pairRow kind p =
       isFlaky = false;
     }
 
--- a main: failure (6), error (7) or skipped (8)
+-- a main
 abbrev pub mainRow : ℕ → Bool → Reason → Row
-mainRow kind isFlaky r =
+mainRow k isFlaky r =
     record {
-      kind = kind;
+      kind = k;
       first = ofText (r .message);
       out = absent;
       err = absent;
@@ -172,14 +174,14 @@ mainRow kind isFlaky r =
     }
 
 abbrev pub kindOfMain : NonSuccessKind → ℕ
-kindOfMain failure = 6
-kindOfMain error = 7
+kindOfMain failure = kind.failure
+kindOfMain error = kind.error
 
 abbrev pub kindOfRun : FlakyOrRerun → NonSuccessKind → ℕ
-kindOfRun flaky failure = 9
-kindOfRun flaky error = 10
-kindOfRun rerun failure = 11
-kindOfRun rerun error = 12
+kindOfRun flaky failure = kind.flakyFailure
+kindOfRun flaky error = kind.flakyError
+kindOfRun rerun failure = kind.rerunFailure
+kindOfRun rerun error = kind.rerunError
 
 abbrev pub runRow : FlakyOrRerun → TestRerun → Row
 runRow family r =
@@ -206,13 +208,13 @@ isFlakyAlone rerun rs = false
 
 abbrev pub statusRows : TestCaseStatus → List Row
 statusRows (success runs) = map (runRow flaky) runs
-statusRows (nonSuccess kind reason family runs) = mainRow (kindOfMain kind) (isFlakyAlone family runs) reason ∷ map (runRow family) runs
-statusRows (skipped reason) = mainRow 8 false reason ∷ []
+statusRows (nonSuccess k reason family runs) = mainRow (kindOfMain k) (isFlakyAlone family runs) reason ∷ map (runRow family) runs
+statusRows (skipped reason) = mainRow kind.skipped false reason ∷ []
 
 abbrev pub caseRow : TestCase → Row
 caseRow c =
     record {
-      kind = 3;
+      kind = kind.case;
       first = written (c .name);
       out = ofText (c .systemOut);
       err = ofText (c .systemErr);
@@ -227,7 +229,7 @@ caseRow c =
     }
 
 abbrev pub caseRows : TestCase → List Row
-caseRows c = caseRow c ∷ (map (pairRow 14) (c .extra) ++ (map (pairRow 5) (c .properties) ++ statusRows (c .status)))
+caseRows c = caseRow c ∷ (map (pairRow kind.caseExtra) (c .extra) ++ (map (pairRow kind.caseProperty) (c .properties) ++ statusRows (c .status)))
 
 abbrev pub rowsOfEach : {A : Type 0} → (A → List Row) → List A → List Row
 rowsOfEach f [] = []
@@ -236,7 +238,7 @@ rowsOfEach f (x ∷ xs) = f x ++ rowsOfEach f xs
 abbrev pub suiteRow : TestSuite → Row
 suiteRow s =
     record {
-      kind = 2;
+      kind = kind.suite;
       first = written (s .name);
       out = ofText (s .systemOut);
       err = ofText (s .systemErr);
@@ -251,12 +253,12 @@ suiteRow s =
     }
 
 abbrev pub suiteRows : TestSuite → List Row
-suiteRows s = suiteRow s ∷ (map (pairRow 13) (s .extra) ++ (map (pairRow 4) (s .properties) ++ rowsOfEach caseRows (s .cases)))
+suiteRows s = suiteRow s ∷ (map (pairRow kind.suiteExtra) (s .extra) ++ (map (pairRow kind.suiteProperty) (s .properties) ++ rowsOfEach caseRows (s .cases)))
 
 abbrev pub reportRow : Report → Row
 reportRow r =
     record {
-      kind = 1;
+      kind = kind.report;
       first = ofText (r .name);
       out = uuidFront (r .uuid);
       err = uuidBack (r .uuid);
@@ -326,13 +328,13 @@ fitsRow r =
     every fitsCell (r .first ∷ r .out ∷ r .err ∷ r .second ∷ r .third ∷ r .fourth ∷ r .fifth ∷ r .sixth ∷ [])
     && (fitsMoment (r .timestamp) && fitsTime (r .time))
 
--- its records, "one for each suite, case, status element, property, extra and the report", and its texts fit the areas
+-- its records, one for each suite, case, status element, property, extra and the report, and its texts fit the areas
 -- and the limits; its texts, times and timestamps are such as a layout may have
 unfoldable pub fits : Report → ℕ → ℕ → Bool
 fits r words bytes =
     let rows = rowsOf r in
     let size = length (storedIn (cellsIn rows)) in
-    leb (length rows) 65536
+    leb (length rows) mostRecords
     && (leb (length rows * 32) words
-    && (leb size 16777216
+    && (leb size mostBytes
     && (leb size bytes && every fitsRow rows)))

@@ -1,5 +1,5 @@
 -- What a layout is, docs/TREE.md. Definitions only.
-use Prim.Native.Nat.{ℕ, zero, suc, _+_, _*_, _/_, _^_}
+use Prim.Native.Nat.{ℕ, zero, suc, _+_, _*_, _/_}
 use mathlib.Core.List.{List, [], _∷_}
 use mathlib.Core.Bool.{Bool, true, false, cond, not, _&&_, _||_}
 use lib.ListN.{length, getD, take, drop}
@@ -8,15 +8,21 @@ use Rattle.utf8.specs.Utf8.{utf8}
 use Rattle.utf8.specs.Characters.{boundary}
 use Rattle.text.specs.Filter.{unfiltered}
 use Rattle.timestamp.specs.Timestamp.{inRange}
-use Rattle.tree_report.specs.Fields.{kindOf, live, isReport, isSuite, isCase, isSuiteProperty, isCaseProperty, isSuiteExtra, isCaseExtra, bit, momentOf}
-use Rattle.tree_report.specs.Status.{Tally, noStatus, tallied, ruled}
+use Rattle.area.specs.Limits.{mostWords, mostBytes}
+use Rattle.tree_record.specs.Words as word
+use Rattle.tree_record.specs.Bits as bit
+use Rattle.tree_record.specs.Kinds as kind
+use Rattle.tree_record.specs.Record.{maskOf}
+use Rattle.tree_status.specs.declared.Tally.{Tally}
+use Rattle.tree_status.specs.Status.{noStatus, tallied, ruled}
+use Rattle.tree_report.specs.Fields.{kindOf, live, isReport, isSuite, isCase, isSuiteProperty, isCaseProperty, isSuiteExtra, isCaseExtra, hasBit, momentOf}
 
--- "of longer areas only that much is used": 65,536 records of 32 words, 16,777,216 bytes
+-- "of longer areas only that much is used"
 abbrev pub usedWords : List ℕ → List ℕ
-usedWords words = take 2097152 words
+usedWords words = take mostWords words
 
 abbrev pub usedText : List ℕ → List ℕ
-usedText text = take 16777216 text
+usedText text = take mostBytes text
 
 abbrev pub allZero : List ℕ → Bool
 allZero [] = true
@@ -47,58 +53,87 @@ abbrev pub slot : Bool → Bool → Bool → Bool
 slot present good absent = cond present good absent
 
 abbrev pub textSlot : List ℕ → List ℕ → ℕ → ℕ → Bool
-textSlot texts r k o = slot (bit k r) (goodTextAt texts r o) (zeroAt r o 2)
+textSlot texts r k o = slot (hasBit k r) (goodTextAt texts r o) (zeroAt r o 2)
 
 -- "its times and timestamps in the ranges above"
 abbrev pub momentSlot : List ℕ → Bool
-momentSlot r = slot (bit 3 r) (inRange (momentOf r)) (zeroAt r 8 8)
+momentSlot r = slot (hasBit bit.timestamp r) (inRange (momentOf r)) (zeroAt r word.timestamp 8)
 
 abbrev pub timeSlot : List ℕ → Bool
-timeSlot r = slot (bit 4 r) (leb (getD r 16 0) 8388607 && leb (getD r 17 0) 999999999) (zeroAt r 16 2)
+timeSlot r = slot (hasBit bit.time r) (leb (getD r word.seconds 0) 8388607 && leb (getD r word.timeNanos 0) 999999999) (zeroAt r word.time 2)
 
 -- no presence bits but these are set
 abbrev pub bitsOf : List ℕ → List ℕ → ℕ
 bitsOf [] r = 0
-bitsOf (k ∷ ks) r = cond (bit k r) (2 ^ k) 0 + bitsOf ks r
+bitsOf (k ∷ ks) r = cond (hasBit k r) (maskOf k) 0 + bitsOf ks r
 
 abbrev pub onlyBits : List ℕ → List ℕ → Bool
-onlyBits ks r = eqb (getD r 1 0) (bitsOf ks r)
+onlyBits ks r = eqb (getD r word.bits 0) (bitsOf ks r)
 
--- what every record has: a first text, a timestamp, a time
+-- what every record has: a name, message or key, a timestamp, a time
 unfoldable pub goodCommon : List ℕ → List ℕ → Bool
-goodCommon texts r = textSlot texts r 0 2 && (momentSlot r && timeSlot r)
+goodCommon texts r = textSlot texts r bit.name word.name && (momentSlot r && timeSlot r)
 
+-- the texts of an output, or a value
 unfoldable pub goodOutputs : List ℕ → List ℕ → Bool
-goodOutputs texts r = textSlot texts r 1 4 && textSlot texts r 2 6
+goodOutputs texts r = textSlot texts r bit.out word.out && textSlot texts r bit.err word.err
 
 -- counts may be anything; words 28 to 31 are free
 unfoldable pub goodCounts : List ℕ → Bool
-goodCounts r = slot (bit 8 r) true (zeroAt r 26 2) && zeroAt r 28 4
+goodCounts r = slot (hasBit bit.disabled r) true (zeroAt r word.disabled 2) && zeroAt r 28 4
+
+abbrev pub reportBits : List ℕ
+reportBits = bit.name ∷ bit.uuid ∷ bit.timestamp ∷ bit.time ∷ bit.disabled ∷ []
+
+abbrev pub suiteBits : List ℕ
+suiteBits = bit.name ∷ bit.out ∷ bit.err ∷ bit.timestamp ∷ bit.time ∷ bit.disabled ∷ []
+
+abbrev pub caseBits : List ℕ
+caseBits = bit.name ∷ bit.out ∷ bit.err ∷ bit.timestamp ∷ bit.time ∷ bit.classname ∷ bit.assertions ∷ []
+
+abbrev pub pairBits : List ℕ
+pairBits = bit.name ∷ bit.value ∷ []
+
+-- failure and error
+abbrev pub mainBits : List ℕ
+mainBits = bit.message ∷ bit.type ∷ bit.description ∷ bit.flaky ∷ []
+
+abbrev pub skippedBits : List ℕ
+skippedBits = bit.message ∷ bit.type ∷ bit.description ∷ []
+
+abbrev pub runBits : List ℕ
+runBits = bit.message ∷ bit.out ∷ bit.err ∷ bit.timestamp ∷ bit.time ∷ bit.type ∷ bit.description ∷ bit.stackTrace ∷ []
 
 unfoldable pub goodReport : List ℕ → List ℕ → Bool
-goodReport texts r = onlyBits (0 ∷ 1 ∷ 3 ∷ 4 ∷ 8 ∷ []) r && (goodCommon texts r && (slot (bit 1 r) true (zeroAt r 4 4) && goodCounts r))
+goodReport texts r = onlyBits reportBits r && (goodCommon texts r && (slot (hasBit bit.uuid r) true (zeroAt r word.uuid 4) && goodCounts r))
 
 unfoldable pub goodSuite : List ℕ → List ℕ → Bool
-goodSuite texts r = onlyBits (0 ∷ 1 ∷ 2 ∷ 3 ∷ 4 ∷ 8 ∷ []) r && (bit 0 r && (goodCommon texts r && (goodOutputs texts r && goodCounts r)))
+goodSuite texts r = onlyBits suiteBits r && (hasBit bit.name r && (goodCommon texts r && (goodOutputs texts r && goodCounts r)))
 
 unfoldable pub goodCase : List ℕ → List ℕ → Bool
 goodCase texts r =
-    onlyBits (0 ∷ 1 ∷ 2 ∷ 3 ∷ 4 ∷ 5 ∷ 6 ∷ []) r
-    && (bit 0 r && (goodCommon texts r && (goodOutputs texts r && (textSlot texts r 5 18 && (slot (bit 6 r) true (zeroAt r 20 2) && zeroAt r 22 10)))))
+    onlyBits caseBits r
+    && (hasBit bit.name r
+    && (goodCommon texts r
+    && (goodOutputs texts r
+    && (textSlot texts r bit.classname word.classname && (slot (hasBit bit.assertions r) true (zeroAt r word.assertions 2) && zeroAt r 22 10)))))
 
 -- a property or extra has name or key and value; a main has message, type and description, and a failure or error the
 -- flaky bit; a run has all texts, timestamp and time
 unfoldable pub bitsFor : ℕ → List ℕ
-bitsFor kind =
-    cond (leb kind 5 || leb 13 kind) (0 ∷ 1 ∷ [])
-    (cond (leb kind 7) (0 ∷ 5 ∷ 6 ∷ 9 ∷ [])
-    (cond (leb kind 8) (0 ∷ 5 ∷ 6 ∷ []) (0 ∷ 1 ∷ 2 ∷ 3 ∷ 4 ∷ 5 ∷ 6 ∷ 7 ∷ [])))
+bitsFor k =
+    cond (leb k kind.caseProperty || leb kind.suiteExtra k) pairBits
+    (cond (leb k kind.error) mainBits
+    (cond (leb k kind.skipped) skippedBits runBits))
 
 unfoldable pub goodOther : List ℕ → List ℕ → Bool
 goodOther texts r =
     onlyBits (bitsFor (kindOf r)) r
-    && (((leb 6 (kindOf r) && leb (kindOf r) 12) || (bit 0 r && bit 1 r))
-    && (goodCommon texts r && (goodOutputs texts r && (textSlot texts r 5 18 && (textSlot texts r 6 20 && (textSlot texts r 7 22 && zeroAt r 24 8))))))
+    && (((leb kind.failure (kindOf r) && leb (kindOf r) kind.rerunError) || (hasBit bit.name r && hasBit bit.value r))
+    && (goodCommon texts r
+    && (goodOutputs texts r
+    && (textSlot texts r bit.type word.type
+    && (textSlot texts r bit.description word.description && (textSlot texts r bit.stackTrace word.stackTrace && zeroAt r 24 8))))))
 
 -- a dead record keeps its kind with 16 more, and nothing else of it is looked at
 unfoldable pub goodRecord : List ℕ → List ℕ → Bool
@@ -106,8 +141,8 @@ goodRecord texts r =
     cond (live r)
     (cond (isReport r) (goodReport texts r)
     (cond (isSuite r) (goodSuite texts r)
-    (cond (isCase r) (goodCase texts r) (leb (kindOf r) 14 && goodOther texts r))))
-    (leb 17 (kindOf r) && leb (kindOf r) 30)
+    (cond (isCase r) (goodCase texts r) (leb (kindOf r) kind.caseExtra && goodOther texts r))))
+    (leb (kind.dead + kind.report) (kindOf r) && leb (kindOf r) (kind.dead + kind.caseExtra))
 
 abbrev pub allGood : List ℕ → List (List ℕ) → Bool
 allGood texts [] = true
@@ -160,7 +195,7 @@ following o r =
     (cond (isSuiteExtra r || isCaseExtra r) o
     (cond (isSuiteProperty r) (record { level = 2; extras = false; suiteList = 1; caseList = 0; tally = noStatus; flagged = false })
     (cond (isCaseProperty r) (record { level = 3; extras = false; suiteList = o .suiteList; caseList = 1; tally = o .tally; flagged = o .flagged })
-    (record { level = 3; extras = false; suiteList = o .suiteList; caseList = over (o .caseList); tally = tallied (o .tally) (kindOf r); flagged = o .flagged || bit 9 r }))))))
+    (record { level = 3; extras = false; suiteList = o .suiteList; caseList = over (o .caseList); tally = tallied (o .tally) (kindOf r); flagged = o .flagged || hasBit bit.flaky r }))))))
 
 unfoldable pub goodOrder : Open → List (List ℕ) → Bool
 goodOrder o [] = leb 1 (o .level) && mayEnd o

@@ -4,8 +4,11 @@ use mathlib.Core.List.{List, [], _∷_, map}
 use mathlib.Core.Bool.{Bool, cond}
 use mathlib.Core.Option.{Option, none, some}
 use lib.Dec.{leb, eqb}
+use Rattle.tree_record.specs.Words as word
+use Rattle.tree_record.specs.Bits as bit
+use Rattle.tree_record.specs.Kinds as kind
 use Rattle.tree_report.specs.Report.{Pair, failure, error, FlakyOrRerun, flaky, rerun, TestRerun, Reason, TestCaseStatus, success, nonSuccess, skipped, TestCase, TestSuite, Report}
-use Rattle.tree_report.specs.Fields.{kindOf, live, isSuite, isCase, isSuiteProperty, isCaseProperty, isMain, isRun, isSuiteExtra, isCaseExtra, bit, flakyBit, textAt, first, systemOut, systemErr, second, description, stackTrace, uuid, timestamp, time, counts, assertions}
+use Rattle.tree_report.specs.Fields.{kindOf, live, isSuite, isCase, isSuiteProperty, isCaseProperty, isMain, isRun, isSuiteExtra, isCaseExtra, hasBit, textAt, first, systemOut, systemErr, second, description, stackTrace, uuid, timestamp, time, counts, assertions}
 use Rattle.tree_report.specs.Layout.{recordsOf, usedText}
 
 -- the records that pass a test, in order
@@ -30,7 +33,7 @@ branches p (r ∷ rs) = cond (p r) (record { head = r; below = until p rs } ∷ 
 
 module _ (text : List ℕ) where
   abbrev pub pairOf : List ℕ → Pair
-  pairOf r = record { key = textAt text r 2; value = textAt text r 4 }
+  pairOf r = record { key = textAt text r word.key; value = textAt text r word.value }
 
   abbrev pub pairsOf : (List ℕ → Bool) → List (List ℕ) → List Pair
   pairsOf p rs = map pairOf (only p rs)
@@ -38,11 +41,10 @@ module _ (text : List ℕ) where
   abbrev pub reasonOf : List ℕ → Reason
   reasonOf r = record { message = first text r; type = second text r; description = description text r }
 
-  -- 9 flakyFailure, 10 flakyError, 11 rerunFailure, 12 rerunError
   abbrev pub runOf : List ℕ → TestRerun
   runOf r =
       record {
-        kind = cond (eqb (kindOf r) 9) failure (cond (eqb (kindOf r) 11) failure error);
+        kind = cond (eqb (kindOf r) kind.flakyFailure) failure (cond (eqb (kindOf r) kind.rerunFailure) failure error);
         timestamp = timestamp r;
         time = time r;
         message = first text r;
@@ -55,20 +57,20 @@ module _ (text : List ℕ) where
 
   -- the kind of a failure's or error's runs: by the first of them, and without any by the flaky bit
   abbrev pub kindOfRuns : List ℕ → List (List ℕ) → FlakyOrRerun
-  kindOfRuns main [] = cond (bit flakyBit main) flaky rerun
-  kindOfRuns main (r ∷ rs) = cond (leb (kindOf r) 10) flaky rerun
+  kindOfRuns main [] = cond (hasBit bit.flaky main) flaky rerun
+  kindOfRuns main (r ∷ rs) = cond (leb (kindOf r) kind.flakyError) flaky rerun
 
-  -- no main is success; 6 failure, 7 error, 8 skipped
+  -- no main is success
   abbrev pub statusOf : List (List ℕ) → List (List ℕ) → TestCaseStatus
   statusOf [] runs = success (map runOf runs)
   statusOf (m ∷ ms) runs =
-      cond (eqb (kindOf m) 8) (skipped (reasonOf m))
-      (nonSuccess (cond (eqb (kindOf m) 6) failure error) (reasonOf m) (kindOfRuns m runs) (map runOf runs))
+      cond (eqb (kindOf m) kind.skipped) (skipped (reasonOf m))
+      (nonSuccess (cond (eqb (kindOf m) kind.failure) failure error) (reasonOf m) (kindOfRuns m runs) (map runOf runs))
 
   abbrev pub caseOf : Branch → TestCase
   caseOf b =
       record {
-        name = textAt text (b .head) 2;
+        name = textAt text (b .head) word.name;
         classname = second text (b .head);
         assertions = assertions (b .head);
         timestamp = timestamp (b .head);
@@ -83,7 +85,7 @@ module _ (text : List ℕ) where
   abbrev pub suiteOf : Branch → TestSuite
   suiteOf b =
       record {
-        name = textAt text (b .head) 2;
+        name = textAt text (b .head) word.name;
         counts = counts (b .head);
         timestamp = timestamp (b .head);
         time = time (b .head);

@@ -1,5 +1,5 @@
 -- Presence bits, as parts of their word. Assumes nothing.
-use Prim.Native.Nat.{ℕ, zero, suc, _+_, _*_, _/_, _%_, _^_, _<_}
+use Prim.Native.Nat.{ℕ, zero, suc, _+_, _*_, _/_, _%_, _^_, _≤_, _<_}
 use mathlib.Core.Bool.{Bool, true, false, cond}
 use mathlib.Core.List.{List, [], _∷_}
 use mathlib.Core.Path.{_≡_, refl, sym, ap, _∙_}
@@ -11,7 +11,8 @@ use borrow.Author.Tests.{lt-ltb, le-ltb, eq-eqb, ne-eqb, eqb-true, eqb-false}
 use lib.Dec.{ltb, eqb}
 use lib.ListN.{getD}
 use lib.Pow.{mod-pow-add, pow-pos, shr-shr}
-use Rattle.tree_report.specs.Layout.{bitsOf, onlyBits}
+use Rattle.tree_record.proofs.Bits.{mask-power}
+use Rattle.tree_report.specs.Layout.{bitsOf, onlyBits, reportBits, suiteBits, caseBits, pairBits, mainBits, skippedBits, runBits}
 
 -- n bits from the bit k on
 abbrev run : ℕ → ℕ → List ℕ
@@ -35,27 +36,28 @@ carry b y w =
     omega arith
 
 module _ (r : List ℕ) where
-  bits-run : (k n : ℕ) → bitsOf (run k n) r ≡ getD r 1 0 / 2 ^ k % 2 ^ n * 2 ^ k
-  bits-run k zero =
+  bits-run : (k n : ℕ) → k + n ≤ 10 → bitsOf (run k n) r ≡ getD r 1 0 / 2 ^ k % 2 ^ n * 2 ^ k
+  bits-run k zero h =
       let z : getD r 1 0 / 2 ^ k % 1 ≡ 0 = omega arith in
       sym (ap (λ (x : ℕ). x * 2 ^ k) z ∙ zero-mul (2 ^ k))
-  bits-run k (suc n) =
+  bits-run k (suc n) h =
       let f = getD r 1 0 in
       let p : 2 ^ (k + 1) ≡ 2 ^ k * 2 = rw (add-one k) (pow-suc 2 k) in
       let q : f / 2 ^ k % 2 ^ suc n ≡ f / 2 ^ (k + 1) % 2 ^ n * 2 + f / 2 ^ k % 2 =
       ap (λ (m : ℕ). f / 2 ^ k % 2 ^ m) (sym (add-one n)) ∙ mod-pow-add (f / 2 ^ k) n 1 ∙ ap (λ (m : ℕ). m % 2 ^ n * 2 + f / 2 ^ k % 2) (shr-shr f k 1)
       in
-      ap (λ (x : ℕ). x + bitsOf (run (k + 1) n) r) (weight (f / 2 ^ k) (2 ^ k))
-      ∙ ap (λ (x : ℕ). f / 2 ^ k % 2 * 2 ^ k + x) (bits-run (k + 1) n)
+      ap (λ (m : ℕ). cond (eqb (f / m % 2) 1) m 0 + bitsOf (run (k + 1) n) r) (mask-power k (omega arith))
+      ∙ ap (λ (x : ℕ). x + bitsOf (run (k + 1) n) r) (weight (f / 2 ^ k) (2 ^ k))
+      ∙ ap (λ (x : ℕ). f / 2 ^ k % 2 * 2 ^ k + x) (bits-run (k + 1) n (omega arith))
       ∙ ap (λ (x : ℕ). f / 2 ^ k % 2 * 2 ^ k + f / 2 ^ (k + 1) % 2 ^ n * x) p
       ∙ carry (f / 2 ^ k % 2) (f / 2 ^ (k + 1) % 2 ^ n) (2 ^ k)
       ∙ ap (λ (x : ℕ). x * 2 ^ k) (sym q)
 
-  low-bits : (n : ℕ) → ltb (getD r 1 0) (2 ^ n) ≡ eqb (getD r 1 0) (bitsOf (run 0 n) r)
-  low-bits n = go (decLt (getD r 1 0) (2 ^ n))
+  low-bits : (n : ℕ) → n ≤ 10 → ltb (getD r 1 0) (2 ^ n) ≡ eqb (getD r 1 0) (bitsOf (run 0 n) r)
+  low-bits n l = go (decLt (getD r 1 0) (2 ^ n))
     where
       e : bitsOf (run 0 n) r ≡ getD r 1 0 % 2 ^ n
-      e = bits-run 0 n ∙ mul-one (getD r 1 0 / 1 % 2 ^ n) ∙ ap (λ (x : ℕ). x % 2 ^ n) (div-one (getD r 1 0))
+      e = bits-run 0 n (omega arith) ∙ mul-one (getD r 1 0 / 1 % 2 ^ n) ∙ ap (λ (x : ℕ). x % 2 ^ n) (div-one (getD r 1 0))
 
       go : Dec (getD r 1 0 < 2 ^ n) → ltb (getD r 1 0) (2 ^ n) ≡ eqb (getD r 1 0) (bitsOf (run 0 n) r)
       go (yes h) = lt-ltb (getD r 1 0) (2 ^ n) h ∙ sym (eq-eqb (getD r 1 0) (bitsOf (run 0 n) r) (sym (e ∙ mod-eq-of-lt h)))
@@ -64,24 +66,24 @@ module _ (r : List ℕ) where
           le-ltb (getD r 1 0) (2 ^ n) (omega arith) ∙ sym (ne-eqb (getD r 1 0) (bitsOf (run 0 n) r) (λ q. omega (arith, e)))
 
   -- properties and extras; cases; runs
-  pub pair-bits : ltb (getD r 1 0) 4 ≡ onlyBits (0 ∷ 1 ∷ []) r
-  pair-bits = low-bits 2
+  pub pair-bits : ltb (getD r 1 0) 4 ≡ onlyBits pairBits r
+  pair-bits = low-bits 2 (omega arith)
 
-  pub case-bits : ltb (getD r 1 0) 128 ≡ onlyBits (0 ∷ 1 ∷ 2 ∷ 3 ∷ 4 ∷ 5 ∷ 6 ∷ []) r
-  case-bits = low-bits 7
+  pub case-bits : ltb (getD r 1 0) 128 ≡ onlyBits caseBits r
+  case-bits = low-bits 7 (omega arith)
 
-  pub run-bits : ltb (getD r 1 0) 256 ≡ onlyBits (0 ∷ 1 ∷ 2 ∷ 3 ∷ 4 ∷ 5 ∷ 6 ∷ 7 ∷ []) r
-  run-bits = low-bits 8
+  pub run-bits : ltb (getD r 1 0) 256 ≡ onlyBits runBits r
+  run-bits = low-bits 8 (omega arith)
 
-  pub report-bits : eqb (getD r 1 0) (getD r 1 0 % 4 + getD r 1 0 / 8 % 4 * 8 + getD r 1 0 / 256 % 2 * 256) ≡ onlyBits (0 ∷ 1 ∷ 3 ∷ 4 ∷ 8 ∷ []) r
-  report-bits = ap (eqb (getD r 1 0)) (omega (arith, bits-run 0 2, bits-run 3 2, bits-run 8 1))
+  pub report-bits : eqb (getD r 1 0) (getD r 1 0 % 4 + getD r 1 0 / 8 % 4 * 8 + getD r 1 0 / 256 % 2 * 256) ≡ onlyBits reportBits r
+  report-bits = ap (eqb (getD r 1 0)) (omega (arith, bits-run 0 2 (omega arith), bits-run 3 2 (omega arith), bits-run 8 1 (omega arith)))
 
-  pub suite-bits : eqb (getD r 1 0) (getD r 1 0 % 32 + getD r 1 0 / 256 % 2 * 256) ≡ onlyBits (0 ∷ 1 ∷ 2 ∷ 3 ∷ 4 ∷ 8 ∷ []) r
-  suite-bits = ap (eqb (getD r 1 0)) (omega (arith, bits-run 0 5, bits-run 8 1))
+  pub suite-bits : eqb (getD r 1 0) (getD r 1 0 % 32 + getD r 1 0 / 256 % 2 * 256) ≡ onlyBits suiteBits r
+  suite-bits = ap (eqb (getD r 1 0)) (omega (arith, bits-run 0 5 (omega arith), bits-run 8 1 (omega arith)))
 
   -- a failure or error; skipped
-  pub main-bits : eqb (getD r 1 0) (getD r 1 0 % 2 + getD r 1 0 / 32 % 4 * 32 + getD r 1 0 / 512 % 2 * 512) ≡ onlyBits (0 ∷ 5 ∷ 6 ∷ 9 ∷ []) r
-  main-bits = ap (eqb (getD r 1 0)) (omega (arith, bits-run 0 1, bits-run 5 2, bits-run 9 1))
+  pub main-bits : eqb (getD r 1 0) (getD r 1 0 % 2 + getD r 1 0 / 32 % 4 * 32 + getD r 1 0 / 512 % 2 * 512) ≡ onlyBits mainBits r
+  main-bits = ap (eqb (getD r 1 0)) (omega (arith, bits-run 0 1 (omega arith), bits-run 5 2 (omega arith), bits-run 9 1 (omega arith)))
 
-  pub skipped-bits : eqb (getD r 1 0) (getD r 1 0 % 2 + getD r 1 0 / 32 % 4 * 32) ≡ onlyBits (0 ∷ 5 ∷ 6 ∷ []) r
-  skipped-bits = ap (eqb (getD r 1 0)) (omega (arith, bits-run 0 1, bits-run 5 2))
+  pub skipped-bits : eqb (getD r 1 0) (getD r 1 0 % 2 + getD r 1 0 / 32 % 4 * 32) ≡ onlyBits skippedBits r
+  skipped-bits = ap (eqb (getD r 1 0)) (omega (arith, bits-run 0 1 (omega arith), bits-run 5 2 (omega arith)))

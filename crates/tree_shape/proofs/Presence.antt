@@ -9,7 +9,7 @@ use lib.Dec.{leb}
 use lib.ListN.{length, getD}
 use lib.Seq.{take-all}
 use Rattle.tree_report.specs.Layout.{goodReport, goodSuite, goodCase, goodOther, goodRecord}
-use Rattle.tree_shape.specs.Records.{isRecord}
+use Rattle.tree_shape.specs.inside.Records.{isRecord}
 
 -- a record by its kind
 module _ (texts r : List ℕ) where

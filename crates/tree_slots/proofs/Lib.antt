@@ -1,4 +1,3 @@
 pub mod Passing
 pub mod Ends
 pub mod Presence
-pub mod Moments

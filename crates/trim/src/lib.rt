@@ -32,7 +32,7 @@ fn first_of(s: &[u8]) -> First
     requires { ⌜ 0 < length (now s) ⌝ }
     ensures { λ r. ⌜ (r .width ≡ step (now (s .entry))) × (r .white ≡ blank (take (step (now (s .entry))) (now (s .entry)))) ⌝ }
 {
-    let w = utf8::char_width(s);
+    let w = utf8_chars::char_width(s);
     if w == 0 {
         return First {
             width: 1,
@@ -41,7 +41,7 @@ fn first_of(s: &[u8]) -> First
     }
     First {
         width: w,
-        white: is_white(utf8::scalar_of(s)),
+        white: is_white(utf8_chars::scalar_of(s)),
     }
 }
 

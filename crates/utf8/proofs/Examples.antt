@@ -1,10 +1,10 @@
 -- The examples of RFC 3629, section 7, and what section 4 shuts out. Assumes nothing.
 use Prim.Native.Nat.{ℕ}
-use mathlib.Core.Bool.{false}
+use mathlib.Core.Bool.{true, false}
 use mathlib.Core.List.{List, [], _∷_, map}
 use mathlib.Core.Path.{_≡_, refl}
-use Rattle.utf8.specs.Characters.{scalar, chars}
-use Rattle.utf8.specs.Utf8.{need, low, high, utf8}
+use Rattle.utf8.specs.Characters.{scalar, chars, firstScalar, encode, boundary}
+use Rattle.utf8.specs.Utf8.{need, low, high, utf8, width}
 
 codePoints : List ℕ → List ℕ
 codePoints s = map scalar (chars s)
@@ -41,3 +41,23 @@ beyond = (refl, refl)
 cut-off : utf8 (0x61 ∷ 0xE2 ∷ 0x89 ∷ []) ≡ false
 unfolding need low high
 cut-off = refl
+
+-- the first and the last character of each width
+encoded : (encode 0x7F ≡ 0x7F ∷ []) × (encode 0x80 ≡ 0xC2 ∷ 0x80 ∷ []) × (encode 0x7FF ≡ 0xDF ∷ 0xBF ∷ []) × (encode 0x800 ≡ 0xE0 ∷ 0xA0 ∷ 0x80 ∷ [])
+    × (encode 0xFFFF ≡ 0xEF ∷ 0xBF ∷ 0xBF ∷ []) × (encode 0x10000 ≡ 0xF0 ∷ 0x90 ∷ 0x80 ∷ 0x80 ∷ []) × (encode 0x20000 ≡ 0xF0 ∷ 0xA0 ∷ 0x80 ∷ 0x80 ∷ []) × (encode 0x10FFFF ≡ 0xF4 ∷ 0x8F ∷ 0xBF ∷ 0xBF ∷ [])
+unfolding encode
+encoded = (refl, refl, refl, refl, refl, refl, refl, refl)
+
+-- surrogates, and what is beyond
+not-encoded : (encode 0xD7FF ≡ 0xED ∷ 0x9F ∷ 0xBF ∷ []) × (encode 0xD800 ≡ []) × (encode 0xDFFF ≡ []) × (encode 0xE000 ≡ 0xEE ∷ 0x80 ∷ 0x80 ∷ []) × (encode 0x110000 ≡ [])
+unfolding encode
+not-encoded = (refl, refl, refl, refl, refl)
+
+-- U+10348 and a letter behind it; a tail alone
+first-char : (width (0xF0 ∷ 0x90 ∷ 0x8D ∷ 0x88 ∷ 0x61 ∷ []) ≡ 4) × (firstScalar (0xF0 ∷ 0x90 ∷ 0x8D ∷ 0x88 ∷ 0x61 ∷ []) ≡ 0x10348) × (width (0x80 ∷ []) ≡ 0)
+unfolding need low high
+first-char = (refl, refl, refl)
+
+-- between the bytes of U+00E9 there is no place
+places : (boundary (0xC3 ∷ 0xA9 ∷ []) 0 ≡ true) × (boundary (0xC3 ∷ 0xA9 ∷ []) 1 ≡ false) × (boundary (0xC3 ∷ 0xA9 ∷ []) 2 ≡ true) × (boundary (0xC3 ∷ 0xA9 ∷ []) 3 ≡ false)
+places = (refl, refl, refl, refl)

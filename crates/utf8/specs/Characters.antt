@@ -40,7 +40,7 @@ scalar (a ∷ b ∷ c ∷ d ∷ r) = a % 8 * 262144 + b % 64 * 4096 + c % 64 * 6
 abbrev pub firstScalar : List ℕ → ℕ
 firstScalar s = scalar (take (width s) s)
 
--- U+0000 to U+10FFFF without the surrogates: "UTF-8 prohibits encoding character numbers between U+D800 and U+DFFF"
+-- U+0000 to U+10FFFF without the surrogates, which UTF-8 prohibits (section 3)
 abbrev pub isScalar : ℕ → Bool
 isScalar c = leb c 0xD7FF || (leb 0xE000 c && leb c 0x10FFFF)
 

@@ -21,6 +21,7 @@ use Rattle.fixed.proofs.Texts.{digits-on, byte-on}
 use Rattle.uuid.specs.Uuid.{uuidTests, isUuid, wordsOf, formOf, uuidOf}
 use Rattle.uuid.specs.declared.Words.{Words}
 use Rattle.uuid.specs.declared.Form.the-variants.{Right, Wrong}
+use Rattle.refusal.specs.declared.Cause.the-variants as cause
 
 both : (a b : Bool) → (a && b) ≡ true → (a ≡ true) × (b ≡ true)
 both a b = and-eq-true-iff a b .0
@@ -115,14 +116,14 @@ module _ (s : List ℕ) where
       go true h e = let z : w ≡ wordsOf s = cc in rw (uuid-utf8 h, h, z)
       go false h e = let z : _≡_ {A = ℕ} 0 1 = cc in absurd (omega arith)
 
-  pub answer-bad : Wrong ≡ formOf s → utf8 s ≡ true → refuses 6 ≡ uuidOf s
+  pub answer-bad : Wrong ≡ formOf s → utf8 s ≡ true → refuses cause.BadUuid ≡ uuidOf s
   unfolding uuidOf
   answer-bad e u = go (isUuid s) refl e
     where
-      go : (b : Bool) → isUuid s ≡ b → Wrong ≡ cond b (Right (wordsOf s)) Wrong → refuses 6 ≡ uuidOf s
+      go : (b : Bool) → isUuid s ≡ b → Wrong ≡ cond b (Right (wordsOf s)) Wrong → refuses cause.BadUuid ≡ uuidOf s
       go true h e = let z : _≡_ {A = ℕ} 0 1 = cc in absurd (omega arith)
       go false h e = rw (u, h)
 
-  pub answer-not-utf8 : utf8 s ≡ false → refuses 2 ≡ uuidOf s
+  pub answer-not-utf8 : utf8 s ≡ false → refuses cause.NotUtf8 ≡ uuidOf s
   unfolding uuidOf
   answer-not-utf8 u = rw u

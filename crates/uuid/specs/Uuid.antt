@@ -13,6 +13,7 @@ use Rattle.uuid.specs.declared.Uuid.{Uuid}
 use Rattle.uuid.specs.declared.Uuid.the-variants.{Is, NotUtf8, Bad}
 use Rattle.uuid.specs.declared.Form.{Form}
 use Rattle.uuid.specs.declared.Form.the-variants.{Right, Wrong}
+use Rattle.refusal.specs.declared.Cause.the-variants as cause
 
 -- "36 characters, hyphenated": UUID = 4hexOctet "-" 2hexOctet "-" 2hexOctet "-" 2hexOctet "-" 6hexOctet
 abbrev pub uuidTests : List ℕ → List Bool
@@ -39,8 +40,8 @@ formOf s = cond (isUuid s) (Right (wordsOf s)) Wrong
 
 abbrev pub uuidAnswer : Uuid → Answer Words
 uuidAnswer (Is w) = gives w
-uuidAnswer NotUtf8 = refuses 2
-uuidAnswer Bad = refuses 6
+uuidAnswer NotUtf8 = refuses cause.NotUtf8
+uuidAnswer Bad = refuses cause.BadUuid
 
 unfoldable pub uuidOf : List ℕ → Answer Words
-uuidOf s = cond (utf8 s) (cond (isUuid s) (gives (wordsOf s)) (refuses 6)) (refuses 2)
+uuidOf s = cond (utf8 s) (cond (isUuid s) (gives (wordsOf s)) (refuses cause.BadUuid)) (refuses cause.NotUtf8)

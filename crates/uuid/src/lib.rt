@@ -28,12 +28,12 @@ fn form_of(s: &[u8]) -> Form
         return Form::Wrong;
     }
     // The fifth group is read in two parts, four digits and the last eight.
-    let first = fixed::hexadecimal_field(&s[0..8], 0xffffffff);
-    let second = fixed::hexadecimal_field(&s[9..13], 0xffff);
-    let third = fixed::hexadecimal_field(&s[14..18], 0xffff);
-    let fourth = fixed::hexadecimal_field(&s[19..23], 0xffff);
-    let fifth = fixed::hexadecimal_field(&s[24..28], 0xffff);
-    let last = fixed::hexadecimal_field(&s[28..36], 0xffffffff);
+    let first = fixed::hexadecimal_at(s, 0, 8, 0xffffffff);
+    let second = fixed::hexadecimal_at(s, 9, 4, 0xffff);
+    let third = fixed::hexadecimal_at(s, 14, 4, 0xffff);
+    let fourth = fixed::hexadecimal_at(s, 19, 4, 0xffff);
+    let fifth = fixed::hexadecimal_at(s, 24, 4, 0xffff);
+    let last = fixed::hexadecimal_at(s, 28, 8, 0xffffffff);
     let hyphens = (s[8] == 0x2d) & (s[13] == 0x2d) & (s[18] == 0x2d) & (s[23] == 0x2d);
     let groups = first.good & second.good & third.good & fourth.good & fifth.good & last.good;
     if hyphens & groups {

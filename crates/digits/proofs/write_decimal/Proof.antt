@@ -5,6 +5,7 @@ use Rattle.area.specs.Area.{placing, laid}
 use Rattle.digits.proofs.Printing.{decimal-last}
 use Rattle.digits.proofs.write_decimal.Statement.{statement}
 use Rattle.digits.proofs.write_decimal.Tie as tie
+use Rattle.refusal.specs.declared.Cause.the-variants as cause
 
 places-of-requires : tie.Need-places-of-requires
 places-of-requires c κs = search needs
@@ -19,7 +20,7 @@ returns : tie.Need-returns
 returns c = let o = c .before .before .before .before .before .before .args .out .now in
     let e = c .before .before .write-digits .ensures in
     let f = decimal-last _ _ (c .before .before .before .before .places-of .ensures) in
-    (e .0 ∙ ap (placing 16 (length o)) f, e .1 ∙ ap (laid o) f)
+    (e .0 ∙ ap (placing cause.OutputFull (length o)) f, e .1 ∙ ap (laid o) f)
 
 pub write-decimal-spec : {M : Type 1} → statement M
 write-decimal-spec =

@@ -6,6 +6,7 @@ use Rattle.area.specs.Area.{placing, laid}
 use Rattle.digits.proofs.Printing.{spelt}
 use Rattle.digits.proofs.write_digits.Statement.{statement}
 use Rattle.digits.proofs.write_digits.Tie as tie
+use Rattle.refusal.specs.declared.Cause.the-variants as cause
 
 at-most-twenty-requires : tie.Need-at-most-twenty-requires
 at-most-twenty-requires c κs = search needs
@@ -29,7 +30,7 @@ returns : tie.Need-returns
 returns c = let o = c .before .before .before .before .before .before .before .before .args .out .now in
     let e = c .before .before .copy-into .ensures in
     let f = spelt _ _ _ _ (c .before .before .before .before .before .before .at-most-twenty .ensures) (c .before .before .before .before .before .spell .ensures) in
-    (e .0 ∙ ap (placing 16 (length o)) f, e .1 ∙ ap (laid o) f)
+    (e .0 ∙ ap (placing cause.OutputFull (length o)) f, e .1 ∙ ap (laid o) f)
 
 pub write-digits-spec : {M : Type 1} → statement M
 write-digits-spec =

@@ -12,6 +12,7 @@ use Rattle.escape.proofs.Spelling.{Coming, coming, spelled-end}
 use Rattle.escape.proofs.Escaping.{listed-marked, listed-plain}
 use Rattle.escape.proofs.escape_into.Statement.{statement}
 use Rattle.escape.proofs.escape_into.Tie as tie
+use Rattle.refusal.specs.declared.Cause.the-variants as cause
 
 abbrev Inv-loop : tie.InvT-loop
 Inv-loop out₀ s i₀ k₀ out i k = (i ≤ length s) × Laying out₀ out k (escaped s) (escaped (drop i s))
@@ -48,7 +49,7 @@ same-length : tie.Need-same-length Inv-loop μ-loop
 same-length c = c .before .before .before .before .before .loop .inv .1 .same
 
 returns : tie.Need-returns Inv-loop μ-loop
-returns c = laying-full 16 (to-mark (c .before .before) (c .before .if1 .taken)) (c .if2 .taken)
+returns c = laying-full cause.OutputFull (to-mark (c .before .before) (c .before .if1 .taken)) (c .if2 .taken)
 
 slice-write-out : tie.Need-slice-write-out Inv-loop μ-loop
 slice-write-out c = omega arith
@@ -63,7 +64,7 @@ same-length-2 : tie.Need-same-length-2 Inv-loop μ-loop
 same-length-2 c = to-letter (c .before .before) .same
 
 returns-2 : tie.Need-returns-2 Inv-loop μ-loop
-returns-2 c = laying-full 16 (to-letter (c .before .before)) (c .if3 .taken)
+returns-2 c = laying-full cause.OutputFull (to-letter (c .before .before)) (c .if3 .taken)
 
 slice-write-out-2 : tie.Need-slice-write-out-2 Inv-loop μ-loop
 slice-write-out-2 c = omega arith
@@ -81,7 +82,7 @@ same-length-3 : tie.Need-same-length-3 Inv-loop μ-loop
 same-length-3 c = c .before .loop .inv .1 .same
 
 returns-3 : tie.Need-returns-3 Inv-loop μ-loop
-returns-3 c = let l = c .before .loop in laying-done 16 (laying-on (l .inv .1) (spelled-end listed _ (l .i) (c .loop-test .left)))
+returns-3 c = let l = c .before .loop in laying-done cause.OutputFull (laying-on (l .inv .1) (spelled-end listed _ (l .i) (c .loop-test .left)))
 
 pub escape-into-spec : {M : Type 1} → statement M
 escape-into-spec =

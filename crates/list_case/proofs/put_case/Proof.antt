@@ -1,7 +1,7 @@
 use mathlib.Core.Path.{sym, _∙_}
 use borrow.Author.Needs.{needs}
 use Rattle.list_text.proofs.Putting.{more, other}
-use Rattle.list_case.specs.Shown.{recordsIn}
+use Rattle.list_sums.specs.inside.Rows.{recordsIn}
 use Rattle.list_case.proofs.Lines.{case-parts, skipped-parts}
 use Rattle.list_case.proofs.put_case.Statement.{statement}
 use Rattle.list_case.proofs.put_case.Tie as tie

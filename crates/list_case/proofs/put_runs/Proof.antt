@@ -6,8 +6,10 @@ use native.Mathlib.Omega.{arith}
 use borrow.Author.Needs.{needs}
 use lib.ListN.{length, take, drop}
 use Rattle.list_text.specs.Listing.{runText}
-use Rattle.list_case.specs.Shown.{runListed, runsShown, stands, recordsIn}
-use Rattle.list_case.proofs.Records.{stands-room}
+use Rattle.list_sums.specs.inside.Rows.{stands, recordsIn}
+use Rattle.list_sums.specs.inside.Summed.{runListed}
+use Rattle.list_case.specs.inside.Shown.{runsShown}
+use Rattle.list_sums.proofs.Records.{stands-room}
 use Rattle.list_case.proofs.Going.{Going, goes-on, going-start, going-stop, going-end, going-pass, going-puts}
 use Rattle.list_case.proofs.Unrolling.{runs-over, runs-end, runs-run, runs-other}
 use Rattle.list_case.proofs.put_runs.Statement.{statement}

@@ -33,7 +33,7 @@ same-length : tie.Need-same-length
 same-length c = search needs
 
 returns : tie.Need-returns
-returns c = front-filled _ _ (c .before .before .before .before .before .before .before .args .area .now) (c .before .before .before .before .before .before .before .args .s .now) _ _ (c .before .before .before .before .before .before .before .pre .0) (c .before .before .fill-words .ensures)
+returns c = front-filled _ _ (c .before .before .before .before .before .before .before .args .area .now) (c .before .before .before .before .before .before .before .args .s .now) _ (c .before .before .before .before .before .before .before .pre .0) (c .before .before .fill-words .ensures)
 
 pub fill-front-spec : {M : Type 1} → statement M
 fill-front-spec =

@@ -8,7 +8,9 @@ use Rattle.list_input.proofs.input_of.Statement.{statement}
 use Rattle.list_input.proofs.input_of.Tie as tie
 
 returns : tie.Need-returns
-returns c = (input-cut (length (c .before .before .before .before .args .events .now)) (length (c .before .before .before .before .args .attributes .now)) (c .before .before .before .before .args .s .now) (c .if1 .taken), tt)
+returns c =
+    let a = c .before .before .before .before .args in
+    input-cut (length (a .events .now)) (length (a .attributes .now)) (a .s .now) (c .if1 .taken) (a .events .now) (a .attributes .now)
 
 numbers-of-requires : tie.Need-numbers-of-requires
 numbers-of-requires c κs = search needs
@@ -17,7 +19,10 @@ is-whole-requires : tie.Need-is-whole-requires
 is-whole-requires c κs = search needs
 
 returns-2 : tie.Need-returns-2
-returns-2 c = (input-not (length (c .before .before .before .before .before .before .before .args .events .now)) (length (c .before .before .before .before .before .before .before .args .attributes .now)) (c .before .before .before .before .before .before .before .args .s .now) (c .before .before .numbers-of .result .events) (c .before .before .numbers-of .result .attributes) (c .before .before .numbers-of .result .source) (c .before .before .numbers-of .ensures .0 .0) (c .before .before .numbers-of .ensures .1 .0 .0) (c .before .before .numbers-of .ensures .1 .1 .0) (c .before .before .before .if1 .left) (c .before .is-whole .result) (c .before .is-whole .ensures) (not-true _ (c .if2 .taken)), tt)
+returns-2 c =
+    let a = c .before .before .before .before .before .before .before .args in
+    let k = c .before .before .numbers-of in
+    input-not (length (a .events .now)) (length (a .attributes .now)) (a .s .now) (k .result .events) (k .result .attributes) (k .result .source) (k .ensures .0 .0) (k .ensures .1 .0 .0) (k .ensures .1 .1 .0) (c .before .before .before .if1 .left) (c .before .is-whole .result) (c .before .is-whole .ensures) (not-true _ (c .if2 .taken)) (a .events .now) (a .attributes .now)
 
 mul-here : tie.Need-mul-here
 mul-here c = search needs
@@ -59,9 +64,9 @@ same-length-2 c = search needs
 
 returns-3 : tie.Need-returns-3
 returns-3 c =
-    let f = rest-true (length (c .before .before .before .before .before .before .before .before .before .before .before .before .before .before .before .before .before .before .before .args .events .now)) (length (c .before .before .before .before .before .before .before .before .before .before .before .before .before .before .before .before .before .before .before .args .attributes .now)) (length (c .before .before .before .before .before .before .before .before .before .before .before .before .before .before .before .before .before .before .before .args .s .now)) (c .before .before .before .before .before .before .before .before .before .before .before .before .before .before .numbers-of .result .events) (c .before .before .before .before .before .before .before .before .before .before .before .before .before .before .numbers-of .result .attributes) (c .before .before .before .before .before .before .before .before .before .before .before .before .before .before .numbers-of .result .source) (sym (c .before .before .before .before .before .before .before .before .before .before .before .before .before .is-whole .ensures) ∙ not-false _ (c .before .before .before .before .before .before .before .before .before .before .before .before .if2 .left)) in
-    let z = f .2 in
-    (input-is (length (c .before .before .before .before .before .before .before .before .before .before .before .before .before .before .before .before .before .before .before .args .events .now)) (length (c .before .before .before .before .before .before .before .before .before .before .before .before .before .before .before .before .before .before .before .args .attributes .now)) (c .before .before .before .before .before .before .before .before .before .before .before .before .before .before .before .before .before .before .before .args .s .now) (c .before .before .before .before .before .before .before .before .before .before .before .before .before .before .numbers-of .result .events) (c .before .before .before .before .before .before .before .before .before .before .before .before .before .before .numbers-of .result .attributes) (c .before .before .before .before .before .before .before .before .before .before .before .before .before .before .numbers-of .result .source) (c .before .before .before .before .before .before .before .before .before .before .before .before .before .before .numbers-of .ensures .0 .0) (c .before .before .before .before .before .before .before .before .before .before .before .before .before .before .numbers-of .ensures .1 .0 .0) (c .before .before .before .before .before .before .before .before .before .before .before .before .before .before .numbers-of .ensures .1 .1 .0) (c .before .before .before .before .before .before .before .before .before .before .before .before .before .before .before .if1 .left) (c .before .before .before .before .before .before .before .before .before .before .before .before .before .is-whole .result) (c .before .before .before .before .before .before .before .before .before .before .before .before .before .is-whole .ensures) (not-false _ (c .before .before .before .before .before .before .before .before .before .before .before .before .if2 .left)) _ _ (c .before .before .before .before .before .before .fill-front .ensures) (c .before .before .fill-front2 .ensures), (f .0, f .1, omega arith, omega arith))
+    let a = c .before .before .before .before .before .before .before .before .before .before .before .before .before .before .before .before .before .before .before .args in
+    let k = c .before .before .before .before .before .before .before .before .before .before .before .before .before .before .numbers-of in
+    input-is (length (a .events .now)) (length (a .attributes .now)) (a .s .now) (k .result .events) (k .result .attributes) (k .result .source) (k .ensures .0 .0) (k .ensures .1 .0 .0) (k .ensures .1 .1 .0) (c .before .before .before .before .before .before .before .before .before .before .before .before .before .before .before .if1 .left) (c .before .before .before .before .before .before .before .before .before .before .before .before .before .is-whole .result) (c .before .before .before .before .before .before .before .before .before .before .before .before .before .is-whole .ensures) (not-false _ (c .before .before .before .before .before .before .before .before .before .before .before .before .if2 .left)) (a .events .now) _ (a .attributes .now) _ (c .before .before .before .before .before .before .fill-front .ensures) (c .before .before .fill-front2 .ensures)
 
 pub input-of-spec : {M : Type 1} → statement M
 input-of-spec =

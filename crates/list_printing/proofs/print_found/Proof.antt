@@ -1,3 +1,4 @@
+use Rattle.list_printing.specs.Printed.{lent}
 use Rattle.list_printing.proofs.Inputs.{same-found, found-is, found-lies, found-not}
 use lib.Seq.{length-take-le}
 use lib.ListN.{length}
@@ -63,7 +64,7 @@ same-length-4 c = search needs
 
 returns : tie.Need-returns
 returns c = let a = c .before .before .before .before .before .before .before .before .before .before .before .before .before .before .before .before .before .before .before .before .before .before .before .before .before .before .before .args in
-    same-found (length (a .records .now)) (length (a .text .now)) (length (a .scratch .now)) (length (a .out .now)) _ _ (found-is (a .found) _ (c .before .before .before .before .before .before .before .before .before .before .before .before .before .before .before .before .before .before .found .given .1) (a .events .now) (a .attributes .now) (a .input .now)) _ _ _ _ _ (c .before .before .before .before .before .before .before .before .public-listing .ensures)
+    same-found (lent (a .records .now) (a .text .now) (a .scratch .now) (a .out .now)) (length (a .out .now)) _ _ (found-is (a .found) _ (c .before .before .before .before .before .before .before .before .before .before .before .before .before .before .before .before .before .before .found .given .1) (a .events .now) (a .attributes .now) (a .input .now)) _ _ _ _ _ (c .before .before .before .before .before .before .before .before .public-listing .ensures)
 
 same-length-5 : tie.Need-same-length-5
 same-length-5 c = search needs
@@ -79,7 +80,7 @@ same-length-8 c = search needs
 
 returns-2 : tie.Need-returns-2
 returns-2 c = let a = c .before .before .before .before .before .before .before .before .before .before .before .before .before .before .before .before .before .before .before .before .before .before .args in
-    same-found (length (a .records .now)) (length (a .text .now)) (length (a .scratch .now)) (length (a .out .now)) _ _ (found-not (a .found) (c .before .before .before .before .before .before .before .before .before .before .before .before .before .enum-told .given .1) (a .events .now) (a .attributes .now) (a .input .now)) _ _ _ _ _ (c .before .before .before .before .before .before .before .before .refuse-input .ensures)
+    same-found (lent (a .records .now) (a .text .now) (a .scratch .now) (a .out .now)) (length (a .out .now)) _ _ (found-not (a .found) (c .before .before .before .before .before .before .before .before .before .before .before .before .before .enum-told .given .1) (a .events .now) (a .attributes .now) (a .input .now)) _ _ _ _ _ (c .before .before .before .before .before .before .before .before .refuse-input .ensures)
 
 pub print-found-spec : {M : Type 1} → statement M
 print-found-spec =

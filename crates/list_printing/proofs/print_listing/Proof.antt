@@ -1,20 +1,27 @@
-use Rattle.list_printing.proofs.Inputs.{lies-on}
-use Rattle.list_printing.proofs.Inputs.{same-found}
-use Rattle.list_printing.specs.Printed.{printed, areasLeft}
-use Rattle.area.specs.Area.{zeros}
-use lib.ListN.{length}
+use Prim.Native.Nat.{ℕ}
 use mathlib.Core.Path.{ap, _∙_}
+use mathlib.Core.List.{List}
+use lib.ListN.{length}
 use borrow.Author.Needs.{needs}
+use Rattle.area.specs.Area.{zeros}
+use Rattle.list_input.specs.Input.{inputOf}
+use Rattle.list_input.proofs.Inputs.{found-lies, found-table}
+use Rattle.list_printing.specs.Printed.{lent, printed, areasLeft}
+use Rattle.list_printing.proofs.Inputs.{same-found}
 use Rattle.list_printing.proofs.print_listing.Statement.{statement}
 use Rattle.list_printing.proofs.print_listing.Tie as tie
+
+front-requires : tie.Need-front-requires
+front-requires c κs = search needs
 
 input-of-requires : tie.Need-input-of-requires
 input-of-requires c κs = search needs
 
 print-found-requires : tie.Need-print-found-requires
-print-found-requires c κs = let i = c .before .before .before .before .before .before .before .before .before .before .input-of in
-    let a = c .before .before .before .before .before .before .before .before .before .before .before .before .before .before .before .before .before .before .before .before .args in
-    lies-on (i .result) (length (a .events .now)) (length (i .last .1 .0)) (length (a .attributes .now)) (length (i .last .1 .1 .0)) (length (a .input .now)) (i .kept .1 .0) (i .kept .1 .1 .0) (i .ensures .1)
+print-found-requires c κs =
+    let a = c .before .before .before .before .before .before .before .before .before .before .before .before .before .before .before .before .before .before .before .before .before .args in
+    let i = c .before .before .before .before .before .before .before .before .before .before .input-of in
+    found-lies (i .result) (length (a .events .now)) (length (i .last .1 .0)) (length (a .attributes .now)) (length (i .last .1 .1 .0)) (c .before .before .before .before .before .before .before .before .before .before .before .before .before .front .result .now) (i .ensures .0) (i .kept .1 .0) (i .kept .1 .1 .0)
 
 clear-words-requires : tie.Need-clear-words-requires
 clear-words-requires c κs = search needs
@@ -42,15 +49,20 @@ same-length-6 c = search needs
 
 returns : tie.Need-returns
 unfolding printed areasLeft
-returns c = let a = c .before .before .before .before .before .before .before .before .before .before .before .before .before .before .before .before .before .before .before .before .before .before .before .before .before .before .before .before .before .before .before .before .before .before .before .before .before .args in
+returns c =
+    let a = c .before .before .before .before .before .before .before .before .before .before .before .before .before .before .before .before .before .before .before .before .before .before .before .before .before .before .before .before .before .before .before .before .before .before .before .before .before .before .args in
     let i = c .before .before .before .before .before .before .before .before .before .before .before .before .before .before .before .before .before .before .before .before .before .before .before .before .before .before .before .input-of in
-    let h = same-found (length (a .records .now)) (length (a .text .now)) (length (a .scratch .now)) (length (a .out .now)) _ _ (i .ensures .0) _ _ _ _ _ (c .before .before .before .before .before .before .before .before .before .before .before .before .before .before .before .before .print-found .ensures) in
+    let m = length (a .events .now) in
+    let n = length (a .attributes .now) in
+    let e = found-table (i .result) (a .events .now) (i .last .1 .0) (a .attributes .now) (i .last .1 .1 .0) (c .before .before .before .before .before .before .before .before .before .before .before .before .before .before .before .before .before .before .before .before .before .before .before .before .before .before .before .before .before .before .front .result .now) (i .ensures .0) (i .ensures .1 .0) (i .ensures .1 .1) ∙ ap (λ (s : List ℕ). inputOf m n s) (c .before .before .before .before .before .before .before .before .before .before .before .before .before .before .before .before .before .before .before .before .before .before .before .before .before .before .before .before .before .before .front .ensures) in
+    let h = same-found (lent (a .records .now) (a .text .now) (a .scratch .now) (a .out .now)) (length (a .out .now)) _ _ e _ _ _ _ _ (c .before .before .before .before .before .before .before .before .before .before .before .before .before .before .before .before .print-found .ensures) in
     (h .0, (h .1 .0, (c .before .before .before .before .before .before .clear-words .ensures ∙ ap zeros (i .kept .1 .0), (c .before .before .clear-words2 .ensures ∙ ap zeros (i .kept .1 .1 .0), h .1 .1))))
 
 pub print-listing-spec : {M : Type 1} → statement M
 print-listing-spec =
     tie.close
     (tie.spec
+    front-requires
     input-of-requires
     print-found-requires
     clear-words-requires

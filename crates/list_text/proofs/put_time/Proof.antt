@@ -1,6 +1,6 @@
 use native.Mathlib.Omega.{arith}
 use borrow.Author.Needs.{needs}
-use Rattle.time.specs.Written.{writtenTime}
+use Rattle.time_text.specs.Written.{writtenTime}
 use Rattle.list_text.proofs.Putting.{full-stays, lent-put, lent-full, lent-most}
 use Rattle.list_text.proofs.put_time.Statement.{statement}
 use Rattle.list_text.proofs.put_time.Tie as tie

@@ -2,13 +2,15 @@ use mathlib.Core.Path.{_≡_, sym, ap, _∙_}
 use native.Mathlib.Nat.{min-le-left}
 use native.Mathlib.Omega.{arith}
 use borrow.Author.Tests.{not-true, not-false}
-use borrow.Author.Needs.{needs}
 use lib.Seq.{length-take-le}
 use lib.ListN.{length}
+use Rattle.area.specs.Limits.{mostWords, mostBytes}
 use Rattle.area.specs.Area.{zeros}
 use Rattle.list_text.proofs.Putting.{other}
 use Rattle.list_text.proofs.Answering.{no-listing, whole-listing, short-listing}
 use Rattle.lister.proofs.Used.{used-shown}
+use Rattle.lister.proofs.Answered.{refused-whole, listed-whole}
+use borrow.Author.Needs.{needs}
 use Rattle.lister.proofs.list.Statement.{statement}
 use Rattle.lister.proofs.list.Tie as tie
 
@@ -18,15 +20,18 @@ clear-requires c κs = search needs
 is-layout-requires : tie.Need-is-layout-requires
 is-layout-requires c κs = search needs
 
+refuse-requires : tie.Need-refuse-requires
+refuse-requires c κs = search needs
+
 same-length : tie.Need-same-length
 same-length c = search needs
 
 returns : tie.Need-returns
 returns c =
-    let words = c .before .before .before .before .before .before .before .before .before .args .records .now in
-    let text = c .before .before .before .before .before .before .before .before .before .args .text .now in
-    let n = length (c .before .before .before .before .before .before .before .before .before .args .out .now) in
-    no-listing words text n (sym (c .before .is-layout .ensures) ∙ not-true _ (c .if1 .taken)) (c .before .before .before .before .clear .ensures)
+    let words = c .before .before .before .before .before .before .before .before .before .before .args .records .now in
+    let text = c .before .before .before .before .before .before .before .before .before .before .args .text .now in
+    let n = length (c .before .before .before .before .before .before .before .before .before .before .args .out .now) in
+    refused-whole words text n (c .refuse .ensures) (no-listing words text n (sym (c .before .before .is-layout .ensures) ∙ not-true _ (c .before .if1 .taken)) (c .before .before .before .before .before .clear .ensures))
 
 least-requires : tie.Need-least-requires
 least-requires c κs = search needs
@@ -35,10 +40,10 @@ least-requires-2 : tie.Need-least-requires-2
 least-requires-2 c κs = search needs
 
 slice-aggregate-put-report : tie.Need-slice-aggregate-put-report
-slice-aggregate-put-report c = sym (length-take-le (c .before .before .least2 .result) (c .before .before .before .before .before .before .before .before .before .before .before .before .before .args .text .now) (omega (arith, c .before .before .least2 .ensures, min-le-left (length (c .before .before .before .before .before .before .before .before .before .before .before .before .before .args .text .now)) 16777216)))
+slice-aggregate-put-report c = sym (length-take-le (c .before .before .least2 .result) (c .before .before .before .before .before .before .before .before .before .before .before .before .before .args .text .now) (omega (arith, c .before .before .least2 .ensures, min-le-left (length (c .before .before .before .before .before .before .before .before .before .before .before .before .before .args .text .now)) mostBytes)))
 
 slice-aggregate-put-report-2 : tie.Need-slice-aggregate-put-report-2
-slice-aggregate-put-report-2 c = sym (length-take-le (c .before .before .before .before .least .result) (c .before .before .before .before .before .before .before .before .before .before .before .before .before .before .args .records .now) (omega (arith, c .before .before .before .before .least .ensures, min-le-left (length (c .before .before .before .before .before .before .before .before .before .before .before .before .before .before .args .records .now)) 2097152)))
+slice-aggregate-put-report-2 c = sym (length-take-le (c .before .before .before .before .least .result) (c .before .before .before .before .before .before .before .before .before .before .before .before .before .before .args .records .now) (omega (arith, c .before .before .before .before .least .ensures, min-le-left (length (c .before .before .before .before .before .before .before .before .before .before .before .before .before .before .args .records .now)) mostWords)))
 
 put-report-requires : tie.Need-put-report-requires
 put-report-requires c κs = search needs
@@ -52,32 +57,38 @@ enum-told c = search needs
 clear-requires-2 : tie.Need-clear-requires-2
 clear-requires-2 c κs = search needs
 
+refuse-requires-2 : tie.Need-refuse-requires-2
+refuse-requires-2 c κs = search needs
+
 same-length-2 : tie.Need-same-length-2
 same-length-2 c = search needs
 
 returns-2 : tie.Need-returns-2
 returns-2 c =
-    let words = c .before .before .before .before .before .before .before .before .before .before .before .before .before .before .before .before .before .before .before .before .before .before .before .args .records .now in
-    let text = c .before .before .before .before .before .before .before .before .before .before .before .before .before .before .before .before .before .before .before .before .before .before .before .args .text .now in
-    let n = length (c .before .before .before .before .before .before .before .before .before .before .before .before .before .before .before .before .before .before .before .before .before .before .before .args .out .now) in
-    let y = sym (c .before .before .before .before .before .before .before .before .before .before .before .before .before .before .before .is-layout .ensures) ∙ not-false _ (c .before .before .before .before .before .before .before .before .before .before .before .before .before .before .if1 .left) in
-    let f = used-shown words text (c .before .before .before .before .before .before .before .before .before .before .before .before .before .least .result) (c .before .before .before .before .before .before .before .before .before .before .before .before .least2 .result) (c .before .before .before .before .before .before .before .before .before .before .before .before .before .least .ensures) (c .before .before .before .before .before .before .before .before .before .before .before .before .least2 .ensures) in
-    let p = rw (c .before .before .before .before .enum-told .given .1) at (other (c .before .before .before .before .before .before .before .before .put-report .ensures) f) in
-    let l : length (c .before .before .before .before .before .before .before .before .put-report .last .0) ≡ n = search needs in
-    short-listing words text n y (c .before .before .before .before .before .before .before .before .before .before .before .before .before .before .before .before .before .before .clear .ensures) p (c .before .before .clear2 .ensures ∙ ap zeros l)
+    let words = c .before .before .before .before .before .before .before .before .before .before .before .before .before .before .before .before .before .before .before .before .before .before .before .before .args .records .now in
+    let text = c .before .before .before .before .before .before .before .before .before .before .before .before .before .before .before .before .before .before .before .before .before .before .before .before .args .text .now in
+    let n = length (c .before .before .before .before .before .before .before .before .before .before .before .before .before .before .before .before .before .before .before .before .before .before .before .before .args .out .now) in
+    let y = sym (c .before .before .before .before .before .before .before .before .before .before .before .before .before .before .before .before .is-layout .ensures) ∙ not-false _ (c .before .before .before .before .before .before .before .before .before .before .before .before .before .before .before .if1 .left) in
+    let f = used-shown words text (c .before .before .before .before .before .before .before .before .before .before .before .before .before .before .least .result) (c .before .before .before .before .before .before .before .before .before .before .before .before .before .least2 .result) (c .before .before .before .before .before .before .before .before .before .before .before .before .before .before .least .ensures) (c .before .before .before .before .before .before .before .before .before .before .before .before .before .least2 .ensures) in
+    let p = rw (c .before .before .before .before .before .enum-told .given .1) at (other (c .before .before .before .before .before .before .before .before .before .put-report .ensures) f) in
+    let l : length (c .before .before .before .before .before .before .before .before .before .put-report .last .0) ≡ n = search needs in
+    refused-whole words text n (c .refuse2 .ensures) (short-listing words text n y (c .before .before .before .before .before .before .before .before .before .before .before .before .before .before .before .before .before .before .before .clear .ensures) p (c .before .before .before .clear2 .ensures ∙ ap zeros l))
+
+no-refusal-requires : tie.Need-no-refusal-requires
+no-refusal-requires c κs = search needs
 
 same-length-3 : tie.Need-same-length-3
 same-length-3 c = search needs
 
 returns-3 : tie.Need-returns-3
 returns-3 c =
-    let words = c .before .before .before .before .before .before .before .before .before .before .before .before .before .before .before .before .before .before .before .before .args .records .now in
-    let text = c .before .before .before .before .before .before .before .before .before .before .before .before .before .before .before .before .before .before .before .before .args .text .now in
-    let n = length (c .before .before .before .before .before .before .before .before .before .before .before .before .before .before .before .before .before .before .before .before .args .out .now) in
-    let y = sym (c .before .before .before .before .before .before .before .before .before .before .before .before .is-layout .ensures) ∙ not-false _ (c .before .before .before .before .before .before .before .before .before .before .before .if1 .left) in
-    let f = used-shown words text (c .before .before .before .before .before .before .before .before .before .before .least .result) (c .before .before .before .before .before .before .before .before .before .least2 .result) (c .before .before .before .before .before .before .before .before .before .before .least .ensures) (c .before .before .before .before .before .before .before .before .before .least2 .ensures) in
-    let p = rw (c .before .put .given .1) at (other (c .before .before .before .before .before .put-report .ensures) f) in
-    whole-listing words text n y _ (c .before .before .before .before .before .before .before .before .before .before .before .before .before .before .before .clear .ensures) p
+    let words = c .before .before .before .before .before .before .before .before .before .before .before .before .before .before .before .before .before .before .before .before .before .args .records .now in
+    let text = c .before .before .before .before .before .before .before .before .before .before .before .before .before .before .before .before .before .before .before .before .before .args .text .now in
+    let n = length (c .before .before .before .before .before .before .before .before .before .before .before .before .before .before .before .before .before .before .before .before .before .args .out .now) in
+    let y = sym (c .before .before .before .before .before .before .before .before .before .before .before .before .before .is-layout .ensures) ∙ not-false _ (c .before .before .before .before .before .before .before .before .before .before .before .before .if1 .left) in
+    let f = used-shown words text (c .before .before .before .before .before .before .before .before .before .before .before .least .result) (c .before .before .before .before .before .before .before .before .before .before .least2 .result) (c .before .before .before .before .before .before .before .before .before .before .before .least .ensures) (c .before .before .before .before .before .before .before .before .before .before .least2 .ensures) in
+    let p = rw (c .before .before .put .given .1) at (other (c .before .before .before .before .before .before .put-report .ensures) f) in
+    listed-whole words text n (c .no-refusal .ensures) (whole-listing words text n y _ (c .before .before .before .before .before .before .before .before .before .before .before .before .before .before .before .before .clear .ensures) p)
 
 pub list-spec : {M : Type 1} → statement M
 list-spec =
@@ -85,6 +96,7 @@ list-spec =
     (tie.spec
     clear-requires
     is-layout-requires
+    refuse-requires
     same-length
     returns
     least-requires
@@ -95,7 +107,9 @@ list-spec =
     enum-known-put
     enum-told
     clear-requires-2
+    refuse-requires-2
     same-length-2
     returns-2
+    no-refusal-requires
     same-length-3
     returns-3)

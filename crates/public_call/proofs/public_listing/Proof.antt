@@ -1,12 +1,9 @@
 use Prim.Native.Nat.{ℕ}
-use Rattle.public_call.proofs.Listings.{listing-accepted, listing-refused}
-use Rattle.reader.specs.declared.Verdict.{Verdict}
-use Rattle.reader.specs.Answer.{answerOf}
-use Rattle.refusal.specs.Refusal.{refusalOf}
+use Rattle.public_call.proofs.Listings.{listing-accepted, listing-refused, read-accepted, read-refused}
 use Rattle.area.specs.Area.{zeros, laid}
 use lib.ListN.{length}
 use mathlib.Core.List.{List}
-use mathlib.Core.Path.{sym, ap, _∙_}
+use mathlib.Core.Path.{ap, _∙_}
 use Prim.Native.Nat.{min}
 use borrow.Author.Needs.{needs}
 use Rattle.public_call.proofs.public_listing.Statement.{statement}
@@ -40,10 +37,11 @@ same-length-4 : tie.Need-same-length-4
 same-length-4 c = search needs
 
 returns : tie.Need-returns
-returns c = let a = c .before .before .before .before .before .before .before .before .before .before .before .before .before .before .before .before .before .before .before .before .before .before .before .before .before .args in
+returns c =
+    let a = c .before .before .before .before .before .before .before .before .before .before .before .before .before .before .before .before .before .before .before .before .before .before .before .before .before .args in
     let r = c .before .before .before .before .before .before .before .before .before .before .before .before .before .before .read in
     let k = length (a .out .now) in
-    let e = listing-accepted (a .events .now) (a .attributes .now) (a .source .now) (length (a .records .now)) (length (a .text .now)) (length (a .scratch .now)) k _ _ (sym (ap (λ (v : Verdict). answerOf v (refusalOf (r .result .refusal))) (c .before .before .before .before .before .before .enum-told .given .1)) ∙ r .ensures .0) (r .ensures .1 .0) (r .ensures .1 .1 .0) in
+    let e = listing-accepted (a .events .now) (a .attributes .now) (a .source .now) (length (a .records .now)) (length (a .text .now)) (length (a .scratch .now)) k _ _ (read-accepted (r .result) _ (r .ensures .0) (c .before .before .before .before .before .before .enum-told .given .1)) (r .ensures .1 .0) (r .ensures .1 .1 .0) in
     (c .before .before .put-listing .ensures .0 ∙ ap (laid (zeros k)) e, (c .before .before .put-listing .ensures .1 ∙ ap (λ (l : List ℕ). min k (length l)) e, r .ensures .1))
 
 same-length-5 : tie.Need-same-length-5
@@ -59,10 +57,12 @@ same-length-8 : tie.Need-same-length-8
 same-length-8 c = search needs
 
 returns-2 : tie.Need-returns-2
-returns-2 c = let a = c .before .before .before .before .before .before .before .before .before .before .before .before .before .before .before .before .before .before .before .before .before .before .before .args in
+returns-2 c =
+    let a = c .before .before .before .before .before .before .before .before .before .before .before .before .before .before .before .before .before .before .before .before .before .before .before .args in
     let r = c .before .before .before .before .before .before .before .before .before .before .before .before .read in
     let k = length (a .out .now) in
-    let e = listing-refused (a .events .now) (a .attributes .now) (a .source .now) (length (a .records .now)) (length (a .text .now)) (length (a .scratch .now)) k _ (sym (ap (λ (v : Verdict). answerOf v (refusalOf (r .result .refusal))) (c .before .before .before .before .enum-told2 .given .1)) ∙ r .ensures .0) in
+    let q = read-refused (r .result) _ (r .ensures .0) (c .before .before .before .before .enum-told2 .given .1) in
+    let e = listing-refused (a .events .now) (a .attributes .now) (a .source .now) (length (a .records .now)) (length (a .text .now)) (length (a .scratch .now)) k (q .0) (q .1) in
     (c .before .before .refuse .ensures .0 ∙ ap (laid (zeros k)) e, (c .before .before .refuse .ensures .1 ∙ ap (λ (l : List ℕ). min k (length l)) e, r .ensures .1))
 
 pub public-listing-spec : {M : Type 1} → statement M

@@ -5,6 +5,7 @@ use Rattle.public_claims.specs.PublicListing.{refusedText}
 use borrow.Author.Needs.{needs}
 use Rattle.public_call.proofs.refuse.Statement.{statement}
 use Rattle.public_call.proofs.refuse.Tie as tie
+use Rattle.refusal.specs.declared.Cause.the-variants as cause
 
 clear-requires : tie.Need-clear-requires
 clear-requires c κs = search needs
@@ -26,14 +27,14 @@ same-length c = search needs
 
 returns : tie.Need-returns
 unfolding refusedText
-returns c = put-whole (c .before .before .before .before .before .before .before .before .before .before .before .before .before .args .out .now) _ _ refusedText (c .before .before .before .before .before .before .before .before .before .before .clear .ensures) (c .before .before .before .before .before .copy-into .ensures .1) _ (sym (ap (storedAnswer 16) (c .before .put .given .1)) ∙ c .before .before .before .before .before .copy-into .ensures .0)
+returns c = put-whole (c .before .before .before .before .before .before .before .before .before .before .before .before .before .args .out .now) _ _ refusedText (c .before .before .before .before .before .before .before .before .before .before .clear .ensures) (c .before .before .before .before .before .copy-into .ensures .1) _ (sym (ap (storedAnswer cause.OutputFull) (c .before .put .given .1)) ∙ c .before .before .before .before .before .copy-into .ensures .0)
 
 same-length-2 : tie.Need-same-length-2
 same-length-2 c = search needs
 
 returns-2 : tie.Need-returns-2
 unfolding refusedText
-returns-2 c = put-part (c .before .before .before .before .before .before .before .before .before .before .before .before .args .out .now) _ _ refusedText (c .before .before .before .before .before .before .before .before .before .clear .ensures) (c .before .before .before .before .copy-into .ensures .1) (sym (ap (storedAnswer 16) (c .enum-told .given .1)) ∙ c .before .before .before .before .copy-into .ensures .0)
+returns-2 c = put-part (c .before .before .before .before .before .before .before .before .before .before .before .before .args .out .now) _ _ refusedText (c .before .before .before .before .before .before .before .before .before .clear .ensures) (c .before .before .before .before .copy-into .ensures .1) (sym (ap (storedAnswer cause.OutputFull) (c .enum-told .given .1)) ∙ c .before .before .before .before .copy-into .ensures .0)
 
 pub refuse-spec : {M : Type 1} → statement M
 refuse-spec =

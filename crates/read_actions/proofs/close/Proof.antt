@@ -1,6 +1,6 @@
 use mathlib.Core.Path.{refl, sym, ap, _∙_}
-use Rattle.tree_report.specs.Status.{ruled}
-use Rattle.read_place.specs.Coded.{marksOf}
+use Rattle.tree_status.specs.Status.{ruled}
+use Rattle.read_place.specs.inside.Coded.{marksOf}
 use Rattle.read_actions.proofs.Acting.{closed-top, closed-suite, closed-case, closed-not, closed-status}
 use borrow.Author.Needs.{needs}
 use Rattle.read_actions.proofs.close.Statement.{statement}

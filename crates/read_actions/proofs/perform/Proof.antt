@@ -1,7 +1,7 @@
 use Rattle.read_actions.proofs.Performing.{held, text-end, pieces-end, description-end, record-end, status-end, list-end, property-end, kind-end, acted-pass, acted-skip, acted-stop, acted-text, acted-end, acted-close, acted-close-text, acted-property, acted-list, acted-open, acted-missing, acted-broken}
 use Rattle.read_content.specs.declared.Performed.the-variants.{To}
-use Rattle.read_place.specs.Coded.{marksOf}
-use Rattle.read_state.specs.Coded.{levelOf, outputOf, tallyOf, controlOf}
+use Rattle.read_place.specs.inside.Coded.{marksOf}
+use Rattle.read_state.specs.inside.Coded.{levelOf, outputOf, controlOf}
 use Rattle.table.specs.Event.{attributesFrom}
 use Prim.Native.Nat.{_-_}
 use mathlib.Core.Path.{refl, ap}
@@ -73,7 +73,7 @@ same-length-2 : tie.Need-same-length-2
 same-length-2 c = search needs
 
 returns : tie.Need-returns
-returns c = λ rooms p s name pa hd li sz. acted-open (levelOf (c .before .before .before .before .before .before .before .before .before .before .before .before .before .before .before .before .args .control .level)) (outputOf (c .before .before .before .before .before .before .before .before .before .before .before .before .before .before .before .before .args .control .output)) (c .before .before .before .before .before .before .before .before .before .before .before .before .before .before .before .before .args .control .seen) (c .before .before .before .before .before .before .before .before .before .before .before .before .before .before .before .before .args .control .closed) (tallyOf (c .before .before .before .before .before .before .before .before .before .before .before .before .before .before .before .before .args .control .tally)) name (marksOf (c .before .before .before .before .before .before .before .before .before .before .before .before .before .before .before .before .args .marks)) p rooms (c .before .before .before .before .before .before .before .before .before .before .before .before .before .before .before .before .args .range .first) (attributesFrom (c .before .before .before .before .before .before .before .before .before .before .before .before .before .before .before .before .args .attributes .now) (c .before .before .before .before .before .before .before .before .before .before .before .before .before .before .before .before .args .source .now) (c .before .before .before .before .before .before .before .before .before .before .before .before .before .before .before .before .args .range .end - c .before .before .before .before .before .before .before .before .before .before .before .before .before .before .before .before .args .range .first) (c .before .before .before .before .before .before .before .before .before .before .before .before .before .before .before .before .args .range .first)) _ _ _ _ _ (c .before .before .before .before .before .before .before .before .before .before .before .before .before .before .before .before .args .content) s _ (c .before .before .before .before .before .before .before .before .before .before .before .before .before .before .before .before .args .control .mode) (c .before .before .before .before .before .before .before .before .before .before .before .before .before .before .before .before .pre .0) li (c .before .before .before .before .before .before .before .before .act .given .1) (λ x. c .before .before .before .before .open-element .ensures rooms p s (c .before .before .before .before .before .before .before .before .before .before .before .before .before .before .before .before .args .scratch .now) (controlOf (c .before .before .before .before .before .before .before .before .before .before .before .before .before .before .before .before .args .control)) (marksOf (c .before .before .before .before .before .before .before .before .before .before .before .before .before .before .before .before .args .marks)) _ pa x hd li sz)
+returns c = λ rooms p s name pa hd li sz. acted-open (levelOf (c .before .before .before .before .before .before .before .before .before .before .before .before .before .before .before .before .args .control .level)) (outputOf (c .before .before .before .before .before .before .before .before .before .before .before .before .before .before .before .before .args .control .output)) (c .before .before .before .before .before .before .before .before .before .before .before .before .before .before .before .before .args .control .seen) (c .before .before .before .before .before .before .before .before .before .before .before .before .before .before .before .before .args .control .closed) (c .before .before .before .before .before .before .before .before .before .before .before .before .before .before .before .before .args .control .tally) name (marksOf (c .before .before .before .before .before .before .before .before .before .before .before .before .before .before .before .before .args .marks)) p rooms (c .before .before .before .before .before .before .before .before .before .before .before .before .before .before .before .before .args .range .first) (attributesFrom (c .before .before .before .before .before .before .before .before .before .before .before .before .before .before .before .before .args .attributes .now) (c .before .before .before .before .before .before .before .before .before .before .before .before .before .before .before .before .args .source .now) (c .before .before .before .before .before .before .before .before .before .before .before .before .before .before .before .before .args .range .end - c .before .before .before .before .before .before .before .before .before .before .before .before .before .before .before .before .args .range .first) (c .before .before .before .before .before .before .before .before .before .before .before .before .before .before .before .before .args .range .first)) _ _ _ _ _ (c .before .before .before .before .before .before .before .before .before .before .before .before .before .before .before .before .args .content) s _ (c .before .before .before .before .before .before .before .before .before .before .before .before .before .before .before .before .args .control .mode) (c .before .before .before .before .before .before .before .before .before .before .before .before .before .before .before .before .pre .0) li (c .before .before .before .before .before .before .before .before .act .given .1) (λ x. c .before .before .before .before .open-element .ensures rooms p s (c .before .before .before .before .before .before .before .before .before .before .before .before .before .before .before .before .args .scratch .now) (controlOf (c .before .before .before .before .before .before .before .before .before .before .before .before .before .before .before .before .args .control)) (marksOf (c .before .before .before .before .before .before .before .before .before .before .before .before .before .before .before .before .args .marks)) _ pa x hd li sz)
 
 same-length-3 : tie.Need-same-length-3
 same-length-3 c = search needs
@@ -82,7 +82,7 @@ same-length-4 : tie.Need-same-length-4
 same-length-4 c = search needs
 
 returns-2 : tie.Need-returns-2
-returns-2 c = λ rooms p s name pa hd li sz. acted-close (levelOf (c .before .before .before .before .before .before .before .before .before .before .before .before .before .before .before .args .control .level)) (outputOf (c .before .before .before .before .before .before .before .before .before .before .before .before .before .before .before .args .control .output)) (c .before .before .before .before .before .before .before .before .before .before .before .before .before .before .before .args .control .seen) (c .before .before .before .before .before .before .before .before .before .before .before .before .before .before .before .args .control .closed) (tallyOf (c .before .before .before .before .before .before .before .before .before .before .before .before .before .before .before .args .control .tally)) name (marksOf (c .before .before .before .before .before .before .before .before .before .before .before .before .before .before .before .args .marks)) p rooms (c .before .before .before .before .before .before .before .before .before .before .before .before .before .before .before .args .range .first) (attributesFrom (c .before .before .before .before .before .before .before .before .before .before .before .before .before .before .before .args .attributes .now) (c .before .before .before .before .before .before .before .before .before .before .before .before .before .before .before .args .source .now) (c .before .before .before .before .before .before .before .before .before .before .before .before .before .before .before .args .range .end - c .before .before .before .before .before .before .before .before .before .before .before .before .before .before .before .args .range .first) (c .before .before .before .before .before .before .before .before .before .before .before .before .before .before .before .args .range .first)) _ _ _ _ _ (c .before .before .before .before .before .before .before .before .before .before .before .before .before .before .before .args .content) s _ (c .before .before .before .before .before .before .before .before .before .before .before .before .before .before .before .args .control .mode) (c .before .before .before .before .before .before .before .before .before .before .before .before .before .before .before .pre .0) li (c .before .before .before .before .before .before .before .enum-told .given .1) (λ x. c .before .before .before .before .close .ensures rooms p s (controlOf (c .before .before .before .before .before .before .before .before .before .before .before .before .before .before .before .args .control)) _ _ (c .before .before .before .before .before .before .before .before .before .before .before .before .before .before .before .args .attributes .now) (c .before .before .before .before .before .before .before .before .before .before .before .before .before .before .before .args .source .now) pa refl hd x sz)
+returns-2 c = λ rooms p s name pa hd li sz. acted-close (levelOf (c .before .before .before .before .before .before .before .before .before .before .before .before .before .before .before .args .control .level)) (outputOf (c .before .before .before .before .before .before .before .before .before .before .before .before .before .before .before .args .control .output)) (c .before .before .before .before .before .before .before .before .before .before .before .before .before .before .before .args .control .seen) (c .before .before .before .before .before .before .before .before .before .before .before .before .before .before .before .args .control .closed) (c .before .before .before .before .before .before .before .before .before .before .before .before .before .before .before .args .control .tally) name (marksOf (c .before .before .before .before .before .before .before .before .before .before .before .before .before .before .before .args .marks)) p rooms (c .before .before .before .before .before .before .before .before .before .before .before .before .before .before .before .args .range .first) (attributesFrom (c .before .before .before .before .before .before .before .before .before .before .before .before .before .before .before .args .attributes .now) (c .before .before .before .before .before .before .before .before .before .before .before .before .before .before .before .args .source .now) (c .before .before .before .before .before .before .before .before .before .before .before .before .before .before .before .args .range .end - c .before .before .before .before .before .before .before .before .before .before .before .before .before .before .before .args .range .first) (c .before .before .before .before .before .before .before .before .before .before .before .before .before .before .before .args .range .first)) _ _ _ _ _ (c .before .before .before .before .before .before .before .before .before .before .before .before .before .before .before .args .content) s _ (c .before .before .before .before .before .before .before .before .before .before .before .before .before .before .before .args .control .mode) (c .before .before .before .before .before .before .before .before .before .before .before .before .before .before .before .pre .0) li (c .before .before .before .before .before .before .before .enum-told .given .1) (λ x. c .before .before .before .before .close .ensures rooms p s (controlOf (c .before .before .before .before .before .before .before .before .before .before .before .before .before .before .before .args .control)) _ _ (c .before .before .before .before .before .before .before .before .before .before .before .before .before .before .before .args .attributes .now) (c .before .before .before .before .before .before .before .before .before .before .before .before .before .before .before .args .source .now) pa refl hd x sz)
 
 same-length-5 : tie.Need-same-length-5
 same-length-5 c = search needs
@@ -91,13 +91,13 @@ same-length-6 : tie.Need-same-length-6
 same-length-6 c = search needs
 
 returns-3 : tie.Need-returns-3
-returns-3 c = λ rooms p s name pa hd li sz. acted-close-text (levelOf (c .before .before .before .before .before .before .before .before .before .before .before .before .before .before .before .args .control .level)) (outputOf (c .before .before .before .before .before .before .before .before .before .before .before .before .before .before .before .args .control .output)) (c .before .before .before .before .before .before .before .before .before .before .before .before .before .before .before .args .control .seen) (c .before .before .before .before .before .before .before .before .before .before .before .before .before .before .before .args .control .closed) (tallyOf (c .before .before .before .before .before .before .before .before .before .before .before .before .before .before .before .args .control .tally)) name (marksOf (c .before .before .before .before .before .before .before .before .before .before .before .before .before .before .before .args .marks)) p rooms (c .before .before .before .before .before .before .before .before .before .before .before .before .before .before .before .args .range .first) (attributesFrom (c .before .before .before .before .before .before .before .before .before .before .before .before .before .before .before .args .attributes .now) (c .before .before .before .before .before .before .before .before .before .before .before .before .before .before .before .args .source .now) (c .before .before .before .before .before .before .before .before .before .before .before .before .before .before .before .args .range .end - c .before .before .before .before .before .before .before .before .before .before .before .before .before .before .before .args .range .first) (c .before .before .before .before .before .before .before .before .before .before .before .before .before .before .before .args .range .first)) _ _ _ _ _ (c .before .before .before .before .before .before .before .before .before .before .before .before .before .before .before .args .content) s _ (c .before .before .before .before .before .before .before .before .before .before .before .before .before .before .before .args .control .mode) (c .before .before .before .before .before .before .before .before .before .before .before .before .before .before .before .pre .0) li (c .before .before .before .before .before .before .before .enum-told2 .given .1) (λ x. c .before .before .before .before .close-text .ensures rooms p s (c .before .before .before .before .before .before .before .before .before .before .before .before .before .before .before .args .attributes .now) (c .before .before .before .before .before .before .before .before .before .before .before .before .before .before .before .args .source .now) pa hd x sz)
+returns-3 c = λ rooms p s name pa hd li sz. acted-close-text (levelOf (c .before .before .before .before .before .before .before .before .before .before .before .before .before .before .before .args .control .level)) (outputOf (c .before .before .before .before .before .before .before .before .before .before .before .before .before .before .before .args .control .output)) (c .before .before .before .before .before .before .before .before .before .before .before .before .before .before .before .args .control .seen) (c .before .before .before .before .before .before .before .before .before .before .before .before .before .before .before .args .control .closed) (c .before .before .before .before .before .before .before .before .before .before .before .before .before .before .before .args .control .tally) name (marksOf (c .before .before .before .before .before .before .before .before .before .before .before .before .before .before .before .args .marks)) p rooms (c .before .before .before .before .before .before .before .before .before .before .before .before .before .before .before .args .range .first) (attributesFrom (c .before .before .before .before .before .before .before .before .before .before .before .before .before .before .before .args .attributes .now) (c .before .before .before .before .before .before .before .before .before .before .before .before .before .before .before .args .source .now) (c .before .before .before .before .before .before .before .before .before .before .before .before .before .before .before .args .range .end - c .before .before .before .before .before .before .before .before .before .before .before .before .before .before .before .args .range .first) (c .before .before .before .before .before .before .before .before .before .before .before .before .before .before .before .args .range .first)) _ _ _ _ _ (c .before .before .before .before .before .before .before .before .before .before .before .before .before .before .before .args .content) s _ (c .before .before .before .before .before .before .before .before .before .before .before .before .before .before .before .args .control .mode) (c .before .before .before .before .before .before .before .before .before .before .before .before .before .before .before .pre .0) li (c .before .before .before .before .before .before .before .enum-told2 .given .1) (λ x. c .before .before .before .before .close-text .ensures rooms p s (c .before .before .before .before .before .before .before .before .before .before .before .before .before .before .before .args .attributes .now) (c .before .before .before .before .before .before .before .before .before .before .before .before .before .before .before .args .source .now) pa hd x sz)
 
 same-length-7 : tie.Need-same-length-7
 same-length-7 c = search needs
 
 returns-4 : tie.Need-returns-4
-returns-4 c = λ rooms p s name pa hd li sz. acted-list (levelOf (c .before .before .before .before .before .before .before .before .before .before .before .before .args .control .level)) (outputOf (c .before .before .before .before .before .before .before .before .before .before .before .before .args .control .output)) (c .before .before .before .before .before .before .before .before .before .before .before .before .args .control .seen) (c .before .before .before .before .before .before .before .before .before .before .before .before .args .control .closed) (tallyOf (c .before .before .before .before .before .before .before .before .before .before .before .before .args .control .tally)) name (marksOf (c .before .before .before .before .before .before .before .before .before .before .before .before .args .marks)) p rooms (c .before .before .before .before .before .before .before .before .before .before .before .before .args .range .first) (attributesFrom (c .before .before .before .before .before .before .before .before .before .before .before .before .args .attributes .now) (c .before .before .before .before .before .before .before .before .before .before .before .before .args .source .now) (c .before .before .before .before .before .before .before .before .before .before .before .before .args .range .end - c .before .before .before .before .before .before .before .before .before .before .before .before .args .range .first) (c .before .before .before .before .before .before .before .before .before .before .before .before .args .range .first)) _ _ _ _ _ (c .before .before .before .before .before .before .before .before .before .before .before .before .args .content) s _ (c .before .before .before .before .before .before .before .before .before .before .before .before .args .control .mode) (c .before .before .before .before .before .before .before .before .before .before .before .before .pre .0) li (c .before .before .before .before .enum-told3 .given .1) hd (c .before .before .open-list .ensures .1) (ap To (c .before .before .open-list .ensures .0))
+returns-4 c = λ rooms p s name pa hd li sz. acted-list (levelOf (c .before .before .before .before .before .before .before .before .before .before .before .before .args .control .level)) (outputOf (c .before .before .before .before .before .before .before .before .before .before .before .before .args .control .output)) (c .before .before .before .before .before .before .before .before .before .before .before .before .args .control .seen) (c .before .before .before .before .before .before .before .before .before .before .before .before .args .control .closed) (c .before .before .before .before .before .before .before .before .before .before .before .before .args .control .tally) name (marksOf (c .before .before .before .before .before .before .before .before .before .before .before .before .args .marks)) p rooms (c .before .before .before .before .before .before .before .before .before .before .before .before .args .range .first) (attributesFrom (c .before .before .before .before .before .before .before .before .before .before .before .before .args .attributes .now) (c .before .before .before .before .before .before .before .before .before .before .before .before .args .source .now) (c .before .before .before .before .before .before .before .before .before .before .before .before .args .range .end - c .before .before .before .before .before .before .before .before .before .before .before .before .args .range .first) (c .before .before .before .before .before .before .before .before .before .before .before .before .args .range .first)) _ _ _ _ _ (c .before .before .before .before .before .before .before .before .before .before .before .before .args .content) s _ (c .before .before .before .before .before .before .before .before .before .before .before .before .args .control .mode) (c .before .before .before .before .before .before .before .before .before .before .before .before .pre .0) li (c .before .before .before .before .enum-told3 .given .1) hd (c .before .before .open-list .ensures .1) (ap To (c .before .before .open-list .ensures .0))
 
 same-length-8 : tie.Need-same-length-8
 same-length-8 c = search needs
@@ -106,28 +106,28 @@ same-length-9 : tie.Need-same-length-9
 same-length-9 c = search needs
 
 returns-5 : tie.Need-returns-5
-returns-5 c = λ rooms p s name pa hd li sz. acted-property (levelOf (c .before .before .before .before .before .before .before .before .before .before .before .before .before .before .before .args .control .level)) (outputOf (c .before .before .before .before .before .before .before .before .before .before .before .before .before .before .before .args .control .output)) (c .before .before .before .before .before .before .before .before .before .before .before .before .before .before .before .args .control .seen) (c .before .before .before .before .before .before .before .before .before .before .before .before .before .before .before .args .control .closed) (tallyOf (c .before .before .before .before .before .before .before .before .before .before .before .before .before .before .before .args .control .tally)) name (marksOf (c .before .before .before .before .before .before .before .before .before .before .before .before .before .before .before .args .marks)) p rooms (c .before .before .before .before .before .before .before .before .before .before .before .before .before .before .before .args .range .first) (attributesFrom (c .before .before .before .before .before .before .before .before .before .before .before .before .before .before .before .args .attributes .now) (c .before .before .before .before .before .before .before .before .before .before .before .before .before .before .before .args .source .now) (c .before .before .before .before .before .before .before .before .before .before .before .before .before .before .before .args .range .end - c .before .before .before .before .before .before .before .before .before .before .before .before .before .before .before .args .range .first) (c .before .before .before .before .before .before .before .before .before .before .before .before .before .before .before .args .range .first)) _ _ _ _ _ (c .before .before .before .before .before .before .before .before .before .before .before .before .before .before .before .args .content) s _ (c .before .before .before .before .before .before .before .before .before .before .before .before .before .before .before .args .control .mode) (c .before .before .before .before .before .before .before .before .before .before .before .before .before .before .before .pre .0) li (c .before .before .before .before .before .before .before .enum-told4 .given .1) (λ x. c .before .before .before .before .read-property .ensures rooms p s (c .before .before .before .before .before .before .before .before .before .before .before .before .before .before .before .args .scratch .now) (marksOf (c .before .before .before .before .before .before .before .before .before .before .before .before .before .before .before .args .marks)) pa hd x sz)
+returns-5 c = λ rooms p s name pa hd li sz. acted-property (levelOf (c .before .before .before .before .before .before .before .before .before .before .before .before .before .before .before .args .control .level)) (outputOf (c .before .before .before .before .before .before .before .before .before .before .before .before .before .before .before .args .control .output)) (c .before .before .before .before .before .before .before .before .before .before .before .before .before .before .before .args .control .seen) (c .before .before .before .before .before .before .before .before .before .before .before .before .before .before .before .args .control .closed) (c .before .before .before .before .before .before .before .before .before .before .before .before .before .before .before .args .control .tally) name (marksOf (c .before .before .before .before .before .before .before .before .before .before .before .before .before .before .before .args .marks)) p rooms (c .before .before .before .before .before .before .before .before .before .before .before .before .before .before .before .args .range .first) (attributesFrom (c .before .before .before .before .before .before .before .before .before .before .before .before .before .before .before .args .attributes .now) (c .before .before .before .before .before .before .before .before .before .before .before .before .before .before .before .args .source .now) (c .before .before .before .before .before .before .before .before .before .before .before .before .before .before .before .args .range .end - c .before .before .before .before .before .before .before .before .before .before .before .before .before .before .before .args .range .first) (c .before .before .before .before .before .before .before .before .before .before .before .before .before .before .before .args .range .first)) _ _ _ _ _ (c .before .before .before .before .before .before .before .before .before .before .before .before .before .before .before .args .content) s _ (c .before .before .before .before .before .before .before .before .before .before .before .before .before .before .before .args .control .mode) (c .before .before .before .before .before .before .before .before .before .before .before .before .before .before .before .pre .0) li (c .before .before .before .before .before .before .before .enum-told4 .given .1) (λ x. c .before .before .before .before .read-property .ensures rooms p s (c .before .before .before .before .before .before .before .before .before .before .before .before .before .before .before .args .scratch .now) (marksOf (c .before .before .before .before .before .before .before .before .before .before .before .before .before .before .before .args .marks)) pa hd x sz)
 
 returns-6 : tie.Need-returns-6
-returns-6 c = λ rooms p s name pa hd li sz. acted-missing (levelOf (c .before .before .before .before .before .before .before .before .before .args .control .level)) (outputOf (c .before .before .before .before .before .before .before .before .before .args .control .output)) (c .before .before .before .before .before .before .before .before .before .args .control .seen) (c .before .before .before .before .before .before .before .before .before .args .control .closed) (tallyOf (c .before .before .before .before .before .before .before .before .before .args .control .tally)) name (marksOf (c .before .before .before .before .before .before .before .before .before .args .marks)) p rooms (c .before .before .before .before .before .before .before .before .before .args .range .first) (attributesFrom (c .before .before .before .before .before .before .before .before .before .args .attributes .now) (c .before .before .before .before .before .before .before .before .before .args .source .now) (c .before .before .before .before .before .before .before .before .before .args .range .end - c .before .before .before .before .before .before .before .before .before .args .range .first) (c .before .before .before .before .before .before .before .before .before .args .range .first)) _ _ _ _ _ (c .before .before .before .before .before .before .before .before .before .args .content) s _ (c .before .before .before .before .before .before .before .before .before .args .control .mode) (c .before .before .before .before .before .before .before .before .before .pre .0) pa (c .before .enum-told5 .given .1) (c .refused .ensures)
+returns-6 c = λ rooms p s name pa hd li sz. acted-missing (levelOf (c .before .before .before .before .before .before .before .before .before .args .control .level)) (outputOf (c .before .before .before .before .before .before .before .before .before .args .control .output)) (c .before .before .before .before .before .before .before .before .before .args .control .seen) (c .before .before .before .before .before .before .before .before .before .args .control .closed) (c .before .before .before .before .before .before .before .before .before .args .control .tally) name (marksOf (c .before .before .before .before .before .before .before .before .before .args .marks)) p rooms (c .before .before .before .before .before .before .before .before .before .args .range .first) (attributesFrom (c .before .before .before .before .before .before .before .before .before .args .attributes .now) (c .before .before .before .before .before .before .before .before .before .args .source .now) (c .before .before .before .before .before .before .before .before .before .args .range .end - c .before .before .before .before .before .before .before .before .before .args .range .first) (c .before .before .before .before .before .before .before .before .before .args .range .first)) _ _ _ _ _ (c .before .before .before .before .before .before .before .before .before .args .content) s _ (c .before .before .before .before .before .before .before .before .before .args .control .mode) (c .before .before .before .before .before .before .before .before .before .pre .0) pa (c .before .enum-told5 .given .1) (c .refused .ensures)
 
 returns-7 : tie.Need-returns-7
-returns-7 c = λ rooms p s name pa hd li sz. acted-broken (levelOf (c .before .before .before .before .before .before .before .before .before .before .args .control .level)) (outputOf (c .before .before .before .before .before .before .before .before .before .before .args .control .output)) (c .before .before .before .before .before .before .before .before .before .before .args .control .seen) (c .before .before .before .before .before .before .before .before .before .before .args .control .closed) (tallyOf (c .before .before .before .before .before .before .before .before .before .before .args .control .tally)) name (marksOf (c .before .before .before .before .before .before .before .before .before .before .args .marks)) p rooms (c .before .before .before .before .before .before .before .before .before .before .args .range .first) (attributesFrom (c .before .before .before .before .before .before .before .before .before .before .args .attributes .now) (c .before .before .before .before .before .before .before .before .before .before .args .source .now) (c .before .before .before .before .before .before .before .before .before .before .args .range .end - c .before .before .before .before .before .before .before .before .before .before .args .range .first) (c .before .before .before .before .before .before .before .before .before .before .args .range .first)) _ _ _ _ _ (c .before .before .before .before .before .before .before .before .before .before .args .content) s _ (c .before .before .before .before .before .before .before .before .before .before .args .control .mode) (c .before .before .before .before .before .before .before .before .before .before .pre .0) pa (c .before .before .act2 .given .1) (c .refused2 .ensures)
+returns-7 c = λ rooms p s name pa hd li sz. acted-broken (levelOf (c .before .before .before .before .before .before .before .before .before .before .args .control .level)) (outputOf (c .before .before .before .before .before .before .before .before .before .before .args .control .output)) (c .before .before .before .before .before .before .before .before .before .before .args .control .seen) (c .before .before .before .before .before .before .before .before .before .before .args .control .closed) (c .before .before .before .before .before .before .before .before .before .before .args .control .tally) name (marksOf (c .before .before .before .before .before .before .before .before .before .before .args .marks)) p rooms (c .before .before .before .before .before .before .before .before .before .before .args .range .first) (attributesFrom (c .before .before .before .before .before .before .before .before .before .before .args .attributes .now) (c .before .before .before .before .before .before .before .before .before .before .args .source .now) (c .before .before .before .before .before .before .before .before .before .before .args .range .end - c .before .before .before .before .before .before .before .before .before .before .args .range .first) (c .before .before .before .before .before .before .before .before .before .before .args .range .first)) _ _ _ _ _ (c .before .before .before .before .before .before .before .before .before .before .args .content) s _ (c .before .before .before .before .before .before .before .before .before .before .args .control .mode) (c .before .before .before .before .before .before .before .before .before .before .pre .0) pa (c .before .before .act2 .given .1) (c .refused2 .ensures)
 
 returns-8 : tie.Need-returns-8
-returns-8 c = λ rooms p s name pa hd li sz. acted-pass (levelOf (c .before .before .before .before .before .before .before .before .args .control .level)) (outputOf (c .before .before .before .before .before .before .before .before .args .control .output)) (c .before .before .before .before .before .before .before .before .args .control .seen) (c .before .before .before .before .before .before .before .before .args .control .closed) (tallyOf (c .before .before .before .before .before .before .before .before .args .control .tally)) name (marksOf (c .before .before .before .before .before .before .before .before .args .marks)) p rooms (c .before .before .before .before .before .before .before .before .args .range .first) (attributesFrom (c .before .before .before .before .before .before .before .before .args .attributes .now) (c .before .before .before .before .before .before .before .before .args .source .now) (c .before .before .before .before .before .before .before .before .args .range .end - c .before .before .before .before .before .before .before .before .args .range .first) (c .before .before .before .before .before .before .before .before .args .range .first)) _ _ _ _ _ (c .before .before .before .before .before .before .before .before .args .content) s _ (c .before .before .before .before .before .before .before .before .args .control .mode) (c .before .before .before .before .before .before .before .before .pre .0) li hd refl (c .enum-told6 .given .1)
+returns-8 c = λ rooms p s name pa hd li sz. acted-pass (levelOf (c .before .before .before .before .before .before .before .before .args .control .level)) (outputOf (c .before .before .before .before .before .before .before .before .args .control .output)) (c .before .before .before .before .before .before .before .before .args .control .seen) (c .before .before .before .before .before .before .before .before .args .control .closed) (c .before .before .before .before .before .before .before .before .args .control .tally) name (marksOf (c .before .before .before .before .before .before .before .before .args .marks)) p rooms (c .before .before .before .before .before .before .before .before .args .range .first) (attributesFrom (c .before .before .before .before .before .before .before .before .args .attributes .now) (c .before .before .before .before .before .before .before .before .args .source .now) (c .before .before .before .before .before .before .before .before .args .range .end - c .before .before .before .before .before .before .before .before .args .range .first) (c .before .before .before .before .before .before .before .before .args .range .first)) _ _ _ _ _ (c .before .before .before .before .before .before .before .before .args .content) s _ (c .before .before .before .before .before .before .before .before .args .control .mode) (c .before .before .before .before .before .before .before .before .pre .0) li hd refl (c .enum-told6 .given .1)
 
 returns-9 : tie.Need-returns-9
-returns-9 c = λ rooms p s name pa hd li sz. acted-skip (levelOf (c .before .before .before .before .before .before .before .before .args .control .level)) (outputOf (c .before .before .before .before .before .before .before .before .args .control .output)) (c .before .before .before .before .before .before .before .before .args .control .seen) (c .before .before .before .before .before .before .before .before .args .control .closed) (tallyOf (c .before .before .before .before .before .before .before .before .args .control .tally)) name (marksOf (c .before .before .before .before .before .before .before .before .args .marks)) p rooms (c .before .before .before .before .before .before .before .before .args .range .first) (attributesFrom (c .before .before .before .before .before .before .before .before .args .attributes .now) (c .before .before .before .before .before .before .before .before .args .source .now) (c .before .before .before .before .before .before .before .before .args .range .end - c .before .before .before .before .before .before .before .before .args .range .first) (c .before .before .before .before .before .before .before .before .args .range .first)) _ _ _ _ _ (c .before .before .before .before .before .before .before .before .args .content) s _ (c .before .before .before .before .before .before .before .before .args .control .mode) (c .before .before .before .before .before .before .before .before .pre .0) li hd refl (c .enum-told7 .given .1)
+returns-9 c = λ rooms p s name pa hd li sz. acted-skip (levelOf (c .before .before .before .before .before .before .before .before .args .control .level)) (outputOf (c .before .before .before .before .before .before .before .before .args .control .output)) (c .before .before .before .before .before .before .before .before .args .control .seen) (c .before .before .before .before .before .before .before .before .args .control .closed) (c .before .before .before .before .before .before .before .before .args .control .tally) name (marksOf (c .before .before .before .before .before .before .before .before .args .marks)) p rooms (c .before .before .before .before .before .before .before .before .args .range .first) (attributesFrom (c .before .before .before .before .before .before .before .before .args .attributes .now) (c .before .before .before .before .before .before .before .before .args .source .now) (c .before .before .before .before .before .before .before .before .args .range .end - c .before .before .before .before .before .before .before .before .args .range .first) (c .before .before .before .before .before .before .before .before .args .range .first)) _ _ _ _ _ (c .before .before .before .before .before .before .before .before .args .content) s _ (c .before .before .before .before .before .before .before .before .args .control .mode) (c .before .before .before .before .before .before .before .before .pre .0) li hd refl (c .enum-told7 .given .1)
 
 returns-10 : tie.Need-returns-10
-returns-10 c = λ rooms p s name pa hd li sz. acted-text (levelOf (c .before .before .before .before .before .before .before .before .args .control .level)) (outputOf (c .before .before .before .before .before .before .before .before .args .control .output)) (c .before .before .before .before .before .before .before .before .args .control .seen) (c .before .before .before .before .before .before .before .before .args .control .closed) (tallyOf (c .before .before .before .before .before .before .before .before .args .control .tally)) name (marksOf (c .before .before .before .before .before .before .before .before .args .marks)) p rooms (c .before .before .before .before .before .before .before .before .args .range .first) (attributesFrom (c .before .before .before .before .before .before .before .before .args .attributes .now) (c .before .before .before .before .before .before .before .before .args .source .now) (c .before .before .before .before .before .before .before .before .args .range .end - c .before .before .before .before .before .before .before .before .args .range .first) (c .before .before .before .before .before .before .before .before .args .range .first)) _ _ _ _ _ (c .before .before .before .before .before .before .before .before .args .content) s _ (c .before .before .before .before .before .before .before .before .args .control .mode) (c .before .before .before .before .before .before .before .before .pre .0) li hd refl (c .enum-told8 .given .1)
+returns-10 c = λ rooms p s name pa hd li sz. acted-text (levelOf (c .before .before .before .before .before .before .before .before .args .control .level)) (outputOf (c .before .before .before .before .before .before .before .before .args .control .output)) (c .before .before .before .before .before .before .before .before .args .control .seen) (c .before .before .before .before .before .before .before .before .args .control .closed) (c .before .before .before .before .before .before .before .before .args .control .tally) name (marksOf (c .before .before .before .before .before .before .before .before .args .marks)) p rooms (c .before .before .before .before .before .before .before .before .args .range .first) (attributesFrom (c .before .before .before .before .before .before .before .before .args .attributes .now) (c .before .before .before .before .before .before .before .before .args .source .now) (c .before .before .before .before .before .before .before .before .args .range .end - c .before .before .before .before .before .before .before .before .args .range .first) (c .before .before .before .before .before .before .before .before .args .range .first)) _ _ _ _ _ (c .before .before .before .before .before .before .before .before .args .content) s _ (c .before .before .before .before .before .before .before .before .args .control .mode) (c .before .before .before .before .before .before .before .before .pre .0) li hd refl (c .enum-told8 .given .1)
 
 returns-11 : tie.Need-returns-11
-returns-11 c = λ rooms p s name pa hd li sz. acted-end (levelOf (c .before .before .before .before .before .before .before .before .args .control .level)) (outputOf (c .before .before .before .before .before .before .before .before .args .control .output)) (c .before .before .before .before .before .before .before .before .args .control .seen) (c .before .before .before .before .before .before .before .before .args .control .closed) (tallyOf (c .before .before .before .before .before .before .before .before .args .control .tally)) name (marksOf (c .before .before .before .before .before .before .before .before .args .marks)) p rooms (c .before .before .before .before .before .before .before .before .args .range .first) (attributesFrom (c .before .before .before .before .before .before .before .before .args .attributes .now) (c .before .before .before .before .before .before .before .before .args .source .now) (c .before .before .before .before .before .before .before .before .args .range .end - c .before .before .before .before .before .before .before .before .args .range .first) (c .before .before .before .before .before .before .before .before .args .range .first)) _ _ _ _ _ (c .before .before .before .before .before .before .before .before .args .content) s _ (c .before .before .before .before .before .before .before .before .args .control .mode) (c .before .before .before .before .before .before .before .before .pre .0) li hd refl (c .enum-told9 .given .1)
+returns-11 c = λ rooms p s name pa hd li sz. acted-end (levelOf (c .before .before .before .before .before .before .before .before .args .control .level)) (outputOf (c .before .before .before .before .before .before .before .before .args .control .output)) (c .before .before .before .before .before .before .before .before .args .control .seen) (c .before .before .before .before .before .before .before .before .args .control .closed) (c .before .before .before .before .before .before .before .before .args .control .tally) name (marksOf (c .before .before .before .before .before .before .before .before .args .marks)) p rooms (c .before .before .before .before .before .before .before .before .args .range .first) (attributesFrom (c .before .before .before .before .before .before .before .before .args .attributes .now) (c .before .before .before .before .before .before .before .before .args .source .now) (c .before .before .before .before .before .before .before .before .args .range .end - c .before .before .before .before .before .before .before .before .args .range .first) (c .before .before .before .before .before .before .before .before .args .range .first)) _ _ _ _ _ (c .before .before .before .before .before .before .before .before .args .content) s _ (c .before .before .before .before .before .before .before .before .args .control .mode) (c .before .before .before .before .before .before .before .before .pre .0) li hd refl (c .enum-told9 .given .1)
 
 returns-12 : tie.Need-returns-12
-returns-12 c = λ rooms p s name pa hd li sz. acted-stop (levelOf (c .before .before .before .before .before .before .before .before .args .control .level)) (outputOf (c .before .before .before .before .before .before .before .before .args .control .output)) (c .before .before .before .before .before .before .before .before .args .control .seen) (c .before .before .before .before .before .before .before .before .args .control .closed) (tallyOf (c .before .before .before .before .before .before .before .before .args .control .tally)) name (marksOf (c .before .before .before .before .before .before .before .before .args .marks)) p rooms (c .before .before .before .before .before .before .before .before .args .range .first) (attributesFrom (c .before .before .before .before .before .before .before .before .args .attributes .now) (c .before .before .before .before .before .before .before .before .args .source .now) (c .before .before .before .before .before .before .before .before .args .range .end - c .before .before .before .before .before .before .before .before .args .range .first) (c .before .before .before .before .before .before .before .before .args .range .first)) _ _ _ _ _ (c .before .before .before .before .before .before .before .before .args .content) s _ (c .before .before .before .before .before .before .before .before .args .control .mode) (c .before .before .before .before .before .before .before .before .pre .0) li hd refl (c .enum-told10 .given .1)
+returns-12 c = λ rooms p s name pa hd li sz. acted-stop (levelOf (c .before .before .before .before .before .before .before .before .args .control .level)) (outputOf (c .before .before .before .before .before .before .before .before .args .control .output)) (c .before .before .before .before .before .before .before .before .args .control .seen) (c .before .before .before .before .before .before .before .before .args .control .closed) (c .before .before .before .before .before .before .before .before .args .control .tally) name (marksOf (c .before .before .before .before .before .before .before .before .args .marks)) p rooms (c .before .before .before .before .before .before .before .before .args .range .first) (attributesFrom (c .before .before .before .before .before .before .before .before .args .attributes .now) (c .before .before .before .before .before .before .before .before .args .source .now) (c .before .before .before .before .before .before .before .before .args .range .end - c .before .before .before .before .before .before .before .before .args .range .first) (c .before .before .before .before .before .before .before .before .args .range .first)) _ _ _ _ _ (c .before .before .before .before .before .before .before .before .args .content) s _ (c .before .before .before .before .before .before .before .before .args .control .mode) (c .before .before .before .before .before .before .before .before .pre .0) li hd refl (c .enum-told10 .given .1)
 
 pub perform-spec : {M : Type 1} → statement M
 perform-spec =

@@ -3,7 +3,7 @@ use lib.ListN.{take}
 use Prim.Native.Nat.{_-_}
 use borrow.Author.Needs.{needs}
 use native.Mathlib.Omega.{arith}
-use Rattle.read_attributes.specs.Steps.{fresh}
+use Rattle.read_attributes.specs.inside.Elements.{fresh}
 use Rattle.read_attributes.proofs.Going.{Going, going-start, going-fill, going-extras, going-on, going-stopped, going-done}
 use Rattle.read_attributes.proofs.read_attributes.Statement.{statement}
 use Rattle.read_attributes.proofs.read_attributes.Tie as tie

@@ -34,14 +34,14 @@ returns-3 c = rw (c .before .match .keys3) (c .case-role .ensures)
 returns-4 : tie.Need-returns-4
 unfolding roleOf
 returns-4 c =
-    let kind = c .before .before .before .args .kind in
+    let kind = c .before .before .before .args .k in
     let n = c .before .before .match .rest in
     simp (ne-eqb kind 1 (n .0 .0 .1), ne-eqb kind 2 (n .0 .1), ne-eqb kind 3 (n .1), le-leb kind 5 (c .before .if1 .taken)) (c .property-role .ensures)
 
 returns-5 : tie.Need-returns-5
 unfolding roleOf
 returns-5 c =
-    let kind = c .before .before .before .args .kind in
+    let kind = c .before .before .before .args .k in
     let n = c .before .before .match .rest in
     simp (ne-eqb kind 1 (n .0 .0 .1), ne-eqb kind 2 (n .0 .1), ne-eqb kind 3 (n .1), lt-leb kind 5 (c .before .if1 .left)) (c .status-role .ensures)
 

@@ -2,7 +2,7 @@ use native.Mathlib.Omega.{arith}
 use Prim.Native.Nat.{_-_}
 use mathlib.Core.Path.{refl, ap}
 use Rattle.table.specs.Event.{attributesFrom}
-use Rattle.read_state.specs.Coded.{levelOf}
+use Rattle.read_state.specs.inside.Coded.{levelOf}
 use Rattle.read_content.specs.declared.Performed.the-variants.{To}
 use Rattle.read_content.specs.declared.List.{List as CodedList}
 use Rattle.read_opening.proofs.Opening.{kind-bounds, property-comes}

@@ -1,8 +1,8 @@
 use mathlib.Core.Path.{ap, _∙_, refl}
-use Rattle.read_place.proofs.Leading.{level-of}
-use Rattle.read_state.specs.Coded.{closing}
+use Rattle.read_place.proofs.Lasting.{level-of}
+use Rattle.read_state.specs.inside.Coded.{closing}
 use Rattle.read_state.specs.Control.{Level, orSkip}
-use Rattle.read_place.specs.Coded.{marksOf}
+use Rattle.read_place.specs.inside.Coded.{marksOf}
 use Rattle.read_place.specs.Marks.{marksAfter}
 use borrow.Author.Needs.{needs}
 use Rattle.read_place.proofs.marked.Statement.{statement}

@@ -1,4 +1,4 @@
-use Rattle.read_state.specs.Control.{outputs}
+use Rattle.read_rules.specs.Rules.{outputs}
 use borrow.Author.Tests.{ne-eqb}
 use mathlib.Core.Path.{refl, _∙_}
 use Rattle.read_rules.proofs.child.Statement.{statement}

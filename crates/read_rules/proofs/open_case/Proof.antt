@@ -1,5 +1,6 @@
 use Rattle.read_rules.proofs.Planning.{status-most, opening-status}
-use Rattle.read_state.specs.Control.{at, case, atCase}
+use Rattle.read_state.specs.Control.{at, case}
+use Rattle.read_rules.specs.Rules.{atCase}
 use native.Mathlib.Omega.{arith}
 use mathlib.Core.Bool.{false}
 use borrow.Author.Tests.{ne-eqb}

@@ -1,4 +1,5 @@
-use Rattle.read_state.specs.Control.{at, suite, atSuite}
+use Rattle.read_state.specs.Control.{at, suite}
+use Rattle.read_rules.specs.Rules.{atSuite}
 use borrow.Author.Tests.{ne-eqb}
 use mathlib.Core.Path.{refl, _∙_}
 use borrow.Author.Needs.{needs}

@@ -1,5 +1,5 @@
-use Rattle.read_state.specs.Coded.{levelOf}
-use Rattle.read_state.specs.Control.{planAt}
+use Rattle.read_state.specs.inside.Coded.{levelOf}
+use Rattle.read_rules.specs.Rules.{planAt}
 use borrow.Author.Needs.{needs}
 use Rattle.read_rules.proofs.plan_tag.Statement.{statement}
 use Rattle.read_rules.proofs.plan_tag.Tie as tie

@@ -1,5 +1,5 @@
 use Rattle.read_rules.proofs.Planning.{kind-end, status-most, opening-status}
-use Rattle.read_state.specs.Control.{atCase}
+use Rattle.read_rules.specs.Rules.{atCase}
 use native.Mathlib.Omega.{arith}
 use mathlib.Core.Bool.{true}
 use borrow.Author.Tests.{ne-eqb}

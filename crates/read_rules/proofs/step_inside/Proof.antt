@@ -1,4 +1,4 @@
-use Rattle.read_state.specs.Control.{planAt}
+use Rattle.read_rules.specs.Rules.{planAt}
 use borrow.Author.Needs.{needs}
 use Rattle.read_rules.proofs.step_inside.Statement.{statement}
 use Rattle.read_rules.proofs.step_inside.Tie as tie

@@ -1,5 +1,5 @@
 use Rattle.read_rules.proofs.Planning.{kind-end}
-use Rattle.read_state.specs.Control.{inList}
+use Rattle.read_rules.specs.Rules.{inList}
 use borrow.Author.Tests.{ne-eqb}
 use mathlib.Core.Path.{refl}
 use Rattle.read_rules.proofs.step_list.Statement.{statement}

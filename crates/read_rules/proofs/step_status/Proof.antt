@@ -1,6 +1,7 @@
 use native.Mathlib.Omega.{arith}
 use Rattle.read_rules.proofs.Planning.{kind-above, status-opens}
-use Rattle.read_state.specs.Control.{at, status, atStatus, child}
+use Rattle.read_state.specs.Control.{at, status}
+use Rattle.read_rules.specs.Rules.{atStatus, child}
 use borrow.Author.Tests.{ne-eqb}
 use mathlib.Core.Path.{refl, sym, _∙_}
 use borrow.Author.Needs.{needs}

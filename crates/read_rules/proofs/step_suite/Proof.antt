@@ -1,5 +1,5 @@
 use Rattle.read_rules.proofs.Planning.{kind-end}
-use Rattle.read_state.specs.Control.{atSuite}
+use Rattle.read_rules.specs.Rules.{atSuite}
 use borrow.Author.Tests.{ne-eqb}
 use mathlib.Core.Path.{refl, _∙_}
 use borrow.Author.Needs.{needs}

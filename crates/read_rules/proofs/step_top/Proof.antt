@@ -1,5 +1,5 @@
 use Rattle.read_rules.proofs.Planning.{kind-end}
-use Rattle.read_state.specs.Control.{atTop}
+use Rattle.read_rules.specs.Rules.{atTop}
 use borrow.Author.Tests.{ne-eqb}
 use mathlib.Core.Path.{refl}
 use borrow.Author.Needs.{needs}

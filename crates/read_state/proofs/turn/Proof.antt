@@ -1,4 +1,4 @@
-use Rattle.read_state.specs.Coded.{levelOf, outputOf, controlOf}
+use Rattle.read_state.specs.inside.Coded.{levelOf, outputOf, controlOf}
 use Rattle.read_state.proofs.Turning.{level-in, closes}
 use Rattle.read_state.specs.Control.{turn}
 use mathlib.Core.Path.{refl}

@@ -3,7 +3,8 @@ use mathlib.Core.Path.{refl, sym}
 use borrow.Author.Needs.{needs}
 use borrow.Author.Tests.{ne-eqb}
 use denote.Ref.{now}
-use Rattle.read_state.specs.Coded.{levelOf, outputOf, kindOf}
+use Rattle.read_state.specs.inside.Coded.{levelOf, outputOf}
+use Rattle.table.specs.Event.{tagKind}
 use Rattle.read_content.proofs.Plans.{plan-apt, eof-apt}
 use Rattle.read_step.proofs.ByKind.{fault-plans}
 use Rattle.read_step.proofs.plan.Statement.{statement}
@@ -32,7 +33,7 @@ returns-3 c = let a = c .before .before .before .before .args in
     let k = a .control in
     let x = c .plan-tag in
     let e = x .ensures (now (a .name)) (sym (c .before .tag-of .ensures)) in
-    (simp (ne-eqb _ _ (c .before .before .match .rest .1), ne-eqb _ _ (c .before .before .match .rest .0 .1)) e, plan-apt (k .mode) (levelOf (k .level)) (outputOf (k .output)) (k .seen) (kindOf (a .kind)) (now (a .name)) (x .result) e)
+    (simp (ne-eqb _ _ (c .before .before .match .rest .1), ne-eqb _ _ (c .before .before .match .rest .0 .1)) e, plan-apt (k .mode) (levelOf (k .level)) (outputOf (k .output)) (k .seen) (tagKind (a .kind)) (now (a .name)) (x .result) e)
 
 pub plan-spec : {M : Type 1} → statement M
 plan-spec =

@@ -1,10 +1,12 @@
+use native.Mathlib.Omega.{arith}
 use mathlib.Core.Path.{refl}
 use borrow.Author.Needs.{needs}
-use Rattle.read_state.specs.Coded.{modeOf, actOf}
+use Rattle.tree_status.proofs.Tallies.{few-more}
+use Rattle.read_state.specs.inside.Coded.{modeOf, actOf}
 use Rattle.read_place.proofs.Lasting.{low-weak}
-use Rattle.read_place.specs.Coded.{marksOf}
-use Rattle.read_place.specs.Marks.{actPlace}
-use Rattle.read_step.proofs.Stepping.{few-weak, comes-to, comes-not, act-moved, act-halts}
+use Rattle.read_place.specs.inside.Coded.{marksOf}
+use Rattle.read_path.specs.Paths.{actPlace}
+use Rattle.read_step.proofs.Stepping.{comes-to, comes-not, act-moved, act-halts}
 use Rattle.read_step.proofs.step_act.Statement.{statement}
 use Rattle.read_step.proofs.step_act.Tie as tie
 
@@ -15,7 +17,7 @@ enum-known-performed : tie.Need-enum-known-performed
 enum-known-performed c = search needs
 
 behind-requires : tie.Need-behind-requires
-behind-requires c κs = let p = c .before .before .before .before .before .before .before .before .before .before .before .before .before .before .before .before .before .before .pre in let w = p .1 .1 .1 .1 in (low-weak (w .event) (w .stands .low), (few-weak (w .event) (w .stands .few), p .1 .0))
+behind-requires c κs = let p = c .before .before .before .before .before .before .before .before .before .before .before .before .before .before .before .before .before .before .pre in let w = p .1 .1 .1 .1 in (low-weak (w .event) (w .stands .low), (few-more (w .stands .few) (omega (arith, w .event)), p .1 .0))
 
 enum-known-performed-2 : tie.Need-enum-known-performed-2
 enum-known-performed-2 c = search needs

@@ -2,9 +2,9 @@ use mathlib.Core.Path.{sym, _∙_}
 use borrow.Author.Needs.{needs}
 use denote.Ref.{now}
 use Rattle.read_element.specs.Outcome.{unlimited}
-use Rattle.read_state.specs.Coded.{modeOf, actOf}
+use Rattle.read_state.specs.inside.Coded.{modeOf, actOf}
 use Rattle.read_content.proofs.Areas.{fits-scratch}
-use Rattle.read_step.specs.Planned.{nameIn}
+use Rattle.read_step.specs.inside.Planned.{nameIn}
 use Rattle.read_step.proofs.ByKind.{stop-only, is-step, skips, stops-there}
 use Rattle.read_step.proofs.Eventful.{plan-fits, piece-way, act-way, stop-way, skip-way}
 use Rattle.read_step.proofs.Tables.{sizes, spans-lent}

@@ -2,10 +2,10 @@ use mathlib.Core.Path.{refl, sym, _∙_}
 use borrow.Author.Needs.{needs}
 use borrow.Author.Tests.{not-true, not-false}
 use denote.Ref.{now}
-use Rattle.read_state.specs.Coded.{levelOf, outputOf}
-use Rattle.read_place.specs.Coded.{marksOf}
-use Rattle.read_content.specs.Holds.{pieceKind, pieceBytes}
-use Rattle.read_step.specs.Standing.{machineOf}
+use Rattle.read_state.specs.inside.Coded.{levelOf, outputOf}
+use Rattle.read_place.specs.inside.Coded.{marksOf}
+use Rattle.table.specs.Event.{pieceKind, pieceBytes}
+use Rattle.read_step.specs.inside.Standing.{machineOf}
 use Rattle.read_step.proofs.Stepping.{piece-moved, piece-passed, here, piece-goes, piece-halts}
 use Rattle.read_step.proofs.step_piece.Statement.{statement}
 use Rattle.read_step.proofs.step_piece.Tie as tie

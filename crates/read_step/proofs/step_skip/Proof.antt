@@ -1,9 +1,8 @@
 use mathlib.Core.Path.{sym, ap, subst, _∙_}
 use borrow.Author.Needs.{needs}
 use denote.Ref.{now}
-use Rattle.table_events.specs.Skip.{skipAnswer, IsOne}
-use Rattle.table_events.specs.declared.Skipped.{Skipped}
-use Rattle.read_step.specs.Standing.{machineOf, runOn, Stepped}
+use Rattle.table_events.specs.Skip.{skipAnswer}
+use Rattle.read_step.specs.inside.Standing.{machineOf, runOn, Stepped}
 use Rattle.read_step.specs.declared.Step.{Step}
 use Rattle.read_step.proofs.Passing.{skip-went, skip-halted}
 use Rattle.read_step.proofs.step_skip.Statement.{statement}
@@ -27,14 +26,14 @@ halt-at-requires c κs = search needs
 returns : tie.Need-returns
 returns c = λ rooms attributes words text scratch d good p q t.
     let a = c .before .before .before .before .before .before .before .before .before .before .args in
-    skip-went rooms (now (a .events)) attributes (now (a .source)) good (a .st) d (c .before .before .before .before .before .before .before .before .before .before .pre .0) p q words text scratch _ _ (sym (c .before .before .before .before .skip-from .ensures .0 attributes) ∙ ap skipAnswer (c .before .before .skipped .given .1)) (c .onward .ensures) t
+    skip-went rooms (now (a .events)) attributes (now (a .source)) good (a .st) d (c .before .before .before .before .before .before .before .before .before .before .pre .0) p q words text scratch _ _ (sym (c .before .before .before .before .skip-from .ensures attributes) ∙ ap skipAnswer (c .before .before .skipped .given .1)) (c .onward .ensures) t
 
 returns-2 : tie.Need-returns-2
 returns-2 c = λ rooms attributes words text scratch d good p q t.
     let a = c .before .before .before .before .before .before .before .before .before .before .args in
     let h = c .before .before .skipped2 .given in
     subst (λ (r : Step). Stepped rooms (now (a .events)) attributes (now (a .source)) words text scratch (a .st) (runOn rooms (now (a .events)) attributes (now (a .source)) (machineOf (a .st) d)) r) (sym (c .halt-at .ensures))
-    (skip-halted rooms (now (a .events)) attributes (now (a .source)) good (a .st) d (c .before .before .before .before .before .before .before .before .before .before .pre .0) p q _ _ (sym (c .before .before .before .before .skip-from .ensures .0 attributes) ∙ ap skipAnswer (h .1)) (subst (λ (x : Skipped). IsOne x) (h .1) (c .before .before .before .before .skip-from .ensures .1)) (c .before .before .before .before .before .before .before .before .before .before .pre .1))
+    (skip-halted rooms (now (a .events)) attributes (now (a .source)) good (a .st) d (c .before .before .before .before .before .before .before .before .before .before .pre .0) p q _ _ (sym (c .before .before .before .before .skip-from .ensures attributes) ∙ ap skipAnswer (h .1)) (c .before .before .before .before .before .before .before .before .before .before .pre .1))
 
 pub step-skip-spec : {M : Type 1} → statement M
 step-skip-spec =

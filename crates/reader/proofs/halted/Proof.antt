@@ -1,6 +1,5 @@
 use mathlib.Core.Path.{_∙_}
 use borrow.Author.Needs.{needs}
-use Rattle.read_place.proofs.Leading.{spare}
 use Rattle.reader.proofs.Whole.{halted-there}
 use Rattle.reader.proofs.halted.Statement.{statement}
 use Rattle.reader.proofs.halted.Tie as tie
@@ -9,7 +8,7 @@ path-of-requires : tie.Need-path-of-requires
 path-of-requires c κs = search needs
 
 within-requires : tie.Need-within-requires
-within-requires c κs = spare (c .path-of .ensures (c .before .before .before .before .pre .name)) (c .before .before .before .before .pre .room)
+within-requires c κs = search needs
 
 cast-refusing : tie.Need-cast-refusing
 cast-refusing c = search needs
@@ -18,7 +17,7 @@ refusing-requires : tie.Need-refusing-requires
 refusing-requires c κs = search needs
 
 returns : tie.Need-returns
-returns c = λ name. c .refusing .ensures ∙ halted-there (c .before .before .before .before .before .before .before .args .st) (c .before .before .before .before .before .before .before .args .h) name (c .before .before .before .path-of .result) (c .before .before .within .result) (c .before .before .before .path-of .ensures name) (c .before .before .within .ensures)
+returns c = λ placed. c .refusing .ensures ∙ halted-there (c .before .before .before .before .before .before .before .args .st) (c .before .before .before .before .before .before .before .args .h) placed (c .before .before .before .path-of .result) (c .before .before .within .result) (c .before .before .before .path-of .ensures (placed .name)) (c .before .before .within .ensures)
 
 pub halted-spec : {M : Type 1} → statement M
 halted-spec =

@@ -1,13 +1,14 @@
 use Prim.Native.Nat.{ℕ}
-use mathlib.Core.List.{[]}
-use mathlib.Core.Path.{sym, ap, _∙_}
+use mathlib.Core.Path.{refl, sym, ap, _∙_}
 use borrow.Author.Needs.{needs}
 use denote.Ref.{now}
 use lib.ListN.{length}
 use Rattle.area.specs.Area.{zeros}
 use Rattle.table.specs.Table.{checkedAnswer}
-use Rattle.reader.specs.Answer.{readingAnswer, readOf}
-use Rattle.reader.proofs.Whole.{bad-there, read-bad, read-lengths, parts}
+use Rattle.refusal.specs.Refusal.{refused}
+use Rattle.read_machine.specs.Reading.{Read}
+use Rattle.reader.specs.Answer.{Leaves}
+use Rattle.reader.proofs.Whole.{badTable, bad-there, read-bad, read-lengths, answers}
 use Rattle.reader.proofs.read.Statement.{statement}
 use Rattle.reader.proofs.read.Tie as tie
 
@@ -46,7 +47,7 @@ returns : tie.Need-returns
 returns c = let a = c .before .before .before .before .before .before .before .before .before .before .before .before .before .before .before .before .before .before .before .before .before .before .before .before .before .before .before .before .before .args in
     let q = c .before .before .before .before .before .before .before .before .before .before .before .before .before .before .before .before .before .before .before .clear-all in
     let r = c .before .before .before .before .before .before .read-good in
-    parts (read-lengths (now (a .events)) (now (a .attributes)) (now (a .source)) (q .last .0) (q .last .1 .0) (q .last .1 .1 .0) (now (a .records)) (now (a .text)) (now (a .scratch)) (q .kept .0) (q .kept .1 .0) (q .kept .1 .1 .0) (readOf (r .result) (r .last .1 .1 .1 .0) (r .last .1 .1 .1 .1 .0) (r .last .1 .1 .1 .1 .1 .0)) (r .ensures))
+    read-lengths (now (a .events)) (now (a .attributes)) (now (a .source)) (q .last .0) (q .last .1 .0) (q .last .1 .1 .0) (now (a .records)) (now (a .text)) (now (a .scratch)) (q .kept .0) (q .kept .1 .0) (q .kept .1 .1 .0) (λ (x : Read). Leaves (r .result) (r .last .1 .1 .1 .0) (r .last .1 .1 .1 .1 .0) (r .last .1 .1 .1 .1 .1 .0) x) (r .ensures)
 
 same-length-4 : tie.Need-same-length-4
 same-length-4 c = search needs
@@ -61,7 +62,7 @@ returns-2 : tie.Need-returns-2
 returns-2 c = let a = c .before .before .before .before .before .before .before .before .before .before .before .before .before .before .before .before .before .before .before .before .before .before .args in
     let q = c .before .before .before .before .before .before .before .before .before .before .before .before .clear-all in
     let h = c .before .before .before .checked .given in
-    parts (read-bad (now (a .events)) (now (a .attributes)) (now (a .source)) (length (now (a .records))) (length (now (a .text))) (length (now (a .scratch))) (readingAnswer (c .refusing .result)) (q .last .0) (q .last .1 .0) (q .last .1 .1 .0) (q .ensures .1 .1) (record { number = 11; path = []; event = h .0 .0; attribute = h .0 .1 .0 }) (sym (c .before .before .before .before .before .check-table .ensures) ∙ ap checkedAnswer (h .1)) (c .refusing .ensures ∙ bad-there (h .0 .0) (h .0 .1 .0) (c .before .new .result) (c .before .new .ensures)) (q .ensures .0) (q .ensures .1 .0))
+    answers (c .refusing .ensures ∙ bad-there (h .0 .0) (h .0 .1 .0) (c .before .new .result) (c .before .new .ensures)) (read-bad (now (a .events)) (now (a .attributes)) (now (a .source)) (length (now (a .records))) (length (now (a .text))) (length (now (a .scratch))) (refused (badTable (h .0 .0) (h .0 .1 .0))) (q .last .0) (q .last .1 .0) (q .last .1 .1 .0) (q .ensures .1 .1) (badTable (h .0 .0) (h .0 .1 .0)) (sym (c .before .before .before .before .before .check-table .ensures) ∙ ap checkedAnswer (h .1)) refl (q .ensures .0) (q .ensures .1 .0))
 
 pub read-spec : {M : Type 1} → statement M
 read-spec =

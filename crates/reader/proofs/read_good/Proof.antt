@@ -1,5 +1,5 @@
 use Prim.Native.Nat.{ℕ}
-use mathlib.Core.Path.{ap, _∙_}
+use mathlib.Core.Path.{refl, ap, _∙_}
 use borrow.Author.Needs.{needs}
 use denote.Ref.{now}
 use lib.ListN.{length}
@@ -7,9 +7,9 @@ use Rattle.area.specs.Area.{zeros}
 use Rattle.table.specs.Event.{resolve}
 use Rattle.read_element.specs.Outcome.{roomsOf}
 use Rattle.read_machine.specs.Machine.{run, begin}
-use Rattle.read_step.specs.Standing.{refusalAt}
-use Rattle.reader.specs.Answer.{readingAnswer}
-use Rattle.reader.proofs.Whole.{ran-done, ran-halted, read-ended, read-refused}
+use Rattle.read_step.specs.inside.Standing.{refusalAt}
+use Rattle.refusal.specs.Refusal.{accepted, refused}
+use Rattle.reader.proofs.Whole.{ran-done, ran-halted, read-ended, read-refused, answers}
 use Rattle.reader.proofs.read_good.Statement.{statement}
 use Rattle.reader.proofs.read_good.Tie as tie
 
@@ -50,8 +50,8 @@ returns : tie.Need-returns
 returns c = let a = c .before .before .before .before .before .before .before .before .before .before .before .before .before .before .before .before .before .before .before .before .before .before .before .args in
     let r = c .before .before .before .before .before .before .before .before .before .before .before .before .before .run-within in
     let k = r .kept .1 .1 .1 in
-    read-ended (now (a .events)) (now (a .attributes)) (now (a .source)) (length (now (a .records))) (length (now (a .text))) (length (now (a .scratch))) (readingAnswer (c .accepting .result)) (r .last .1 .1 .1 .0) (r .last .1 .1 .1 .1 .0) (c .before .before .before .clear .last .0) (c .before .before .before .clear .ensures ∙ ap (λ (n : ℕ). zeros n) (k .1 .1 .0)) (c .before .before .before .before .before .before .before .before .before .before .before .before .before .before .before .before .before .before .before .before .before .before .before .pre .0) (c .accepting .ensures) (k .0) (k .1 .0)
-    (ran-done (r .last .1 .1 .1 .0) (r .last .1 .1 .1 .1 .0) (run (roomsOf (length (now (a .records))) (length (now (a .text))) (length (now (a .scratch)))) (resolve (now (a .events)) (now (a .attributes)) (now (a .source))) begin) (r .result) (r .ensures) (c .before .before .before .before .before .enum-told .given .1))
+    answers (c .accepting .ensures) (read-ended (now (a .events)) (now (a .attributes)) (now (a .source)) (length (now (a .records))) (length (now (a .text))) (length (now (a .scratch))) (accepted tt) (r .last .1 .1 .1 .0) (r .last .1 .1 .1 .1 .0) (c .before .before .before .clear .last .0) (c .before .before .before .clear .ensures ∙ ap (λ (n : ℕ). zeros n) (k .1 .1 .0)) (c .before .before .before .before .before .before .before .before .before .before .before .before .before .before .before .before .before .before .before .before .before .before .before .pre .0) refl (k .0) (k .1 .0)
+    (ran-done (r .last .1 .1 .1 .0) (r .last .1 .1 .1 .1 .0) (run (roomsOf (length (now (a .records))) (length (now (a .text))) (length (now (a .scratch)))) (resolve (now (a .events)) (now (a .attributes)) (now (a .source))) begin) (r .result) (r .ensures) (c .before .before .before .before .before .enum-told .given .1)))
 
 same-length-4 : tie.Need-same-length-4
 same-length-4 c = c .before .before .before .before .before .before .before .clear-all .kept .0 ∙ c .before .before .before .before .before .before .before .before .before .before .before .before .before .before .before .before .before .before .before .before .run-within .kept .1 .1 .1 .0
@@ -69,7 +69,7 @@ returns-2 c = let a = c .before .before .before .before .before .before .before 
     let h = c .before .before .before .before .before .before .before .before .before .before .before .before .ran .given in
     let q = c .before .before .before .before .before .before .before .clear-all in
     let x = ran-halted (r .last .1 .1 .1 .0) (r .last .1 .1 .1 .1 .0) (run (roomsOf (length (now (a .records))) (length (now (a .text))) (length (now (a .scratch)))) (resolve (now (a .events)) (now (a .attributes)) (now (a .source))) begin) (r .result) (r .ensures) (h .0 .0) (h .0 .1 .0) (h .1) in
-    read-refused (now (a .events)) (now (a .attributes)) (now (a .source)) (length (now (a .records))) (length (now (a .text))) (length (now (a .scratch))) (readingAnswer (c .halted .result)) (q .last .0) (q .last .1 .0) (q .last .1 .1 .0) (q .ensures .1 .1 ∙ ap (λ (n : ℕ). zeros n) (k .1 .1 .0)) (c .before .before .before .before .before .before .before .before .before .before .before .before .before .before .before .before .before .before .before .before .before .before .before .before .before .before .before .before .before .before .pre .0) (refusalAt (h .0 .0) (h .0 .1 .0) (x .placed .name)) (x .same) (c .halted .ensures (x .placed .name)) (q .ensures .0 ∙ ap (λ (n : ℕ). zeros n) (k .0)) (q .ensures .1 .0 ∙ ap (λ (n : ℕ). zeros n) (k .1 .0))
+    answers (c .halted .ensures (x .placed)) (read-refused (now (a .events)) (now (a .attributes)) (now (a .source)) (length (now (a .records))) (length (now (a .text))) (length (now (a .scratch))) (refused (refusalAt (h .0 .0) (h .0 .1 .0) (x .placed .name))) (q .last .0) (q .last .1 .0) (q .last .1 .1 .0) (q .ensures .1 .1 ∙ ap (λ (n : ℕ). zeros n) (k .1 .1 .0)) (c .before .before .before .before .before .before .before .before .before .before .before .before .before .before .before .before .before .before .before .before .before .before .before .before .before .before .before .before .before .before .pre .0) (refusalAt (h .0 .0) (h .0 .1 .0) (x .placed .name)) (x .same) refl (q .ensures .0 ∙ ap (λ (n : ℕ). zeros n) (k .0)) (q .ensures .1 .0 ∙ ap (λ (n : ℕ). zeros n) (k .1 .0)))
 
 pub read-good-spec : {M : Type 1} → statement M
 read-good-spec =

@@ -1,5 +1,4 @@
 use Prim.Native.Nat.{_-_}
-use mathlib.Core.Path.{refl}
 use native.Mathlib.Omega.{arith}
 use borrow.Author.Needs.{needs}
 use Rattle.table_events.proofs.Turns.{Skipping, skipping-in, skipping-start, skipping-eof, skipping-fault, skipping-ends, skipping-more}
@@ -44,13 +43,13 @@ loop-again : tie.Need-loop-again Inv-loop μ-loop
 loop-again c = skipping-more (c .before .before .before .before .before .before .before .loop .inv) _ (c .before .before .before .before .before .before .kind-at .ensures) (c .before .before .before .before .before .if1 .left) _ (c .before .before .before .bytes-at2 .ensures) _ (c .before .before .same .ensures) (c .before .before .before .before .if2 .left) (c .before .if3 .left) _ (c .depth-after .ensures)
 
 returns : tie.Need-returns Inv-loop μ-loop
-returns c = (skipping-eof (c .before .before .loop .inv) _ (c .before .kind-at .ensures) (c .if1 .taken), refl)
+returns c = skipping-eof (c .before .before .loop .inv) _ (c .before .kind-at .ensures) (c .if1 .taken)
 
 returns-2 : tie.Need-returns-2 Inv-loop μ-loop
-returns-2 c = (skipping-fault (c .before .before .before .loop .inv) _ (c .before .before .kind-at .ensures) (c .before .if1 .left) (c .if2 .taken), refl)
+returns-2 c = skipping-fault (c .before .before .before .loop .inv) _ (c .before .before .kind-at .ensures) (c .before .if1 .left) (c .if2 .taken)
 
 returns-3 : tie.Need-returns-3 Inv-loop μ-loop
-returns-3 c = (skipping-ends (c .before .before .before .before .before .before .loop .inv) _ (c .before .before .before .before .before .kind-at .ensures) (c .before .before .before .before .if1 .left) _ (c .before .before .bytes-at2 .ensures) _ (c .before .same .ensures) (c .if3 .taken), tt)
+returns-3 c = skipping-ends (c .before .before .before .before .before .before .loop .inv) _ (c .before .before .before .before .before .kind-at .ensures) (c .before .before .before .before .if1 .left) _ (c .before .before .bytes-at2 .ensures) _ (c .before .same .ensures) (c .if3 .taken)
 
 pub skip-from-spec : {M : Type 1} → statement M
 skip-from-spec =

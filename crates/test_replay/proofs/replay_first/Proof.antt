@@ -1,4 +1,4 @@
-use Rattle.test_replay.proofs.Lying.{found-lies}
+use Rattle.test_replay.proofs.Lying.{parts-lie}
 use lib.Seq.{length-take-le}
 use native.Mathlib.Omega.{arith}
 use mathlib.Core.Path.{sym}
@@ -20,27 +20,27 @@ enum-known-found c = search needs
 
 add-end : tie.Need-add-end
 add-end c = let i = c .before .before .before .before .before .before .input-of in
-    let l = found-lies (i .result) _ (c .before .before .found .given .1) _ _ _ _ _ (i .kept .1 .0) (i .kept .1 .1 .0) (i .ensures .1) in
+    let l = parts-lie (i .result) _ (c .before .before .found .given .1) _ _ _ _ _ (i .kept .1 .0) (i .kept .1 .1 .0) (i .ensures .0) in
     omega arith
 
 array-share-prefix-events : tie.Need-array-share-prefix-events
 array-share-prefix-events c = let i = c .before .before .before .before .before .before .input-of in
-    let l = found-lies (i .result) _ (c .before .before .found .given .1) _ _ _ _ _ (i .kept .1 .0) (i .kept .1 .1 .0) (i .ensures .1) in
+    let l = parts-lie (i .result) _ (c .before .before .found .given .1) _ _ _ _ _ (i .kept .1 .0) (i .kept .1 .1 .0) (i .ensures .0) in
     l .0
 
 slice-aggregate-replay : tie.Need-slice-aggregate-replay
 slice-aggregate-replay c = let i = c .before .before .before .before .before .before .before .input-of in
-    let l = found-lies (i .result) _ (c .before .before .before .found .given .1) _ _ _ _ _ (i .kept .1 .0) (i .kept .1 .1 .0) (i .ensures .1) in
+    let l = parts-lie (i .result) _ (c .before .before .before .found .given .1) _ _ _ _ _ (i .kept .1 .0) (i .kept .1 .1 .0) (i .ensures .0) in
     sym (length-take-le _ _ (l .0))
 
 array-share-prefix-attributes : tie.Need-array-share-prefix-attributes
 array-share-prefix-attributes c = let i = c .before .before .before .before .before .before .before .input-of in
-    let l = found-lies (i .result) _ (c .before .before .before .found .given .1) _ _ _ _ _ (i .kept .1 .0) (i .kept .1 .1 .0) (i .ensures .1) in
+    let l = parts-lie (i .result) _ (c .before .before .before .found .given .1) _ _ _ _ _ (i .kept .1 .0) (i .kept .1 .1 .0) (i .ensures .0) in
     l .1 .0
 
 slice-aggregate-replay-2 : tie.Need-slice-aggregate-replay-2
 slice-aggregate-replay-2 c = let i = c .before .before .before .before .before .before .before .before .input-of in
-    let l = found-lies (i .result) _ (c .before .before .before .before .found .given .1) _ _ _ _ _ (i .kept .1 .0) (i .kept .1 .1 .0) (i .ensures .1) in
+    let l = parts-lie (i .result) _ (c .before .before .before .before .found .given .1) _ _ _ _ _ (i .kept .1 .0) (i .kept .1 .1 .0) (i .ensures .0) in
     sym (length-take-le _ _ (l .1 .0))
 
 sub-replay : tie.Need-sub-replay
@@ -51,7 +51,7 @@ part-replay-start c = search needs
 
 part-replay-end : tie.Need-part-replay-end
 part-replay-end c = let i = c .before .before .before .before .before .before .before .before .input-of in
-    let l = found-lies (i .result) _ (c .before .before .before .before .found .given .1) _ _ _ _ _ (i .kept .1 .0) (i .kept .1 .1 .0) (i .ensures .1) in
+    let l = parts-lie (i .result) _ (c .before .before .before .before .found .given .1) _ _ _ _ _ (i .kept .1 .0) (i .kept .1 .1 .0) (i .ensures .0) in
     l .1 .1
 
 replay-requires : tie.Need-replay-requires
@@ -62,7 +62,7 @@ enum-told c = search needs
 
 returns : tie.Need-returns
 returns c = let i = c .before .before .before .before .before .before .before .before .before .before .input-of in
-    let l = found-lies (i .result) _ (c .before .before .before .before .before .before .found .given .1) _ _ _ _ _ (i .kept .1 .0) (i .kept .1 .1 .0) (i .ensures .1) in
+    let l = parts-lie (i .result) _ (c .before .before .before .before .before .before .found .given .1) _ _ _ _ _ (i .kept .1 .0) (i .kept .1 .1 .0) (i .ensures .0) in
     l .1 .1
 
 returns-2 : tie.Need-returns-2

@@ -1,4 +1,5 @@
 use mathlib.Core.Path.{sym}
+use native.Mathlib.Omega.{arith}
 use borrow.Author.Needs.{needs}
 use lib.Seq.{length-take-le}
 use Rattle.test_vectors.proofs.try_line.Statement.{statement}
@@ -13,14 +14,14 @@ slice-aggregate-write c = search needs
 write-requires-2 : tie.Need-write-requires-2
 write-requires-2 c κs = search needs
 
-place-of-requires : tie.Need-place-of-requires
-place-of-requires c κs = search needs
+first-at-requires : tie.Need-first-at-requires
+first-at-requires c κs = search needs
 
 add-from : tie.Need-add-from
 add-from c = search needs
 
 slice-aggregate-try-leaf : tie.Need-slice-aggregate-try-leaf
-slice-aggregate-try-leaf c = sym (length-take-le _ _ (c .before .before .place-of .ensures))
+slice-aggregate-try-leaf c = sym (length-take-le _ _ (omega arith))
 
 sub-try-leaf : tie.Need-sub-try-leaf
 sub-try-leaf c = search needs
@@ -50,7 +51,7 @@ try-line-spec =
     write-requires
     slice-aggregate-write
     write-requires-2
-    place-of-requires
+    first-at-requires
     add-from
     slice-aggregate-try-leaf
     sub-try-leaf

@@ -1,11 +1,18 @@
-use Prim.Native.Nat.{_≤_, _-_, _+_}
+use Prim.Native.Nat.{ℕ, _≤_, _-_, _+_}
 use mathlib.Core.Path.{sym}
+use mathlib.Core.List.{List}
 use native.Mathlib.Omega.{arith}
 use borrow.Author.Needs.{needs}
-use lib.ListN.{length, length-drop, length-take}
+use lib.ListN.{length, take, drop, length-drop, length-take}
 use lib.Seq.{length-take-le}
+use Rattle.area.specs.Area.{firstAt}
+use Rattle.area.proofs.Seeking.{first-within}
 use Rattle.test_vectors.proofs.try_lines.Statement.{statement}
 use Rattle.test_vectors.proofs.try_lines.Tie as tie
+
+-- a line ends within what is left
+within : (s : List ℕ) (at : ℕ) → firstAt 0x0A (take (length s - at) (drop at s)) ≤ length (take (length s - at) (drop at s))
+within s at = first-within 0x0A (take (length s - at) (drop at s))
 
 abbrev Inv-loop : tie.InvT-loop
 Inv-loop s at₀ at = at ≤ length s + 1
@@ -25,26 +32,26 @@ part-rest-start c = search needs
 part-rest-end : tie.Need-part-rest-end Inv-loop μ-loop
 part-rest-end c = search needs
 
-place-of-requires : tie.Need-place-of-requires Inv-loop μ-loop
-place-of-requires c κs = search needs
+first-at-requires : tie.Need-first-at-requires Inv-loop μ-loop
+first-at-requires c κs = search needs
 
 slice-aggregate-try-line : tie.Need-slice-aggregate-try-line Inv-loop μ-loop
-slice-aggregate-try-line c = sym (length-take-le _ _ (c .before .place-of .ensures))
+slice-aggregate-try-line c = sym (length-take-le _ _ (omega (arith, c .before .first-at .ensures, within (c .before .before .before .before .before .before .args .s .now) (c .before .before .before .before .loop .at))))
 
 try-line-requires : tie.Need-try-line-requires Inv-loop μ-loop
 try-line-requires c κs = search needs
 
 add-at : tie.Need-add-at Inv-loop μ-loop
-add-at c = omega (arith, simp (length-take, length-drop) at (c .before .before .place-of .ensures))
+add-at c = omega (arith, c .before .before .first-at .ensures, simp (length-take, length-drop) at (within (c .before .before .before .before .before .before .before .args .s .now) (c .before .before .before .before .before .loop .at)))
 
 add-at-2 : tie.Need-add-at-2 Inv-loop μ-loop
-add-at-2 c = omega (arith, simp (length-take, length-drop) at (c .before .before .place-of .ensures))
+add-at-2 c = omega (arith, c .before .before .first-at .ensures, simp (length-take, length-drop) at (within (c .before .before .before .before .before .before .before .args .s .now) (c .before .before .before .before .before .loop .at)))
 
 loop-less : tie.Need-loop-less Inv-loop μ-loop
-loop-less c = omega (arith, simp (length-take, length-drop) at (c .before .before .place-of .ensures))
+loop-less c = omega (arith, c .before .before .first-at .ensures, simp (length-take, length-drop) at (within (c .before .before .before .before .before .before .before .args .s .now) (c .before .before .before .before .before .loop .at)))
 
 loop-again : tie.Need-loop-again Inv-loop μ-loop
-loop-again c = omega (arith, simp (length-take, length-drop) at (c .before .before .place-of .ensures))
+loop-again c = omega (arith, c .before .before .first-at .ensures, simp (length-take, length-drop) at (within (c .before .before .before .before .before .before .before .args .s .now) (c .before .before .before .before .before .loop .at)))
 
 returns : tie.Need-returns Inv-loop μ-loop
 returns c = search needs
@@ -59,7 +66,7 @@ try-lines-spec =
     sub-rest
     part-rest-start
     part-rest-end
-    place-of-requires
+    first-at-requires
     slice-aggregate-try-line
     try-line-requires
     add-at

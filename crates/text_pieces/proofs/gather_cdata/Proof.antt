@@ -4,6 +4,7 @@ use Rattle.area.specs.Answer.{refuses}
 use Rattle.text.proofs.Putting.{kept-when}
 use Rattle.text_pieces.proofs.gather_cdata.Statement.{statement}
 use Rattle.text_pieces.proofs.gather_cdata.Tie as tie
+use Rattle.refusal.specs.declared.Cause.the-variants as cause
 
 is-utf8-requires : tie.Need-is-utf8-requires
 is-utf8-requires c κs = search needs
@@ -23,7 +24,7 @@ returns c =
     let p = c .before .before .before .copy-into in
     let k = c .kept-of in
     let u = c .before .before .before .before .before .before .is-utf8 in
-    kept-when 14 16 (a .out .now) (p .last .0) (a .s .now) (p .result) (k .result) (p .ensures .0) (k .ensures) _ (refuses 2) (sym (u .ensures) ∙ c .before .before .before .before .before .if1 .taken) (p .ensures .1)
+    kept-when cause.ScratchFull cause.OutputFull (a .out .now) (p .last .0) (a .s .now) (p .result) (k .result) (p .ensures .0) (k .ensures) _ (refuses cause.NotUtf8) (sym (u .ensures) ∙ c .before .before .before .before .before .if1 .taken) (p .ensures .1)
 
 returns-2 : tie.Need-returns-2
 returns-2 c = search needs

@@ -3,6 +3,7 @@ use Rattle.text_pieces.specs.Gather.{newline}
 use Rattle.text.proofs.Putting.{kept-placing}
 use Rattle.text_pieces.proofs.gather_indent.Statement.{statement}
 use Rattle.text_pieces.proofs.gather_indent.Tie as tie
+use Rattle.refusal.specs.declared.Cause.the-variants as cause
 
 slice-aggregate-copy-into : tie.Need-slice-aggregate-copy-into
 slice-aggregate-copy-into c = search needs
@@ -21,7 +22,7 @@ returns c =
     let o = c .before .before .before .before .before .before .before .args .out .now in
     let p = c .before .before .before .copy-into in
     let k = c .kept-of in
-    (kept-placing 14 16 o o newline (p .result) (k .result) (p .ensures .0) (k .ensures), p .ensures .1)
+    (kept-placing cause.ScratchFull cause.OutputFull o o newline (p .result) (k .result) (p .ensures .0) (k .ensures), p .ensures .1)
 
 pub gather-indent-spec : {M : Type 1} → statement M
 gather-indent-spec =

@@ -12,13 +12,14 @@ use Rattle.reference.specs.Reference.{entityAnswer, isEntity, entityChar}
 use Rattle.text.proofs.Putting.{first-fails, second-fails, kept-both}
 use Rattle.text_pieces.proofs.gather_reference.Statement.{statement}
 use Rattle.text_pieces.proofs.gather_reference.Tie as tie
+use Rattle.refusal.specs.declared.Cause.the-variants as cause
 
 is-utf8-requires : tie.Need-is-utf8-requires
 is-utf8-requires c κs = search needs
 
 returns : tie.Need-returns
 returns c =
-    let a = c .before .before .before .before .args in first-fails (utf8 (a .name .now)) (isEntity (a .name .now)) _ _ (refuses 2) (a .out .now) _ (sym (c .before .is-utf8 .ensures) ∙ not-true _ (c .if1 .taken))
+    let a = c .before .before .before .before .args in first-fails (utf8 (a .name .now)) (isEntity (a .name .now)) _ _ (refuses cause.NotUtf8) (a .out .now) _ (sym (c .before .is-utf8 .ensures) ∙ not-true _ (c .if1 .taken))
 
 entity-of-requires : tie.Need-entity-of-requires
 entity-of-requires c κs = search needs
@@ -33,8 +34,8 @@ returns-2 : tie.Need-returns-2
 returns-2 c =
     let a = c .before .before .before .before .before .before .before .args in
     let n = a .name .now in
-    let e = refused (isEntity n) (entityChar n) 8 8 (sym (ap entityAnswer (c .enum-told .given .1)) ∙ c .before .before .entity-of .ensures) in
-    second-fails (utf8 n) (isEntity n) _ (refuses 8) (refuses 2) (a .out .now) _ (sym (c .before .before .before .before .is-utf8 .ensures) ∙ not-false _ (c .before .before .before .if1 .left)) e
+    let e = refused (isEntity n) (entityChar n) cause.UnknownEntity cause.UnknownEntity (sym (ap entityAnswer (c .enum-told .given .1)) ∙ c .before .before .entity-of .ensures) in
+    second-fails (utf8 n) (isEntity n) _ (refuses cause.UnknownEntity) (refuses cause.NotUtf8) (a .out .now) _ (sym (c .before .before .before .before .is-utf8 .ensures) ∙ not-false _ (c .before .before .before .if1 .left)) e
 
 slice-aggregate-copy-into : tie.Need-slice-aggregate-copy-into
 slice-aggregate-copy-into c = search needs
@@ -55,8 +56,8 @@ returns-3 c =
     let p = c .before .before .before .copy-into in
     let k = c .kept-of in
     let g = c .before .before .before .before .before .before .before .entity .given in
-    let e = given (isEntity n) (entityChar n) 8 (g .0 .0) (sym (ap entityAnswer (g .1)) ∙ c .before .before .before .before .before .before .before .before .before .entity-of .ensures) in
-    kept-both 14 16 (a .out .now) (p .last .0) (entityChar n ∷ []) (p .result) (k .result) (p .ensures .0 ∙ ap (λ (x : ℕ). placing 16 (length (a .out .now)) (x ∷ [])) (e .1)) (k .ensures) (utf8 n) (isEntity n) (refuses 8) (refuses 2) (sym (c .before .before .before .before .before .before .before .before .before .before .before .is-utf8 .ensures) ∙ not-false _ (c .before .before .before .before .before .before .before .before .before .before .if1 .left)) (e .0) (p .ensures .1 ∙ ap (λ (x : ℕ). laid (a .out .now) (x ∷ [])) (e .1))
+    let e = given (isEntity n) (entityChar n) cause.UnknownEntity (g .0 .0) (sym (ap entityAnswer (g .1)) ∙ c .before .before .before .before .before .before .before .before .before .entity-of .ensures) in
+    kept-both cause.ScratchFull cause.OutputFull (a .out .now) (p .last .0) (entityChar n ∷ []) (p .result) (k .result) (p .ensures .0 ∙ ap (λ (x : ℕ). placing cause.OutputFull (length (a .out .now)) (x ∷ [])) (e .1)) (k .ensures) (utf8 n) (isEntity n) (refuses cause.UnknownEntity) (refuses cause.NotUtf8) (sym (c .before .before .before .before .before .before .before .before .before .before .before .is-utf8 .ensures) ∙ not-false _ (c .before .before .before .before .before .before .before .before .before .before .if1 .left)) (e .0) (p .ensures .1 ∙ ap (λ (x : ℕ). laid (a .out .now) (x ∷ [])) (e .1))
 
 pub gather-reference-spec : {M : Type 1} → statement M
 gather-reference-spec =

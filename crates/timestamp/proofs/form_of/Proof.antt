@@ -6,7 +6,7 @@ use lib.ListN.{length}
 use Rattle.area.proofs.Parts.{rest-part}
 use Rattle.timestamp.specs.declared.parts.Fraction.the-variants.{Of}
 use Rattle.timestamp.specs.Timestamp.{tail}
-use Rattle.timestamp.specs.Leaves.{fractionOf, zoneOf}
+use Rattle.timestamp.specs.inside.Leaves.{fractionOf, zoneOf}
 use Rattle.timestamp.proofs.Forms.{form-short, form-date, form-clock, form-fraction, form-width, form-zone, form-right}
 use Rattle.timestamp.proofs.form_of.Statement.{statement}
 use Rattle.timestamp.proofs.form_of.Tie as tie

@@ -1,7 +1,7 @@
 use mathlib.Core.Path.{refl, _∙_}
 use borrow.Author.Needs.{needs}
 use Rattle.tree_shape.proofs.Presence.{record-whole}
-use Rattle.tree_layout.specs.Walk.{admits}
+use Rattle.tree_layout.specs.inside.Walk.{admits}
 use Rattle.tree_layout.proofs.admitted.Statement.{statement}
 use Rattle.tree_layout.proofs.admitted.Tie as tie
 
@@ -16,7 +16,7 @@ may-follow-requires c κs = search needs
 
 returns : tie.Need-returns
 unfolding admits
-returns c = rw (c .before .before .is-record .ensures ∙ record-whole (c .before .before .before .before .before .args .texts .now) (c .before .before .before .before .before .args .r .now) (c .before .before .before .before .before .pre .0), c .may-follow .ensures) refl
+returns c = rw (c .before .before .is-record .ensures ∙ record-whole (c .before .before .before .before .before .args .texts .now) (c .before .before .before .before .before .args .r .now) (c .before .before .before .before .before .pre), c .may-follow .ensures) refl
 
 pub admitted-spec : {M : Type 1} → statement M
 admitted-spec =

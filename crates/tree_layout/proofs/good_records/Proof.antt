@@ -3,8 +3,9 @@ use mathlib.Core.Path.{sym, _∙_}
 use native.Mathlib.Omega.{arith}
 use borrow.Author.Needs.{needs}
 use lib.ListN.{take, drop}
-use Rattle.tree_layout.specs.Open.{stateOf}
-use Rattle.tree_layout.proofs.Walking.{Walking, few-more, record-part, record-length, stands-fits, walking-start, walking-next, walking-stop, walking-done}
+use Rattle.tree_status.proofs.Tallies.{few-more}
+use Rattle.tree_order.specs.inside.Open.{stateOf}
+use Rattle.tree_layout.proofs.Walking.{Walking, record-part, record-length, stands-fits, walking-start, walking-next, walking-stop, walking-done}
 use Rattle.tree_layout.proofs.good_records.Statement.{statement}
 use Rattle.tree_layout.proofs.good_records.Tie as tie
 
@@ -41,7 +42,7 @@ part-r-end c = omega (arith, stands-fits (c .before .before .loop .inv) (sym (c 
 admitted-requires : tie.Need-admitted-requires Inv-loop μ-loop
 admitted-requires c κs = let l = c .before .before .before .loop in
     let h = stands-fits (l .inv) (sym (c .before .before .stands-at .ensures) ∙ c .before .if1 .taken) in
-    (record-length (c .before .before .before .before .before .before .before .args .words .now) (l .at) (omega (arith, c .before .before .before .before .before .before .before .pre .0)), few-more (l .inv .few) (omega (arith, l .inv .fits, c .before .before .before .before .before .before .before .pre .1)))
+    record-length (c .before .before .before .before .before .before .before .args .words .now) (l .at) (omega (arith, c .before .before .before .before .before .before .before .pre .0))
 
 next-requires : tie.Need-next-requires Inv-loop μ-loop
 next-requires c κs = let l = c .before .before .before .before .before .loop in
@@ -62,7 +63,7 @@ returns c = let l = c .before .before .before .before .before .loop in
     walking-stop (l .inv) (take (l .at + 32 - l .at) (drop (l .at) words)) (record-part words (l .at)) (sym (c .before .before .before .before .stands-at .ensures) ∙ c .before .before .before .if1 .taken) (sym (c .before .admitted .ensures) ∙ c .if2 .left)
 
 may-stop-requires : tie.Need-may-stop-requires Inv-loop μ-loop
-may-stop-requires c κs = few-more (c .before .before .loop .inv .few) (omega (arith, c .before .before .loop .inv .fits, c .before .before .before .before .before .before .pre .1))
+may-stop-requires c κs = search needs
 
 mul-is-zero : tie.Need-mul-is-zero Inv-loop μ-loop
 mul-is-zero c = omega (arith, c .before .before .before .loop .inv .fits, c .before .before .before .before .before .before .before .pre .1)

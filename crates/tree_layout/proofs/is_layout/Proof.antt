@@ -4,7 +4,8 @@ use native.Mathlib.Omega.{arith}
 use borrow.Author.Needs.{needs}
 use lib.ListN.{length, take}
 use lib.Seq.{length-take-le}
-use Rattle.tree_layout.proofs.Filling.{fill-fits}
+use Rattle.area.specs.Limits.{mostBytes}
+use Rattle.tree_layout.proofs.Filling.{fill-first, fill-fits}
 use Rattle.tree_layout.proofs.Whole.{layout-whole}
 use Rattle.tree_layout.proofs.is_layout.Statement.{statement}
 use Rattle.tree_layout.proofs.is_layout.Tie as tie
@@ -14,26 +15,26 @@ least-requires c κs = search needs
 
 slice-aggregate-used : tie.Need-slice-aggregate-used
 slice-aggregate-used c = let text = c .before .before .before .before .args .text .now in
-    sym (length-take-le (c .before .least .result) text (omega (arith, c .before .least .ensures, min-le-left (length text) 16777216)))
+    sym (length-take-le (c .before .least .result) text (omega (arith, c .before .least .ensures, min-le-left (length text) mostBytes)))
 
-fill-of-requires : tie.Need-fill-of-requires
-fill-of-requires c κs = search needs
+first-at-requires : tie.Need-first-at-requires
+first-at-requires c κs = search needs
 
 least-requires-2 : tie.Need-least-requires-2
 least-requires-2 c κs = search needs
 
 is-good-requires : tie.Need-is-good-requires
-is-good-requires c κs = search needs
+is-good-requires c κs = fill-first (take (c .before .before .before .least .result) (c .before .before .before .before .before .before .args .text .now)) _ (c .before .first-at .ensures)
 
 slice-aggregate-good-records : tie.Need-slice-aggregate-good-records
 slice-aggregate-good-records c = let used = take (c .before .before .before .before .before .least .result) (c .before .before .before .before .before .before .before .before .args .text .now) in
-    sym (length-take-le (c .before .before .before .fill-of .result) used (fill-fits used (c .before .before .before .fill-of .result) (c .before .before .before .fill-of .ensures)))
+    sym (length-take-le (c .before .before .before .first-at .result) used (fill-fits used (c .before .before .before .first-at .result) (fill-first used _ (c .before .before .before .first-at .ensures))))
 
 good-records-requires : tie.Need-good-records-requires
 good-records-requires c κs = search needs
 
 returns : tie.Need-returns
-returns c = rw (c .before .before .is-good .ensures, c .good-records .ensures) (layout-whole (c .before .before .before .before .before .before .before .before .before .args .records .now) (c .before .before .before .before .before .before .before .before .before .args .text .now) (c .before .before .before .before .before .before .least .result) (c .before .before .before .before .fill-of .result) (c .before .before .before .least2 .result) (c .before .before .before .before .before .before .least .ensures) (c .before .before .before .before .fill-of .ensures) (c .before .before .before .least2 .ensures))
+returns c = rw (c .before .before .is-good .ensures, c .good-records .ensures) (layout-whole (c .before .before .before .before .before .before .before .before .before .args .records .now) (c .before .before .before .before .before .before .before .before .before .args .text .now) (c .before .before .before .before .before .before .least .result) (c .before .before .before .before .first-at .result) (c .before .before .before .least2 .result) (c .before .before .before .before .before .before .least .ensures) (fill-first (take (c .before .before .before .before .before .before .least .result) (c .before .before .before .before .before .before .before .before .before .args .text .now)) _ (c .before .before .before .before .first-at .ensures)) (c .before .before .before .least2 .ensures))
 
 pub is-layout-spec : {M : Type 1} → statement M
 is-layout-spec =
@@ -41,7 +42,7 @@ is-layout-spec =
     (tie.spec
     least-requires
     slice-aggregate-used
-    fill-of-requires
+    first-at-requires
     least-requires-2
     is-good-requires
     slice-aggregate-good-records

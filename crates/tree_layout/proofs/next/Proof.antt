@@ -1,7 +1,7 @@
 use mathlib.Core.Path.{refl}
 use borrow.Author.Needs.{needs}
 use borrow.Author.Tests.{lt-ltb, le-ltb}
-use Rattle.tree_layout.specs.Walk.{behind}
+use Rattle.tree_layout.specs.inside.Walk.{behind}
 use Rattle.tree_layout.proofs.next.Statement.{statement}
 use Rattle.tree_layout.proofs.next.Tie as tie
 

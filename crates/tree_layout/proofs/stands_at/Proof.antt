@@ -2,7 +2,7 @@ use Prim.Native.Nat.{_+_}
 use native.Mathlib.Omega.{arith}
 use borrow.Author.Needs.{needs}
 use borrow.Author.Tests.{le-leb, lt-leb}
-use Rattle.tree_layout.specs.Walk.{standsAt}
+use Rattle.tree_layout.specs.inside.Walk.{standsAt}
 use Rattle.tree_layout.proofs.stands_at.Statement.{statement}
 use Rattle.tree_layout.proofs.stands_at.Tie as tie
 

@@ -1,6 +1,6 @@
 use borrow.Author.Needs.{needs}
 use mathlib.Core.Path.{ap, _∙_}
-use Rattle.tree_put.specs.Put.{marked}
+use Rattle.tree_record.specs.Record.{marked}
 use Rattle.tree_put.proofs.put_text.Statement.{statement}
 use Rattle.tree_put.proofs.put_text.Tie as tie
 

@@ -29,15 +29,15 @@ part-is-zero-end c = search needs
 is-zero-requires : tie.Need-is-zero-requires
 is-zero-requires c κs = search needs
 
-has-requires : tie.Need-has-requires
-has-requires c κs = search needs
+has-bit-requires : tie.Need-has-bit-requires
+has-bit-requires c κs = search needs
 
 good-common-requires : tie.Need-good-common-requires
 good-common-requires c κs = search needs
 
 returns : tie.Need-returns
 unfolding goodCase
-returns c = rw (case-bits (c .before .before .before .before .before .before .before .before .before .before .args .r .now), c .before .has .ensures, c .good-common .ensures, c .before .before .before .before .before .before .good-outputs .ensures, c .before .before .before .before .before .text-slot .ensures, c .before .before .before .before .free-slot .ensures, c .before .before .is-zero .ensures) refl
+returns c = rw (case-bits (c .before .before .before .before .before .before .before .before .before .before .args .r .now), c .before .has-bit .ensures, c .good-common .ensures, c .before .before .before .before .before .before .good-outputs .ensures, c .before .before .before .before .before .text-slot .ensures, c .before .before .before .before .free-slot .ensures, c .before .before .is-zero .ensures) refl
 
 pub good-case-spec : {M : Type 1} → statement M
 good-case-spec =
@@ -51,6 +51,6 @@ good-case-spec =
     part-is-zero-start
     part-is-zero-end
     is-zero-requires
-    has-requires
+    has-bit-requires
     good-common-requires
     returns)

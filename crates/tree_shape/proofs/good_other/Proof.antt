@@ -4,14 +4,14 @@ use Rattle.tree_report.specs.Layout.{goodOther}
 use Rattle.tree_shape.proofs.good_other.Statement.{statement}
 use Rattle.tree_shape.proofs.good_other.Tie as tie
 
-shared-slice-read-kind : tie.Need-shared-slice-read-kind
-shared-slice-read-kind c = search needs
+shared-slice-read-k : tie.Need-shared-slice-read-k
+shared-slice-read-k c = search needs
 
-has-requires : tie.Need-has-requires
-has-requires c κs = search needs
+has-bit-requires : tie.Need-has-bit-requires
+has-bit-requires c κs = search needs
 
-has-requires-2 : tie.Need-has-requires-2
-has-requires-2 c κs = search needs
+has-bit-requires-2 : tie.Need-has-bit-requires-2
+has-bit-requires-2 c κs = search needs
 
 text-slot-requires : tie.Need-text-slot-requires
 text-slot-requires c κs = search needs
@@ -45,15 +45,15 @@ good-outputs-requires c κs = search needs
 
 returns : tie.Need-returns
 unfolding goodOther
-returns c = rw (c .before .before .only-other .ensures, c .before .before .before .before .before .before .before .before .before .has .ensures, c .before .before .before .before .before .before .before .before .has2 .ensures, c .before .good-common .ensures, c .good-outputs .ensures, c .before .before .before .before .before .before .before .text-slot .ensures, c .before .before .before .before .before .before .text-slot2 .ensures, c .before .before .before .before .before .text-slot3 .ensures, c .before .before .before .is-zero .ensures) refl
+returns c = rw (c .before .before .only-other .ensures, c .before .before .before .before .before .before .before .before .before .has-bit .ensures, c .before .before .before .before .before .before .before .before .has-bit2 .ensures, c .before .good-common .ensures, c .good-outputs .ensures, c .before .before .before .before .before .before .before .text-slot .ensures, c .before .before .before .before .before .before .text-slot2 .ensures, c .before .before .before .before .before .text-slot3 .ensures, c .before .before .before .is-zero .ensures) refl
 
 pub good-other-spec : {M : Type 1} → statement M
 good-other-spec =
     tie.close
     (tie.spec
-    shared-slice-read-kind
-    has-requires
-    has-requires-2
+    shared-slice-read-k
+    has-bit-requires
+    has-bit-requires-2
     text-slot-requires
     text-slot-requires-2
     text-slot-requires-3

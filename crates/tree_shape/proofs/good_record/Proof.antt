@@ -4,8 +4,8 @@ use Rattle.tree_shape.proofs.Presence.{dead-record, report-record, suit
 use Rattle.tree_shape.proofs.good_record.Statement.{statement}
 use Rattle.tree_shape.proofs.good_record.Tie as tie
 
-shared-slice-read-kind : tie.Need-shared-slice-read-kind
-shared-slice-read-kind c = search needs
+shared-slice-read-k : tie.Need-shared-slice-read-k
+shared-slice-read-k c = search needs
 
 returns : tie.Need-returns
 returns c = dead-record (c .before .before .before .before .args .texts .now) (c .before .before .before .before .args .r .now) (c .if1 .taken)
@@ -38,7 +38,7 @@ pub good-record-spec : {M : Type 1} → statement M
 good-record-spec =
     tie.close
     (tie.spec
-    shared-slice-read-kind
+    shared-slice-read-k
     returns
     good-report-requires
     good-suite-requires

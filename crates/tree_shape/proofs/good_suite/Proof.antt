@@ -14,8 +14,8 @@ mul-only c = search needs
 add-only : tie.Need-add-only
 add-only c = search needs
 
-has-requires : tie.Need-has-requires
-has-requires c κs = search needs
+has-bit-requires : tie.Need-has-bit-requires
+has-bit-requires c κs = search needs
 
 good-common-requires : tie.Need-good-common-requires
 good-common-requires c κs = search needs
@@ -28,7 +28,7 @@ good-counts-requires c κs = search needs
 
 returns : tie.Need-returns
 unfolding goodSuite
-returns c = rw (suite-bits (c .before .before .before .before .before .before .before .args .r .now), c .before .before .before .has .ensures, c .before .before .good-common .ensures, c .before .good-outputs .ensures, c .good-counts .ensures) refl
+returns c = rw (suite-bits (c .before .before .before .before .before .before .before .args .r .now), c .before .before .before .has-bit .ensures, c .before .before .good-common .ensures, c .before .good-outputs .ensures, c .good-counts .ensures) refl
 
 pub good-suite-spec : {M : Type 1} → statement M
 good-suite-spec =
@@ -37,7 +37,7 @@ good-suite-spec =
     shared-slice-read-bits
     mul-only
     add-only
-    has-requires
+    has-bit-requires
     good-common-requires
     good-outputs-requires
     good-counts-requires

@@ -3,7 +3,7 @@ use native.Mathlib.Omega.{arith}
 use borrow.Author.Tests.{lt-leb, le-leb}
 use lib.ListN.{length}
 use lib.Seq.{length-take-le}
-use Rattle.tree_shape.specs.Records.{isRecord}
+use Rattle.tree_shape.specs.inside.Records.{isRecord}
 use Rattle.tree_shape.proofs.is_record.Statement.{statement}
 use Rattle.tree_shape.proofs.is_record.Tie as tie
 

@@ -5,8 +5,8 @@ use Rattle.tree_shape.proofs.Bits.{pair-bits, main-bits, skipped-bits, 
 use Rattle.tree_shape.proofs.only_other.Statement.{statement}
 use Rattle.tree_shape.proofs.only_other.Tie as tie
 
-shared-slice-read-kind : tie.Need-shared-slice-read-kind
-shared-slice-read-kind c = search needs
+shared-slice-read-k : tie.Need-shared-slice-read-k
+shared-slice-read-k c = search needs
 
 shared-slice-read-bits : tie.Need-shared-slice-read-bits
 shared-slice-read-bits c = search needs
@@ -49,7 +49,7 @@ pub only-other-spec : {M : Type 1} → statement M
 only-other-spec =
     tie.close
     (tie.spec
-    shared-slice-read-kind
+    shared-slice-read-k
     shared-slice-read-bits
     returns
     mul-result

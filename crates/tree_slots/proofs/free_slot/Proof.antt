@@ -5,11 +5,11 @@ use Rattle.tree_slots.proofs.Presence.{slot-present, slot-absent, zero-
 use Rattle.tree_slots.proofs.free_slot.Statement.{statement}
 use Rattle.tree_slots.proofs.free_slot.Tie as tie
 
-has-requires : tie.Need-has-requires
-has-requires c κs = search needs
+has-bit-requires : tie.Need-has-bit-requires
+has-bit-requires c κs = search needs
 
 returns : tie.Need-returns
-returns c = slot-present _ (c .before .has .ensures) (c .if1 .taken) refl
+returns c = slot-present _ (c .before .has-bit .ensures) (c .if1 .taken) refl
 
 add-end : tie.Need-add-end
 add-end c = search needs
@@ -30,13 +30,13 @@ is-zero-requires : tie.Need-is-zero-requires
 is-zero-requires c κs = search needs
 
 returns-2 : tie.Need-returns-2
-returns-2 c = slot-absent true (c .before .before .before .has .ensures) (c .before .before .if1 .left) (c .is-zero .ensures ∙ zero-part (c .before .before .before .before .before .args .r .now) (c .before .before .before .before .before .args .o) (c .before .before .before .before .before .args .n))
+returns-2 c = slot-absent true (c .before .before .before .has-bit .ensures) (c .before .before .if1 .left) (c .is-zero .ensures ∙ zero-part (c .before .before .before .before .before .args .r .now) (c .before .before .before .before .before .args .o) (c .before .before .before .before .before .args .n))
 
 pub free-slot-spec : {M : Type 1} → statement M
 free-slot-spec =
     tie.close
     (tie.spec
-    has-requires
+    has-bit-requires
     returns
     add-end
     mul-is-zero

@@ -4,14 +4,14 @@ use Rattle.tree_slots.proofs.Presence.{slot-present, slot-absent, zero-
 use Rattle.tree_slots.proofs.text_slot.Statement.{statement}
 use Rattle.tree_slots.proofs.text_slot.Tie as tie
 
-has-requires : tie.Need-has-requires
-has-requires c κs = search needs
+has-bit-requires : tie.Need-has-bit-requires
+has-bit-requires c κs = search needs
 
 is-text-requires : tie.Need-is-text-requires
 is-text-requires c κs = search needs
 
 returns : tie.Need-returns
-returns c = slot-present _ (c .before .before .has .ensures) (c .before .if1 .taken) (c .is-text .ensures)
+returns c = slot-present _ (c .before .before .has-bit .ensures) (c .before .if1 .taken) (c .is-text .ensures)
 
 add-end : tie.Need-add-end
 add-end c = search needs
@@ -32,13 +32,13 @@ is-zero-requires : tie.Need-is-zero-requires
 is-zero-requires c κs = search needs
 
 returns-2 : tie.Need-returns-2
-returns-2 c = slot-absent _ (c .before .before .before .has .ensures) (c .before .before .if1 .left) (c .is-zero .ensures ∙ zero-part (c .before .before .before .before .before .before .args .r .now) (c .before .before .before .before .before .before .args .o) 2)
+returns-2 c = slot-absent _ (c .before .before .before .has-bit .ensures) (c .before .before .if1 .left) (c .is-zero .ensures ∙ zero-part (c .before .before .before .before .before .before .args .r .now) (c .before .before .before .before .before .before .args .o) 2)
 
 pub text-slot-spec : {M : Type 1} → statement M
 text-slot-spec =
     tie.close
     (tie.spec
-    has-requires
+    has-bit-requires
     is-text-requires
     returns
     add-end

@@ -8,6 +8,7 @@ use Rattle.area.proofs.Parts.{rest-part, rest-back}
 use Rattle.area.specs.Area.{placing, laid}
 use Rattle.text.proofs.decode.put_piece.Statement.{statement}
 use Rattle.text.proofs.decode.put_piece.Tie as tie
+use Rattle.refusal.specs.declared.Cause.the-variants as cause
 
 sub-copy-into : tie.Need-sub-copy-into
 sub-copy-into c = search needs
@@ -36,7 +37,7 @@ returns c =
     let e = c .before .before .copy-into .ensures in
     let o = a .out .now in
     let f = take (a .p .n) (a .p .bytes) in (
-      e .0 ∙ ap (λ (l : List ℕ). placing 16 (length l) f) (rest-part o (a .k)) ∙ ap (λ (n : ℕ). placing 16 n f) (length-drop (a .k) o),
+      e .0 ∙ ap (λ (l : List ℕ). placing cause.OutputFull (length l) f) (rest-part o (a .k)) ∙ ap (λ (n : ℕ). placing cause.OutputFull n f) (length-drop (a .k) o),
       rest-back o (a .k) _ ∙ ap (λ (l : List ℕ). take (a .k) o ++ l) (e .1 ∙ ap (λ (l : List ℕ). laid l f) (rest-part o (a .k))),
     )
 

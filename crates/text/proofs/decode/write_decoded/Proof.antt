@@ -6,9 +6,10 @@ use lib.ListN.{length}
 use Rattle.area.proofs.Laying.{laying-start, laying-on, laying-done}
 use Rattle.area.specs.Area.{storedAnswer}
 use Rattle.text.proofs.Writing.{Writing, writing-more, writing-full}
-use Rattle.text.proofs.Pieces.{piece-moves, piece-end, part-some}
+use Rattle.text.proofs.Pieces.{piece-moves, piece-end}
 use Rattle.text.proofs.decode.write_decoded.Statement.{statement}
 use Rattle.text.proofs.decode.write_decoded.Tie as tie
+use Rattle.refusal.specs.declared.Cause.the-variants as cause
 
 abbrev Inv-loop : tie.InvT-loop
 Inv-loop out₀ s clean i₀ k₀ out i k = Writing clean out₀ s out i k
@@ -29,7 +30,7 @@ part-piece-of-end : tie.Need-part-piece-of-end Inv-loop μ-loop
 part-piece-of-end c = omega arith
 
 piece-of-requires : tie.Need-piece-of-requires Inv-loop μ-loop
-piece-of-requires c κs = part-some (c .before .before .before .before .before .args .s .now) (c .before .before .loop .i) (c .before .loop-test .taken)
+piece-of-requires c κs = search needs
 
 put-piece-requires : tie.Need-put-piece-requires Inv-loop μ-loop
 put-piece-requires c κs = (c .before .before .before .before .loop .inv .laying .fits, c .before .piece-of .ensures .fits)
@@ -47,14 +48,14 @@ returns : tie.Need-returns Inv-loop μ-loop
 returns c =
     let p = c .before .before .before .before .before .before .piece-of in
     let q = c .before .before .before .before .put-piece in
-    writing-full (c .before .before .before .before .before .before .before .before .before .loop .inv) (c .before .before .before .before .before .before .before .before .loop-test .taken) (p .result) (p .ensures) (q .last .0) (q .ensures .1) (sym (ap (storedAnswer 16) (c .enum-told .given .1)) ∙ q .ensures .0)
+    writing-full (c .before .before .before .before .before .before .before .before .before .loop .inv) (c .before .before .before .before .before .before .before .before .loop-test .taken) (p .result) (p .ensures) (q .last .0) (q .ensures .1) (sym (ap (storedAnswer cause.OutputFull) (c .enum-told .given .1)) ∙ q .ensures .0)
 
 add-k : tie.Need-add-k Inv-loop μ-loop
 add-k c =
     let p = c .before .before .before .before .before .before .before .piece-of in
     let q = c .before .before .before .before .before .put-piece in
     let g = c .before .put .given in
-    let w = writing-more (c .before .before .before .before .before .before .before .before .before .before .loop .inv) (c .before .before .before .before .before .before .before .before .before .loop-test .taken) (p .result) (p .ensures) (q .last .0) (q .ensures .1) (g .0 .0) (sym (ap (storedAnswer 16) (g .1)) ∙ q .ensures .0) in
+    let w = writing-more (c .before .before .before .before .before .before .before .before .before .before .loop .inv) (c .before .before .before .before .before .before .before .before .before .loop-test .taken) (p .result) (p .ensures) (q .last .0) (q .ensures .1) (g .0 .0) (sym (ap (storedAnswer cause.OutputFull) (g .1)) ∙ q .ensures .0) in
     omega (arith, w .laying .fits, w .laying .same, c .before .before .before .before .before .before .before .before .before .before .before .before .before .good)
 
 loop-again : tie.Need-loop-again Inv-loop μ-loop
@@ -62,7 +63,7 @@ loop-again c =
     let p = c .before .before .before .before .before .before .before .before .piece-of in
     let q = c .before .before .before .before .before .before .put-piece in
     let g = c .before .before .put .given in
-    writing-more (c .before .before .before .before .before .before .before .before .before .before .before .loop .inv) (c .before .before .before .before .before .before .before .before .before .before .loop-test .taken) (p .result) (p .ensures) (q .last .0) (q .ensures .1) (g .0 .0) (sym (ap (storedAnswer 16) (g .1)) ∙ q .ensures .0)
+    writing-more (c .before .before .before .before .before .before .before .before .before .before .before .loop .inv) (c .before .before .before .before .before .before .before .before .before .before .loop-test .taken) (p .result) (p .ensures) (q .last .0) (q .ensures .1) (g .0 .0) (sym (ap (storedAnswer cause.OutputFull) (g .1)) ∙ q .ensures .0)
 
 add-i : tie.Need-add-i Inv-loop μ-loop
 add-i c = omega (arith, loop-again c .within, c .before .before .before .before .before .before .before .before .before .before .before .before .before .before .good)
@@ -80,7 +81,7 @@ same-length-2 c = c .before .loop .inv .laying .same
 returns-2 : tie.Need-returns-2 Inv-loop μ-loop
 returns-2 c =
     let a = c .before .before .before .before .args in
-    let l = c .before .loop in laying-done 13 (laying-on (l .inv .laying) (piece-end (a .clean) (a .s .now) (l .i) (c .loop-test .left)))
+    let l = c .before .loop in laying-done cause.TextFull (laying-on (l .inv .laying) (piece-end (a .clean) (a .s .now) (l .i) (c .loop-test .left)))
 
 pub write-decoded-spec : {M : Type 1} → statement M
 write-decoded-spec =

@@ -9,6 +9,7 @@ use Rattle.text.specs.Filter.{filtered}
 use Rattle.text.proofs.Filtering.{filter-drop-at, filter-keep-at, filter-end}
 use Rattle.text.proofs.filter.store.Statement.{statement}
 use Rattle.text.proofs.filter.store.Tie as tie
+use Rattle.refusal.specs.declared.Cause.the-variants as cause
 
 abbrev Inv-loop : tie.InvT-loop
 Inv-loop out₀ s i₀ k₀ out i k = (i ≤ length s) × Laying out₀ out k (filtered s) (filtered (drop i s))
@@ -33,7 +34,7 @@ same-length c = c .before .before .before .before .before .loop .inv .1 .same
 
 returns : tie.Need-returns Inv-loop μ-loop
 returns c =
-    let l = c .before .before .before .before .before .loop in laying-full 13 (laying-on (l .inv .1) (filter-keep-at _ (l .i) (c .before .before .before .before .loop-test .taken) (sym (c .before .before .is-dropped .ensures) ∙ not-true _ (c .before .if1 .taken)))) (c .if2 .taken)
+    let l = c .before .before .before .before .before .loop in laying-full cause.TextFull (laying-on (l .inv .1) (filter-keep-at _ (l .i) (c .before .before .before .before .loop-test .taken) (sym (c .before .before .is-dropped .ensures) ∙ not-true _ (c .before .if1 .taken)))) (c .if2 .taken)
 
 slice-write-out : tie.Need-slice-write-out Inv-loop μ-loop
 slice-write-out c = c .if2 .left
@@ -59,7 +60,7 @@ same-length-2 : tie.Need-same-length-2 Inv-loop μ-loop
 same-length-2 c = c .before .loop .inv .1 .same
 
 returns-2 : tie.Need-returns-2 Inv-loop μ-loop
-returns-2 c = let l = c .before .loop in laying-done 13 (laying-on (l .inv .1) (filter-end _ (l .i) (c .loop-test .left)))
+returns-2 c = let l = c .before .loop in laying-done cause.TextFull (laying-on (l .inv .1) (filter-end _ (l .i) (c .loop-test .left)))
 
 pub store-spec : {M : Type 1} → statement M
 store-spec =

@@ -1,4 +1,3 @@
--- `clock::read::formed_time` meets its contract. Assumes nothing.
 use Prim.Native.Nat.{ℕ, _+_, _≤_}
 use mathlib.Core.Path.{sym, ap, _∙_}
 use mathlib.Core.List.{List}
@@ -9,21 +8,22 @@ use lib.Seq.{length-take-le}
 use borrow.Author.Needs.{needs}
 use Rattle.area.proofs.Parts.{rest-part}
 use Rattle.time.specs.Time.{fraction, formedTime}
-use Rattle.time.proofs.Points.{point-within, whole-at, fraction-at, whole-none, fraction-none}
+use Rattle.area.proofs.Seeking.{first-within}
+use Rattle.time.proofs.Points.{whole-at, fraction-at, whole-none, fraction-none}
 use Rattle.time.proofs.read.formed_time.Statement.{statement}
 use Rattle.time.proofs.read.formed_time.Tie as tie
 
-within : (c : tie.Else1) → c .before .point-at .result ≤ length (c .before .before .before .args .s .now)
-within c = omega (arith, point-within (c .before .before .before .args .s .now), c .before .point-at .ensures)
+within : (c : tie.Else1) → c .before .first-at .result ≤ length (c .before .before .before .args .s .now)
+within c = omega (arith, first-within 0x2E (c .before .before .before .args .s .now), c .before .first-at .ensures)
 
-point-at-requires : tie.Need-point-at-requires
-point-at-requires c κs = search needs
+first-at-requires : tie.Need-first-at-requires
+first-at-requires c κs = search needs
 
 add-from : tie.Need-add-from
 add-from c = search needs
 
 slice-aggregate-time-in : tie.Need-slice-aggregate-time-in
-slice-aggregate-time-in c = sym (length-take-le (c .before .before .point-at .result) (c .before .before .before .before .args .s .now) (le-of-lt (c .before .if1 .taken)))
+slice-aggregate-time-in c = sym (length-take-le (c .before .before .first-at .result) (c .before .before .before .before .args .s .now) (le-of-lt (c .before .if1 .taken)))
 
 sub-time-in : tie.Need-sub-time-in
 sub-time-in c = search needs
@@ -39,8 +39,8 @@ time-in-requires c κs = search needs
 
 returns : tie.Need-returns
 returns c = let s = c .before .before .before .before .before .before .args .s .now in
-    let p = c .before .before .before .before .point-at .result in
-    let e = c .before .before .before .before .point-at .ensures in
+    let p = c .before .before .before .before .first-at .result in
+    let e = c .before .before .before .before .first-at .ensures in
     c .time-in .ensures ∙ ap (λ (l : List ℕ). formedTime (take p s) l) (rest-part s (p + 1) ∙ fraction-at s p e) ∙ ap (λ (l : List ℕ). formedTime l (fraction s)) (whole-at s p e)
 
 sub-time-in-2 : tie.Need-sub-time-in-2
@@ -57,8 +57,8 @@ time-in-requires-2 c κs = search needs
 
 returns-2 : tie.Need-returns-2
 returns-2 c = let s = c .before .before .before .before .before .args .s .now in
-    let p = c .before .before .before .point-at .result in
-    let e = c .before .before .before .point-at .ensures in
+    let p = c .before .before .before .first-at .result in
+    let e = c .before .before .before .first-at .ensures in
     let h = c .before .before .if1 .left in
     c .time-in2 .ensures ∙ ap (λ (l : List ℕ). formedTime s l) (rest-part s p ∙ fraction-none s p e h) ∙ ap (λ (l : List ℕ). formedTime l (fraction s)) (whole-none s p e h)
 
@@ -66,7 +66,7 @@ pub formed-time-spec : {M : Type 1} → statement M
 formed-time-spec =
     tie.close
     (tie.spec
-    point-at-requires
+    first-at-requires
     add-from
     slice-aggregate-time-in
     sub-time-in

@@ -1,4 +1,3 @@
--- `clock::read::read_time` meets its contract. Assumes nothing.
 use mathlib.Core.Path.{sym, _∙_}
 use borrow.Author.Needs.{needs}
 use Rattle.time.proofs.Times.{read-is, read-bad}

@@ -1,4 +1,3 @@
--- `clock::read::up_to` meets its contract. Assumes nothing.
 use mathlib.Core.Path.{_∙_}
 use Rattle.time.proofs.Times.{up-to-none, up-to-some}
 use borrow.Author.Needs.{needs}

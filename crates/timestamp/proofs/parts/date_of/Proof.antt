@@ -6,50 +6,23 @@ use Rattle.timestamp.proofs.Leaves.{date-wrong, date-right}
 use Rattle.timestamp.proofs.parts.date_of.Statement.{statement}
 use Rattle.timestamp.proofs.parts.date_of.Tie as tie
 
-sub-decimal-field : tie.Need-sub-decimal-field
-sub-decimal-field c = search needs
+decimal-at-requires : tie.Need-decimal-at-requires
+decimal-at-requires c κs = search needs
 
-part-decimal-field-start : tie.Need-part-decimal-field-start
-part-decimal-field-start c = search needs
+decimal-at-requires-2 : tie.Need-decimal-at-requires-2
+decimal-at-requires-2 c κs = search needs
 
-part-decimal-field-end : tie.Need-part-decimal-field-end
-part-decimal-field-end c = search needs
-
-decimal-field-requires : tie.Need-decimal-field-requires
-decimal-field-requires c κs = search needs
-
-sub-decimal-field-2 : tie.Need-sub-decimal-field-2
-sub-decimal-field-2 c = search needs
-
-part-decimal-field-start-2 : tie.Need-part-decimal-field-start-2
-part-decimal-field-start-2 c = search needs
-
-part-decimal-field-end-2 : tie.Need-part-decimal-field-end-2
-part-decimal-field-end-2 c = search needs
-
-decimal-field-requires-2 : tie.Need-decimal-field-requires-2
-decimal-field-requires-2 c κs = search needs
-
-sub-decimal-field-3 : tie.Need-sub-decimal-field-3
-sub-decimal-field-3 c = search needs
-
-part-decimal-field-start-3 : tie.Need-part-decimal-field-start-3
-part-decimal-field-start-3 c = search needs
-
-part-decimal-field-end-3 : tie.Need-part-decimal-field-end-3
-part-decimal-field-end-3 c = search needs
-
-decimal-field-requires-3 : tie.Need-decimal-field-requires-3
-decimal-field-requires-3 c κs = search needs
+decimal-at-requires-3 : tie.Need-decimal-at-requires-3
+decimal-at-requires-3 c κs = search needs
 
 cast-year : tie.Need-cast-year
-cast-year c = let f = c .before .before .before .before .before .decimal-field in omega (arith, field-most 10 9999 (part 0 4 (c .before .before .before .before .before .before .before .before .args .s .now)) (f .result) (f .ensures))
+cast-year c = let f = c .before .before .before .decimal-at in omega (arith, field-most 10 9999 (part 0 4 (c .before .before .before .before .before .args .s .now)) (f .result) (f .ensures))
 
 cast-month : tie.Need-cast-month
-cast-month c = let f = c .before .before .before .before .decimal-field2 in omega (arith, field-most 10 12 (part 5 2 (c .before .before .before .before .before .before .before .before .before .args .s .now)) (f .result) (f .ensures))
+cast-month c = let f = c .before .before .before .decimal-at2 in omega (arith, field-most 10 12 (part 5 2 (c .before .before .before .before .before .before .args .s .now)) (f .result) (f .ensures))
 
 cast-day : tie.Need-cast-day
-cast-day c = let f = c .before .before .before .decimal-field3 in omega (arith, field-most 10 31 (part 8 2 (c .before .before .before .before .before .before .before .before .before .before .args .s .now)) (f .result) (f .ensures))
+cast-day c = let f = c .before .before .before .decimal-at3 in omega (arith, field-most 10 31 (part 8 2 (c .before .before .before .before .before .before .before .args .s .now)) (f .result) (f .ensures))
 
 shared-slice-read-form : tie.Need-shared-slice-read-form
 shared-slice-read-form c = search needs
@@ -61,27 +34,18 @@ month-length-requires : tie.Need-month-length-requires
 month-length-requires c κs = search needs
 
 returns : tie.Need-returns
-returns c = date-right _ _ _ _ (c .before .before .before .before .before .before .before .before .before .before .before .before .before .before .decimal-field .ensures) (c .before .before .before .before .before .before .before .before .before .before .before .before .decimal-field2 .ensures) (c .before .before .before .before .before .before .before .before .before .before .decimal-field3 .ensures) _ (c .before .month-length .ensures) (c .if1 .taken)
+returns c = date-right _ _ _ _ (c .before .before .before .before .before .before .before .before .before .before .before .before .decimal-at .ensures) (c .before .before .before .before .before .before .before .before .before .before .before .decimal-at2 .ensures) (c .before .before .before .before .before .before .before .before .before .before .decimal-at3 .ensures) _ (c .before .month-length .ensures) (c .if1 .taken)
 
 returns-2 : tie.Need-returns-2
-returns-2 c = date-wrong _ _ _ _ (c .before .before .before .before .before .before .before .before .before .before .before .before .before .before .decimal-field .ensures) (c .before .before .before .before .before .before .before .before .before .before .before .before .decimal-field2 .ensures) (c .before .before .before .before .before .before .before .before .before .before .decimal-field3 .ensures) _ (c .before .month-length .ensures) (c .if1 .left)
+returns-2 c = date-wrong _ _ _ _ (c .before .before .before .before .before .before .before .before .before .before .before .before .decimal-at .ensures) (c .before .before .before .before .before .before .before .before .before .before .before .decimal-at2 .ensures) (c .before .before .before .before .before .before .before .before .before .before .decimal-at3 .ensures) _ (c .before .month-length .ensures) (c .if1 .left)
 
 pub date-of-spec : {M : Type 1} → statement M
 date-of-spec =
     tie.close
     (tie.spec
-    sub-decimal-field
-    part-decimal-field-start
-    part-decimal-field-end
-    decimal-field-requires
-    sub-decimal-field-2
-    part-decimal-field-start-2
-    part-decimal-field-end-2
-    decimal-field-requires-2
-    sub-decimal-field-3
-    part-decimal-field-start-3
-    part-decimal-field-end-3
-    decimal-field-requires-3
+    decimal-at-requires
+    decimal-at-requires-2
+    decimal-at-requires-3
     cast-year
     cast-month
     cast-day

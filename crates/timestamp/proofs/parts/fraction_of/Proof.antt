@@ -1,11 +1,10 @@
-use Prim.Native.Nat.{ℕ, _+_, _-_}
-use mathlib.Core.Path.{_≡_, ap, _∙_}
+use Prim.Native.Nat.{_+_}
+use Rattle.timestamp.proofs.Fractions.{point-run, fraction-none, fraction-empty, fraction-long, fraction-small, fraction-right}
+use Rattle.timestamp.specs.Timestamp.{digitRun}
+use Rattle.area.proofs.Parts.{rest-part}
+use mathlib.Core.Path.{ap, sym, _∙_}
 use native.Mathlib.Omega.{arith}
 use borrow.Author.Needs.{needs}
-use Rattle.area.proofs.Parts.{rest-part}
-use Rattle.fixed.specs.Fields.{part, fieldOf}
-use Rattle.timestamp.specs.Timestamp.{digitRun}
-use Rattle.timestamp.proofs.Fractions.{point-run, fraction-none, fraction-empty, fraction-long, fraction-small, fraction-right}
 use Rattle.timestamp.proofs.parts.fraction_of.Statement.{statement}
 use Rattle.timestamp.proofs.parts.fraction_of.Tie as tie
 
@@ -30,37 +29,35 @@ digit-run-requires c κs = search needs
 returns-2 : tie.Need-returns-2
 returns-2 c = let t = c .before .before .before .before .before .before .args .t .now in fraction-empty t (c .before .before .before .if1 .left) _ (c .before .digit-run .ensures ∙ ap digitRun (rest-part t 1)) (c .if2 .taken)
 
-returns-3 : tie.Need-returns-3
-returns-3 c = let t = c .before .before .before .before .before .before .before .args .t .now in fraction-long t (c .before .before .before .before .if1 .left) _ (c .before .before .digit-run .ensures ∙ ap digitRun (rest-part t 1)) (c .if3 .taken)
-
 add-end : tie.Need-add-end
-add-end c = search needs
+add-end c = let t = c .before .before .before .before .before .before .args .t .now in omega (arith, c .before .digit-run .ensures ∙ ap digitRun (rest-part t 1), point-run t (c .before .before .before .if1 .left))
 
-sub-decimal-field : tie.Need-sub-decimal-field
-sub-decimal-field c = search needs
+sub-billionths-of : tie.Need-sub-billionths-of
+sub-billionths-of c = search needs
 
-part-decimal-field-start : tie.Need-part-decimal-field-start
-part-decimal-field-start c = search needs
+part-billionths-of-start : tie.Need-part-billionths-of-start
+part-billionths-of-start c = search needs
 
-part-decimal-field-end : tie.Need-part-decimal-field-end
-part-decimal-field-end c = let t = c .before .before .before .before .before .before .before .args .t .now in let n = c .before .before .digit-run .ensures ∙ ap digitRun (rest-part t 1) in omega (arith, n, point-run t (c .before .before .before .before .if1 .left))
+part-billionths-of-end : tie.Need-part-billionths-of-end
+part-billionths-of-end c = let t = c .before .before .before .before .before .before .args .t .now in omega (arith, c .before .digit-run .ensures ∙ ap digitRun (rest-part t 1), point-run t (c .before .before .before .if1 .left))
 
-decimal-field-requires : tie.Need-decimal-field-requires
-decimal-field-requires c κs = search needs
+billionths-of-requires : tie.Need-billionths-of-requires
+billionths-of-requires c κs = search needs
 
-scaled-requires : tie.Need-scaled-requires
-scaled-requires c κs = let t = c .before .before .before .before .before .before .before .before .before .args .t .now in
-    let n = c .before .before .before .before .digit-run .result in
-    let k : n + 1 - 1 ≡ n = omega arith in
-    let f = c .decimal-field .ensures ∙ ap (λ (j : ℕ). fieldOf 10 999999999 (part 1 j t)) k in
-    (c .before .before .if3 .left, fraction-small t (c .before .before .before .before .before .before .if1 .left) n (c .before .before .before .before .digit-run .ensures ∙ ap digitRun (rest-part t 1)) (c .decimal-field .result) f (c .before .before .before .if2 .left) (c .before .before .if3 .left))
+enum-known-f : tie.Need-enum-known-f
+enum-known-f c = search needs
+
+enum-told : tie.Need-enum-told
+enum-told c = search needs
+
+returns-3 : tie.Need-returns-3
+returns-3 c = let t = c .before .before .before .before .before .before .before .before .before .before .args .t .now in fraction-long t (c .before .before .before .before .before .before .before .if1 .left) _ (c .before .before .before .before .before .digit-run .ensures ∙ ap digitRun (rest-part t 1)) (c .before .before .before .before .before .digit-run .result + 1) (omega arith) (sym (c .enum-told .given .1) ∙ c .before .before .billionths-of .ensures)
+
+cast-t16 : tie.Need-cast-t16
+cast-t16 c = let t = c .before .before .before .before .before .before .before .before .before .before .before .args .t .now in let k = fraction-small t (c .before .before .before .before .before .before .before .before .if1 .left) _ (c .before .before .before .before .before .before .digit-run .ensures ∙ ap digitRun (rest-part t 1)) (c .before .before .before .before .before .before .digit-run .result + 1) (omega arith) _ (sym (c .before .f .given .1) ∙ c .before .before .before .billionths-of .ensures) in omega arith
 
 returns-4 : tie.Need-returns-4
-returns-4 c = let t = c .before .before .before .before .before .before .before .before .before .before .args .t .now in
-    let n = c .before .before .before .before .before .digit-run .result in
-    let k : n + 1 - 1 ≡ n = omega arith in
-    let f = c .before .decimal-field .ensures ∙ ap (λ (j : ℕ). fieldOf 10 999999999 (part 1 j t)) k in
-    fraction-right t (c .before .before .before .before .before .before .before .if1 .left) n (c .before .before .before .before .before .digit-run .ensures ∙ ap digitRun (rest-part t 1)) (c .before .decimal-field .result) f (c .before .before .before .before .if2 .left) (c .before .before .before .if3 .left) (c .scaled .result) (c .scaled .ensures)
+returns-4 c = let t = c .before .before .before .before .before .before .before .before .before .before .before .args .t .now in fraction-right t (c .before .before .before .before .before .before .before .before .if1 .left) _ (c .before .before .before .before .before .before .digit-run .ensures ∙ ap digitRun (rest-part t 1)) (c .before .before .before .before .before .before .digit-run .result + 1) (omega arith) _ (sym (c .before .f .given .1) ∙ c .before .before .before .billionths-of .ensures) (c .before .before .before .before .before .if2 .left)
 
 pub fraction-of-spec : {M : Type 1} → statement M
 fraction-of-spec =
@@ -73,11 +70,13 @@ fraction-of-spec =
     part-digit-run-end
     digit-run-requires
     returns-2
-    returns-3
     add-end
-    sub-decimal-field
-    part-decimal-field-start
-    part-decimal-field-end
-    decimal-field-requires
-    scaled-requires
+    sub-billionths-of
+    part-billionths-of-start
+    part-billionths-of-end
+    billionths-of-requires
+    enum-known-f
+    enum-told
+    returns-3
+    cast-t16
     returns-4)

@@ -7,11 +7,11 @@ use Rattle.timestamp.proofs.Leaves.{zone-utc, zone-byte, zone-length, z
 use Rattle.timestamp.proofs.parts.zone_of.Statement.{statement}
 use Rattle.timestamp.proofs.parts.zone_of.Tie as tie
 
-away-most : (c : tie.After-struct-known2) → c .before .before .before .before .decimal-field .result .number * 60 + c .before .before .decimal-field2 .result .number ≤ 1439
+away-most : (c : tie.After-struct-known2) → c .before .before .before .decimal-at .result .number * 60 + c .before .before .decimal-at2 .result .number ≤ 1439
 away-most c =
-    let z = c .before .before .before .before .before .before .before .before .before .args .z .now in
-    let h = c .before .before .before .before .decimal-field in
-    let m = c .before .before .decimal-field2 in
+    let z = c .before .before .before .before .before .before .before .args .z .now in
+    let h = c .before .before .before .decimal-at in
+    let m = c .before .before .decimal-at2 in
     omega (arith, field-most 10 23 (part 1 2 z) (h .result) (h .ensures), field-most 10 59 (part 4 2 z) (m .result) (m .ensures))
 
 shared-slice-read-if2 : tie.Need-shared-slice-read-if2
@@ -29,32 +29,14 @@ returns-2 c = zone-byte _ (c .before .before .before .if1 .taken) (c .if2 .left)
 returns-3 : tie.Need-returns-3
 returns-3 c = zone-length _ (c .before .if1 .left) (c .if3 .taken)
 
-sub-decimal-field : tie.Need-sub-decimal-field
-sub-decimal-field c = search needs
+decimal-at-requires : tie.Need-decimal-at-requires
+decimal-at-requires c κs = search needs
 
-part-decimal-field-start : tie.Need-part-decimal-field-start
-part-decimal-field-start c = search needs
-
-part-decimal-field-end : tie.Need-part-decimal-field-end
-part-decimal-field-end c = search needs
-
-decimal-field-requires : tie.Need-decimal-field-requires
-decimal-field-requires c κs = search needs
-
-sub-decimal-field-2 : tie.Need-sub-decimal-field-2
-sub-decimal-field-2 c = search needs
-
-part-decimal-field-start-2 : tie.Need-part-decimal-field-start-2
-part-decimal-field-start-2 c = search needs
-
-part-decimal-field-end-2 : tie.Need-part-decimal-field-end-2
-part-decimal-field-end-2 c = search needs
-
-decimal-field-requires-2 : tie.Need-decimal-field-requires-2
-decimal-field-requires-2 c κs = search needs
+decimal-at-requires-2 : tie.Need-decimal-at-requires-2
+decimal-at-requires-2 c κs = search needs
 
 mul-away : tie.Need-mul-away
-mul-away c = let f = c .before .before .before .decimal-field in omega (arith, field-most 10 23 (part 1 2 (c .before .before .before .before .before .before .before .before .args .z .now)) (f .result) (f .ensures))
+mul-away c = let f = c .before .before .decimal-at in omega (arith, field-most 10 23 (part 1 2 (c .before .before .before .before .before .before .args .z .now)) (f .result) (f .ensures))
 
 add-away : tie.Need-add-away
 add-away c = omega (arith, away-most c)
@@ -68,26 +50,26 @@ shared-slice-read-if4 c = search needs
 shared-slice-read-if5 : tie.Need-shared-slice-read-if5
 shared-slice-read-if5 c = search needs
 
-add-t29 : tie.Need-add-t29
-add-t29 c = omega (arith, away-most (c .before .before .before .before .before .before))
+add-t23 : tie.Need-add-t23
+add-t23 c = omega (arith, away-most (c .before .before .before .before .before .before))
 
 returns-4 : tie.Need-returns-4
-returns-4 c = zone-plus _ (c .before .before .before .before .before .before .before .before .before .before .before .before .before .if1 .left) (c .before .before .before .before .before .before .before .before .before .before .before .before .if3 .left) _ _ (c .before .before .before .before .before .before .before .before .before .before .decimal-field .ensures) (c .before .before .before .before .before .before .before .before .decimal-field2 .ensures) (c .before .before .if4 .taken) (c .if5 .taken)
+returns-4 c = zone-plus _ (c .before .before .before .before .before .before .before .before .before .before .before .if1 .left) (c .before .before .before .before .before .before .before .before .before .before .if3 .left) _ _ (c .before .before .before .before .before .before .before .before .before .decimal-at .ensures) (c .before .before .before .before .before .before .before .before .decimal-at2 .ensures) (c .before .before .if4 .taken) (c .if5 .taken)
 
 shared-slice-read-if6 : tie.Need-shared-slice-read-if6
 shared-slice-read-if6 c = search needs
 
-sub-t31 : tie.Need-sub-t31
-sub-t31 c = omega (arith, away-most (c .before .before .before .before .before .before .before .before))
+sub-t25 : tie.Need-sub-t25
+sub-t25 c = omega (arith, away-most (c .before .before .before .before .before .before .before .before))
 
 returns-5 : tie.Need-returns-5
-returns-5 c = zone-minus _ (c .before .before .before .before .before .before .before .before .before .before .before .before .before .before .before .if1 .left) (c .before .before .before .before .before .before .before .before .before .before .before .before .before .before .if3 .left) _ _ (c .before .before .before .before .before .before .before .before .before .before .before .before .decimal-field .ensures) (c .before .before .before .before .before .before .before .before .before .before .decimal-field2 .ensures) (c .before .before .before .before .if4 .taken) (c .before .before .if5 .left) (c .if6 .taken)
+returns-5 c = zone-minus _ (c .before .before .before .before .before .before .before .before .before .before .before .before .before .if1 .left) (c .before .before .before .before .before .before .before .before .before .before .before .before .if3 .left) _ _ (c .before .before .before .before .before .before .before .before .before .before .before .decimal-at .ensures) (c .before .before .before .before .before .before .before .before .before .before .decimal-at2 .ensures) (c .before .before .before .before .if4 .taken) (c .before .before .if5 .left) (c .if6 .taken)
 
 returns-6 : tie.Need-returns-6
-returns-6 c = zone-sign _ (c .before .before .before .before .before .before .before .before .before .before .before .before .before .before .before .if1 .left) (c .before .before .before .before .before .before .before .before .before .before .before .before .before .before .if3 .left) _ _ (c .before .before .before .before .before .before .before .before .before .before .before .before .decimal-field .ensures) (c .before .before .before .before .before .before .before .before .before .before .decimal-field2 .ensures) (c .before .before .before .before .if4 .taken) (c .before .before .if5 .left) (c .if6 .left)
+returns-6 c = zone-sign _ (c .before .before .before .before .before .before .before .before .before .before .before .before .before .if1 .left) (c .before .before .before .before .before .before .before .before .before .before .before .before .if3 .left) _ _ (c .before .before .before .before .before .before .before .before .before .before .before .decimal-at .ensures) (c .before .before .before .before .before .before .before .before .before .before .decimal-at2 .ensures) (c .before .before .before .before .if4 .taken) (c .before .before .if5 .left) (c .if6 .left)
 
 returns-7 : tie.Need-returns-7
-returns-7 c = zone-form _ (c .before .before .before .before .before .before .before .before .before .before .before .if1 .left) (c .before .before .before .before .before .before .before .before .before .before .if3 .left) _ _ (c .before .before .before .before .before .before .before .before .decimal-field .ensures) (c .before .before .before .before .before .before .decimal-field2 .ensures) (c .if4 .left)
+returns-7 c = zone-form _ (c .before .before .before .before .before .before .before .before .before .if1 .left) (c .before .before .before .before .before .before .before .before .if3 .left) _ _ (c .before .before .before .before .before .before .before .decimal-at .ensures) (c .before .before .before .before .before .before .decimal-at2 .ensures) (c .if4 .left)
 
 pub zone-of-spec : {M : Type 1} → statement M
 zone-of-spec =
@@ -98,23 +80,17 @@ zone-of-spec =
     returns
     returns-2
     returns-3
-    sub-decimal-field
-    part-decimal-field-start
-    part-decimal-field-end
-    decimal-field-requires
-    sub-decimal-field-2
-    part-decimal-field-start-2
-    part-decimal-field-end-2
-    decimal-field-requires-2
+    decimal-at-requires
+    decimal-at-requires-2
     mul-away
     add-away
     cast-away
     shared-slice-read-if4
     shared-slice-read-if5
-    add-t29
+    add-t23
     returns-4
     shared-slice-read-if6
-    sub-t31
+    sub-t25
     returns-5
     returns-6
     returns-7)

@@ -3,7 +3,7 @@ use mathlib.Core.Path.{_≡_, sym, _∙_}
 use mathlib.Core.Bool.{true, _&&_}
 use native.Mathlib.Omega.{arith}
 use Rattle.tree_counts.specs.Counts.{added, areCounts}
-use Rattle.tree_counts.proofs.Adding.{Within, within, tested, adding, refusing}
+use Rattle.tree_counts.proofs.Adding.{Within, within, tested, adding-whole, refusing-whole}
 use Rattle.tree_counts.proofs.Counts.add_test_suite.Statement.{statement}
 use Rattle.tree_counts.proofs.Counts.add_test_suite.Tie as tie
 
@@ -63,14 +63,20 @@ add-t18 c = omega (arith, all-within (c .before .before .before .before .before 
 add-t20 : tie.Need-add-t20
 add-t20 c = omega (arith, all-within (c .before .before .before .before .before .before .before .before .before .before) .disabled, c .before .before .before .before .before .before .before .before .before .before .before .before .before .before .before .before .before .disabled-of .ensures, c .before .before .before .before .before .before .before .before .before .before .before .before .before .before .before .before .disabled-of2 .ensures)
 
+no-refusal-requires : tie.Need-no-refusal-requires
+no-refusal-requires c κs = search needs
+
 returns : tie.Need-returns
 returns c =
-    rw
-    (c .before .before .before .before .before .before .before .before .before .before .before .before .before .before .before .before .before .disabled-of .ensures, c .before .before .before .before .before .before .before .before .before .before .before .before .before .before .before .before .disabled-of2 .ensures)
-    (adding (c .before .before .before .before .before .before .before .before .before .before .before .before .before .before .before .before .before .before .args .self) (c .before .before .before .before .before .before .before .before .before .before .before .before .before .before .before .before .before .before .args .suite) (sum-fits (c .before .before .before .before .before .before .before .before .before .before)))
+    let self = c .before .before .before .before .before .before .before .before .before .before .before .before .before .before .before .before .before .before .before .args .self in
+    let suite = c .before .before .before .before .before .before .before .before .before .before .before .before .before .before .before .before .before .before .before .args .suite in
+    adding-whole self suite (sum-fits (c .before .before .before .before .before .before .before .before .before .before .before)) (rw (c .before .before .before .before .before .before .before .before .before .before .before .before .before .before .before .before .before .before .disabled-of .ensures, c .before .before .before .before .before .before .before .before .before .before .before .before .before .before .before .before .before .disabled-of2 .ensures)) (c .no-refusal .ensures)
+
+refuse-late-requires : tie.Need-refuse-late-requires
+refuse-late-requires c κs = search needs
 
 returns-2 : tie.Need-returns-2
-returns-2 c = refusing (c .before .before .before .before .before .before .before .before .args .self) (c .before .before .before .before .before .before .before .before .args .suite) (sym (tests-said (c .before)) ∙ c .if1 .left)
+returns-2 c = refusing-whole (c .before .before .before .before .before .before .before .before .before .args .self) (c .before .before .before .before .before .before .before .before .before .args .suite) (sym (tests-said (c .before .before)) ∙ c .before .if1 .left) (c .refuse-late .ensures)
 
 pub add-test-suite-spec : {M : Type 1} → statement M
 add-test-suite-spec =
@@ -88,5 +94,7 @@ add-test-suite-spec =
     add-t17
     add-t18
     add-t20
+    no-refusal-requires
     returns
+    refuse-late-requires
     returns-2)

@@ -1,0 +1,3 @@
+pub mod Scaling
+pub mod Fractions
+pub mod Examples

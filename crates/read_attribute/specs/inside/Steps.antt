@@ -1,0 +1,43 @@
+-- An attribute's answer, against the outcome of the definitions. Definitions only.
+use Prim.Native.Nat.{ℕ}
+use mathlib.Core.List.{List}
+use Rattle.refusal.specs.Refusal.{Refused, Outcome, accepted, refused}
+use Rattle.refusal.specs.declared.Cause.{Cause}
+use Rattle.names.specs.Keys.{keyOf}
+use Rattle.table.specs.Event.{Attribute}
+use Rattle.read_keys.specs.Roles.{roleOf}
+use Rattle.read_element.specs.Outcome.{Place, Rooms, pathTo}
+use Rattle.read_element.specs.Attributes.{Given, byRole}
+use Rattle.read_element.specs.inside.Held.{Held}
+use Rattle.read_extra_record.specs.declared.Given.{Given as Counted}
+use Rattle.read_extra_record.specs.declared.Gave.{Gave}
+use Rattle.read_extra_record.specs.declared.Gave.the-variants as gave
+use Rattle.read_values.specs.declared.Took.{Took}
+use Rattle.read_values.specs.declared.Took.the-variants as took
+use Rattle.read_attribute.specs.declared.Fault.{Fault}
+use Rattle.read_attribute.specs.declared.Step.{Step}
+use Rattle.read_attribute.specs.declared.Step.the-variants as step
+
+abbrev pub faultStep : Cause → ℕ → ℕ → Step
+faultStep why key j = step.Not (record { cause = why; key = key; attribute = j })
+
+abbrev pub takenStep : Took → Counted → ℕ → ℕ → Step
+takenStep (took.To fill) given key j = step.To (record { extras = given .extras; fill = fill })
+takenStep (took.Not why) given key j = faultStep why key j
+
+-- "Errors of an extra [..] carry the element's path with no Attribute."
+abbrev pub gaveStep : Gave → ℕ → Step
+gaveStep (gave.To given) j = step.To given
+gaveStep (gave.Not why) j = faultStep why 0 j
+
+abbrev pub faultAt : Place → Fault → Refused
+faultAt p f = record { cause = f .cause; path = pathTo (p .path) (f .key); event = p .event; attribute = f .attribute }
+
+-- an attribute's answer and the areas are those of an outcome; p is the element's place
+pub data Matches (p : Place) (own text : List ℕ) : Outcome Given → Step → Type 0 where
+  went : {g : Given} {given : Counted} → Held own text (given .extras) (given .fill) g → Matches p own text (accepted g) (step.To given)
+  stopped : {f : Fault} → Matches p own text (refused (faultAt p f)) (step.Not f)
+
+-- an attribute whose key is good and isn't repeated; p has its number
+abbrev pub byKey : Rooms → Place → ℕ → ℕ → Attribute → Given → Outcome Given
+byKey rooms p used kind x g = byRole rooms p used kind (keyOf (x .key)) (roleOf kind (keyOf (x .key))) x g

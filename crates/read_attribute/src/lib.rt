@@ -1,0 +1,147 @@
+// One attribute of an element: its key, then its value by the key's role.
+use area::wide;
+use names::key_of;
+use read_extra_record::Gave;
+use read_extra_record::Given;
+use read_extras::read_extra;
+use read_keys::Role;
+use read_keys::role_of;
+use read_repeats::is_repeated;
+use read_role::read_value;
+use read_values::Took;
+use refusal::Cause;
+use table::parts::bytes_of;
+ghost use mathlib.Core.Path.{_≡_};
+ghost use mathlib.Core.Bool.{true, false, not};
+ghost use Prim.Native.Nat.{ℕ, _<_, _≤_, _+_, _-_, _*_, _^_};
+ghost use lib.ListN.{length};
+ghost use Rattle.table.specs.Event.{markAt, keyAt, attributeAt, attributesFrom};
+ghost use Rattle.read_element.specs.Outcome.{Place, Rooms, need};
+ghost use Rattle.read_element.specs.Attributes.{among, numbered};
+ghost use Rattle.read_element.specs.Attributes.{Given as Said};
+ghost use Rattle.read_element.specs.inside.Held.{keysOf, Held, Roomy};
+ghost use Rattle.read_repeats.specs.inside.Words.{attributeIn};
+ghost use Rattle.read_attribute.specs.inside.Steps.{takenStep, gaveStep, faultStep, byKey, Matches};
+ghost use Rattle.refusal.specs.declared.Cause.the-variants as cause;
+
+// Why an element is refused: the code of the key whose value it is, 0 where the path has no Attribute, and the attribute's
+// number, 4294967295 where none is concerned.
+pub struct Fault {
+    pub cause: Cause,
+    pub key: u32,
+    pub attribute: u32,
+}
+
+// Attributes from number `first` to before number `end`.
+pub struct Range {
+    pub first: usize,
+    pub end: usize,
+}
+
+// What one attribute comes to.
+pub enum Step {
+    To(Given),
+    Not(Fault),
+}
+
+fn taken(took: Took, given: Given, key: usize, j: usize) -> Step
+    requires { ⌜ key < 2 ^ 32 ⌝ }
+    requires { ⌜ j < 2 ^ 32 ⌝ }
+    ensures { λ r. ⌜ r ≡ takenStep took given key j ⌝ }
+{
+    match took {
+        Took::To(fill) => Step::To(Given {
+            extras: given.extras,
+            fill,
+        }),
+        Took::Not(cause) => Step::Not(Fault {
+            cause,
+            key: key as u32,
+            attribute: j as u32,
+        }),
+    }
+}
+
+// A refusal at attribute j whose path has no Attribute.
+fn refused_at(cause: Cause, j: usize) -> Step
+    requires { ⌜ j < 2 ^ 32 ⌝ }
+    ensures { λ r. ⌜ r ≡ faultStep cause 0 j ⌝ }
+{
+    Step::Not(Fault {
+        cause,
+        key: 0,
+        attribute: j as u32,
+    })
+}
+
+// "Errors of an extra [..] carry the element's path with no Attribute."
+fn gave(found: Gave, j: usize) -> Step
+    requires { ⌜ j < 2 ^ 32 ⌝ }
+    ensures { λ r. ⌜ r ≡ gaveStep found j ⌝ }
+{
+    match found {
+        Gave::To(given) => Step::To(given),
+        Gave::Not(cause) => refused_at(cause, j),
+    }
+}
+
+// Attribute j, whose words are `words`, and whose key is good.
+fn read_attribute(
+    kind: u32,
+    words: &[u32],
+    j: usize,
+    source: &[u8],
+    given: Given,
+    own: &mut [u32],
+    text: &mut [u8],
+) -> Step
+    requires { ⌜ 5 ≤ length (now words) ⌝ }
+    requires { ⌜ j < 2 ^ 32 ⌝ }
+    requires { ⌜ kind ≤ 12 ⌝ }
+    requires { ⌜ given .fill ≤ length (now text) ⌝ }
+    requires { ⌜ length (now text) ≤ 16777216 ⌝ }
+    requires { ⌜ given .extras * 32 + 32 ≤ length (now own) ⌝ }
+    ensures { λ r. ⌜ ((g : Said) (rooms : Rooms) (p : Place) (used : ℕ) → Held (now (own .entry)) (now (text .entry)) (given .extras) (given .fill) g → Roomy rooms used (length (now (own .entry))) (length (now (text .entry))) → Matches p (now (own .exit)) (now (text .exit)) (byKey rooms (numbered p j) used kind (attributeIn (now (words .entry)) (now (source .entry))) g) r) ⌝ }
+{
+    let name = bytes_of(source, wide(words[1]), wide(words[2]));
+    let value = bytes_of(source, wide(words[3]), wide(words[4]));
+    let key = key_of(name);
+    let role = role_of(kind, key);
+    if let Role::Extra = role {
+        return gave(read_extra(kind, name, value, given, own, text), j);
+    }
+    let fill = given.fill;
+    taken(read_value(role, value, fill, own, text), given, key, j)
+}
+
+// "Attributes in order: faulty or repeated key (9), then key and value."
+pub fn step_attribute(
+    kind: u32,
+    attributes: &[u32],
+    source: &[u8],
+    range: Range,
+    free: bool,
+    j: usize,
+    given: Given,
+    own: &mut [u32],
+    text: &mut [u8],
+) -> Step
+    requires { ⌜ range .first ≤ j ⌝ }
+    requires { ⌜ j * 5 + 5 ≤ length (now attributes) ⌝ }
+    requires { ⌜ j < 65536 ⌝ }
+    requires { ⌜ kind ≤ 12 ⌝ }
+    requires { ⌜ given .fill ≤ length (now text) ⌝ }
+    requires { ⌜ length (now text) ≤ 16777216 ⌝ }
+    requires { ⌜ given .extras * 32 + 32 ≤ length (now own) ⌝ }
+    ensures { λ r. ⌜ ((g : Said) (rooms : Rooms) (p : Place) (used : ℕ) → Held (now (own .entry)) (now (text .entry)) (given .extras) (given .fill) g → Roomy rooms used (length (now (own .entry))) (length (now (text .entry))) → (free ≡ true → among (keyAt (now (attributes .entry)) (now (source .entry)) j) (keysOf (attributesFrom (now (attributes .entry)) (now (source .entry)) (j - range .first) (range .first))) ≡ false) → Matches p (now (own .exit)) (now (text .exit)) (need (markAt (now (attributes .entry)) j) (numbered p j) cause.FaultyAttribute (need (not (among (keyAt (now (attributes .entry)) (now (source .entry)) j) (keysOf (attributesFrom (now (attributes .entry)) (now (source .entry)) (j - range .first) (range .first))))) (numbered p j) cause.RepeatedKey (byKey rooms (numbered p j) used kind (attributeAt (now (attributes .entry)) (now (source .entry)) j) g))) r) ⌝ }
+{
+    let at = j * 5;
+    let words = &attributes[at..];
+    if words[0] != 0 {
+        return refused_at(Cause::FaultyAttribute, j);
+    }
+    if is_repeated(attributes, source, range.first, j, words, free) {
+        return refused_at(Cause::RepeatedKey, j);
+    }
+    read_attribute(kind, words, j, source, given, own, text)
+}

@@ -1,0 +1,172 @@
+// The path of where reading stands, and of a refusal.
+ghost use mathlib.Core.Path.{_≡_};
+ghost use Prim.Native.Nat.{ℕ};
+ghost use mathlib.Core.Bool.{Bool};
+ghost use mathlib.Core.List.{List};
+ghost use Rattle.read_element.specs.Outcome as outcome;
+ghost use Rattle.read_state.specs.Control as plan;
+ghost use Rattle.read_state.specs.declared.Act.the-variants.{CloseText};
+ghost use Rattle.read_state.specs.inside.Coded.{levelOf, outputOf, outputIn, modeOf, opening, closing, actOf};
+ghost use Rattle.read_path.specs.Paths as standing;
+ghost use Rattle.read_place.specs.inside.Coded.{marksOf};
+ghost use Rattle.read_path.specs.inside.Coded.{Leads, withAttribute};
+use read_place::Marks;
+use read_state::Act;
+use read_state::Control;
+use read_state::Level;
+use read_state::Mode;
+use read_state::Output;
+use refusal::NOWHERE;
+use refusal::Path;
+use refusal::PathElement;
+use tree_record::kind::CASE;
+use tree_record::kind::REPORT;
+use tree_record::kind::SUITE;
+
+fn element_of(kind: u32, index: u32, event: u32) -> PathElement
+    ensures { λ r. ⌜ r ≡ outcome.element kind index event ⌝ }
+{
+    PathElement { kind, index, event }
+}
+
+fn root() -> Path
+    ensures { λ r. ⌜ Leads r standing.root ⌝ }
+{
+    Path::new().with(element_of(1, NOWHERE, NOWHERE))
+}
+
+fn suite_path(m: Marks) -> Path
+    ensures { λ r. ⌜ Leads r (standing.suitePath (marksOf m)) ⌝ }
+{
+    root().with(element_of(2, m.suite_index, m.suite_start))
+}
+
+fn case_path(m: Marks) -> Path
+    ensures { λ r. ⌜ Leads r (standing.casePath (marksOf m)) ⌝ }
+{
+    suite_path(m).with(element_of(3, m.case_index, m.case_start))
+}
+
+fn level_path(level: Level, m: Marks) -> Path
+    ensures { λ r. ⌜ Leads r (standing.levelPath (levelOf level) (marksOf m)) ⌝ }
+{
+    match level {
+        Level::Top => root(),
+        Level::Suite => suite_path(m),
+        Level::Case => case_path(m),
+        Level::Status => case_path(m).with(element_of(m.status_kind, NOWHERE, NOWHERE)),
+    }
+}
+
+// The path of a stack trace ends in Attribute `stackTrace`, as in the crate.
+fn output_element(output: Output) -> PathElement
+    ensures { λ r. ⌜ r ≡ standing.outputElement (outputOf output) ⌝ }
+{
+    match output {
+        Output::Trace => element_of(16, 15, NOWHERE),
+        Output::Out => element_of(14, NOWHERE, NOWHERE),
+        Output::Err => element_of(15, NOWHERE, NOWHERE),
+    }
+}
+
+// The path of where reading stands.
+fn mode_path(control: Control, m: Marks) -> Path
+    ensures { λ r. ⌜ Leads r (standing.modePath (modeOf control) (marksOf m)) ⌝ }
+{
+    let mode = control.mode;
+    let level = control.level;
+    let output = control.output;
+    match mode {
+        Mode::At => level_path(level, m),
+        Mode::Text => level_path(level, m).with(output_element(output)),
+        Mode::List => level_path(level, m).with(element_of(4, NOWHERE, NOWHERE)),
+    }
+}
+
+// "suite and case elements carry index and, once named, their Start's event number"
+fn opening_path(kind: u32, m: Marks) -> Path
+    ensures { λ r. ⌜ ((empty : Bool) (mode : plan.Mode) → Leads r (standing.pathOf (opening kind empty) mode (marksOf m))) ⌝ }
+{
+    match kind {
+        REPORT => root(),
+        SUITE => root().with(element_of(2, m.suite_index, NOWHERE)),
+        CASE => suite_path(m).with(element_of(3, m.case_index, NOWHERE)),
+        _ => case_path(m).with(element_of(kind, NOWHERE, NOWHERE)),
+    }
+}
+
+fn closing_path(level: Level, m: Marks) -> Path
+    ensures { λ r. ⌜ ((mode : plan.Mode) → Leads r (standing.pathOf (closing (levelOf level)) mode (marksOf m))) ⌝ }
+{
+    match level {
+        Level::Top => root(),
+        Level::Suite => root(),
+        Level::Case => level_path(level, m),
+        Level::Status => level_path(level, m),
+    }
+}
+
+// The text that is gathered; `Out` stands where there is none.
+fn gathered(control: Control) -> Output
+    ensures { λ r. ⌜ outputOf r ≡ outputIn (modeOf control) ⌝ }
+{
+    let mode = control.mode;
+    let output = control.output;
+    match mode {
+        Mode::At => Output::Out,
+        Mode::Text => output,
+        Mode::List => Output::Out,
+    }
+}
+
+fn text_path(control: Control, m: Marks) -> Path
+    ensures { λ r. ⌜ ((name : List ℕ) → Leads r (standing.pathOf (actOf control name CloseText) (modeOf control) (marksOf m))) ⌝ }
+{
+    let level = control.level;
+    level_path(level, m).with(output_element(gathered(control)))
+}
+
+fn property_path(level: Level, m: Marks) -> Path
+    ensures { λ r. ⌜ ((mode : plan.Mode) → Leads r (standing.pathOf (plan.readProperty (levelOf level)) mode (marksOf m))) ⌝ }
+{
+    let list = level_path(level, m).with(element_of(4, NOWHERE, NOWHERE));
+    list.with(element_of(5, m.property_index, NOWHERE))
+}
+
+// The path of a refusal at an action.
+pub fn path_of(act: Act, control: Control, m: Marks) -> Path
+    ensures { λ r. ⌜ ((name : List ℕ) → Leads r (standing.pathOf (actOf control name act) (modeOf control) (marksOf m))) ⌝ }
+{
+    let level = control.level;
+    match act {
+        Act::Open(kind, _) => opening_path(kind, m),
+        Act::Close => closing_path(level, m),
+        Act::CloseText => text_path(control, m),
+        Act::ReadProperty => property_path(level, m),
+        Act::Broken(_) => mode_path(control, m),
+        Act::Missing => Path::new(),
+        Act::Pass => root(),
+        Act::Skip => root(),
+        Act::OpenText(_) => root(),
+        Act::OpenList => root(),
+        Act::CloseList => root(),
+        Act::Stop => root(),
+    }
+}
+
+// The code that a path's Attribute has for a key.
+fn attribute_of(key: u32) -> u32
+    ensures { λ r. ⌜ r ≡ outcome.attributeOf key ⌝ }
+{
+    if key <= 14 { key } else { 16 }
+}
+
+// The path of an attribute's value, where the key's code says that there is one.
+pub fn within(path: Path, key: u32) -> Path
+    ensures { λ r. ⌜ r ≡ withAttribute path key ⌝ }
+{
+    if key == 0 {
+        return path;
+    }
+    path.with(element_of(16, attribute_of(key), NOWHERE))
+}

@@ -1,0 +1,59 @@
+-- What is done at an event, by its kind. Definitions only.
+use Prim.Native.Nat.{ℕ}
+use mathlib.Core.Path.{_≡_}
+use mathlib.Core.List.{List, []}
+use mathlib.Core.Bool.{Bool, true, false, cond, _&&_, _||_}
+use lib.Dec.{leb, eqb}
+use Rattle.read_state.specs.Control.{Control, Act}
+use Rattle.read_rules.specs.Rules.{planAt, planEof, planFault}
+use Rattle.table.specs.Event.{tagKind}
+use Rattle.read_state.specs.inside.Coded.{controlOf, actOf}
+use Rattle.read_state.specs.declared.Control.{Control as CodedControl}
+use Rattle.read_state.specs.declared.Act.{Act as CodedAct}
+use Rattle.read_state.specs.declared.Act.the-variants.{Pass, Skip, Open, Close, OpenText, CloseText, OpenList, CloseList, ReadProperty, Stop, Missing, Broken}
+
+-- "3 Text, 4 CData, 5 Ref, 6 Other, [..] 9 Indent"
+abbrev pub isPiece : ℕ → Bool
+isPiece kind = (leb 3 kind && leb kind 6) || eqb kind 9
+
+-- "7 Eof, 8 Fault", else a tag of that name
+abbrev pub planned : Control → ℕ → List ℕ → Act
+planned k kind name =
+    cond (eqb kind 7) (planEof (k .mode) (k .seen) (k .closed))
+    (cond (eqb kind 8) (planFault (k .mode)) (planAt (k .mode) (k .seen) (tagKind kind) name))
+
+-- Eof and Fault have no name
+abbrev pub nameIn : ℕ → List ℕ → List ℕ
+nameIn kind name = cond (eqb kind 7) [] (cond (eqb kind 8) [] name)
+
+-- an unknown Start, or a child of a status element
+abbrev pub IsSkipped : CodedControl → ℕ → List ℕ → Type 0
+IsSkipped k kind name = actOf k (nameIn kind name) Skip ≡ planned (controlOf k) kind name
+
+abbrev pub isSkip : CodedAct → Bool
+isSkip Pass = false
+isSkip Skip = true
+isSkip (Open k e) = false
+isSkip Close = false
+isSkip (OpenText o) = false
+isSkip CloseText = false
+isSkip OpenList = false
+isSkip CloseList = false
+isSkip ReadProperty = false
+isSkip Stop = false
+isSkip Missing = false
+isSkip (Broken why) = false
+
+abbrev pub isStop : CodedAct → Bool
+isStop Pass = false
+isStop Skip = false
+isStop (Open k e) = false
+isStop Close = false
+isStop (OpenText o) = false
+isStop CloseText = false
+isStop OpenList = false
+isStop CloseList = false
+isStop ReadProperty = false
+isStop Stop = true
+isStop Missing = false
+isStop (Broken why) = false

@@ -1,0 +1,6 @@
+pub mod Pattern
+pub mod Rounding
+pub mod Sum
+pub mod Spelling
+pub mod ReadBack
+pub mod Examples
