@@ -181,7 +181,7 @@ renderedOr (some r) = render r
 unfoldable pub listingOf : List ℕ → List ℕ → List ℕ
 listingOf words text = renderedOr (reportOf words text)
 
--- "15: not a layout", then "16: output area too short" of n bytes; the final newline counts
+-- 15: not a layout, then 16: output area too short of n bytes; the final newline counts
 unfoldable pub listingAnswer : List ℕ → List ℕ → ℕ → Answer ℕ
 listingAnswer words text n = cond (layout words text) (placing cause.OutputFull n (listingOf words text)) (refuses cause.NotLayout)
 

@@ -43,12 +43,12 @@ mainStatus m = cond (eqb m 6) isFailure isError
 
 -- by the mains, flaky runs and reruns; none is refused
 abbrev pub ruleFor : List ℕ → List ℕ → List ℕ → Option Verdict
--- "no main is success with its flaky runs"; "reruns alone"
+-- "no main is success with its flaky runs"; reruns alone
 ruleFor [] fs [] = some (verdict isSuccess flakyKind (length fs))
 ruleFor [] fs (r ∷ rs) = none
 -- "failure or error carries its runs, kind Rerun if there are none"
 ruleFor (m ∷ []) [] [] = some (cond (eqb m 8) (verdict isSkipped noKind 0) (verdict (mainStatus m) rerunKind 0))
--- "`skipped` with a flaky or rerun"
+-- `skipped` with a flaky or rerun
 ruleFor (m ∷ []) (f ∷ fs) [] = cond (eqb m 8) none (some (verdict (mainStatus m) flakyKind (length (f ∷ fs))))
 ruleFor (m ∷ []) [] (r ∷ rs) = cond (eqb m 8) none (some (verdict (mainStatus m) rerunKind (length (r ∷ rs))))
 -- "flaky and rerun together"

@@ -25,7 +25,7 @@ countKeys =
     ∷ (key.disabled, Number word.disabled bit.disabled)
     ∷ []
 
--- "Ignore unknown attributes"
+-- unknown attributes are ignored
 abbrev pub reportKeys : List (ℕ × Role)
 reportKeys =
     (key.name, Text word.name bit.name)
@@ -37,7 +37,7 @@ reportKeys =
 unfoldable pub reportRole : ℕ → Role
 reportRole = roleIn reportKeys Ignored
 
--- "Store unknown attributes in extra", as does a case
+-- unknown attributes are extras, as on a case
 abbrev pub suiteKeys : List (ℕ × Role)
 suiteKeys =
     (key.name, Text word.name bit.name)

@@ -114,12 +114,12 @@ module _ (n m k : ℕ) (s : Machine) (w : Ended (roomsOf n m k) s) where
       some-report : (h : List ℕ) (hs qs : List (List ℕ)) → qs ≡ h ∷ hs → (r : Report) × (reportFrom texts qs ≡ some r)
       some-report h hs qs e = (_, ap (reportFrom texts) e)
 
--- demand 2: "the tree it leaves is a layout"
+-- demand 2: the tree it leaves is a layout
 pub reading-layout : (n m k : ℕ) (es : List Event) (s : Machine) → Each FairEvent es → run (roomsOf n m k) es begin ≡ accepted s
     → layout (laid (zeros n) (joined (s .content .records))) (laid (zeros m) (s .content .texts)) ≡ true
 reading-layout n m k es s f e = ended-layout n m k s (run-ended n m k es s f e)
 
--- "and `reportOf` of it is that report"
+-- and `reportOf` of it is that report
 pub reading-report : (n m k : ℕ) (es : List Event) (s : Machine) → Each FairEvent es → run (roomsOf n m k) es begin ≡ accepted s
     → reportOf (laid (zeros n) (joined (s .content .records))) (laid (zeros m) (s .content .texts)) ≡ reportFrom (s .content .texts) (only live (s .content .records))
 reading-report n m k es s f e = ended-report n m k s (run-ended n m k es s f e)

@@ -17,11 +17,11 @@ blank kind = kind ∷ zeros 31
 abbrev pub putPair : ℕ → ℕ → ℕ → List ℕ → List ℕ
 putPair o a b r = set (set r o a) (o + 1) b
 
--- "A text is its start and its length in the text area"
+-- A text is its start and its length in the text area
 abbrev pub putText : ℕ → ℕ → ℕ → ℕ → List ℕ → List ℕ
 putText o k start n r = marked k (putPair o start n r)
 
--- "A count is its low word, then its high word"
+-- A count is its low word, then its high word
 abbrev pub putCount : ℕ → ℕ → List ℕ → List ℕ
 putCount o n r = putPair o (n % 2 ^ 32) (n / 2 ^ 32) r
 
@@ -30,7 +30,7 @@ abbrev pub putWords : ℕ → List ℕ → List ℕ → List ℕ
 putWords o [] r = r
 putWords o (v ∷ vs) r = putWords (o + 1) vs (set r o v)
 
--- "A UUID is four words, its first bytes first"
+-- A UUID is four words, its first bytes first
 abbrev pub uuidWords : Words → List ℕ
 uuidWords w = w .a ∷ w .b ∷ w .c ∷ w .d ∷ []
 

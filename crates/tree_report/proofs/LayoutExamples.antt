@@ -82,12 +82,12 @@ case-property-away : goodOrder nothing (inOrder (kind.report ∷ kind.suite ∷ 
 unfolding goodOrder mayFollow mayEnd following ruled
 case-property-away = refl
 
--- "Its live properties stand together"
+-- Its live properties stand together
 properties-apart : goodOrder nothing (inOrder (kind.report ∷ kind.suite ∷ kind.suiteProperty ∷ kind.case ∷ kind.suiteProperty ∷ [])) ≡ false
 unfolding goodOrder mayFollow mayEnd following ruled
 properties-apart = refl
 
--- "An element's extras stand directly behind it"
+-- An element's extras stand directly behind it
 extra-behind-property : goodOrder nothing (inOrder (kind.report ∷ kind.suite ∷ kind.suiteProperty ∷ kind.suiteExtra ∷ [])) ≡ false
 unfolding goodOrder mayFollow mayEnd following ruled
 extra-behind-property = refl

@@ -62,7 +62,7 @@ description text r = given (hasBit bit.description r) (textAt text r word.descri
 abbrev pub stackTrace : List ℕ → List ℕ → Option Text
 stackTrace text r = given (hasBit bit.stackTrace r) (textAt text r word.stackTrace)
 
--- "A UUID is four words, its first bytes first"
+-- A UUID is four words, its first bytes first
 abbrev pub uuid : List ℕ → Option Words
 uuid r =
     given (hasBit bit.uuid r)

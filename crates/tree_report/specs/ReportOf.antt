@@ -21,8 +21,8 @@ abbrev pub until : (List ℕ → Bool) → List (List ℕ) → List (List ℕ)
 until p [] = []
 until p (r ∷ rs) = cond (p r) [] (r ∷ until p rs)
 
--- an element's record, and what stands behind it up to the next of its kind: "a live record belongs to the nearest live
--- record of its parent's kind before it"
+-- an element's record, and what stands behind it up to the next of its kind: a live record belongs to the nearest live
+-- record of its parent's kind before it
 pub record Branch : Type 0 where
   pub head : List ℕ
   pub below : List (List ℕ)

@@ -7,7 +7,7 @@ use lib.Dec.{leb, eqb}
 use Rattle.tree_record.specs.Record.{kindOf}
 use Rattle.tree_report.specs.Layout.{recordsFrom}
 
--- words begin with a record: "records stop at the first whose kind is 0"
+-- words begin with a record: records stop at the first whose kind is 0
 abbrev pub stands : List ℕ → Bool
 stands words = leb 32 (length words) && not (eqb (kindOf words) 0)
 

@@ -12,7 +12,7 @@ use Rattle.read_state.specs.declared.Control.{Control as CodedControl}
 use Rattle.read_state.specs.declared.Act.{Act as CodedAct}
 use Rattle.read_state.specs.declared.Act.the-variants.{Pass, Skip, Open, Close, OpenText, CloseText, OpenList, CloseList, ReadProperty, Stop, Missing, Broken}
 
--- "3 Text, 4 CData, 5 Ref, 6 Other, [..] 9 Indent"
+-- 3 Text, 4 CData, 5 Ref, 6 Other, [..] 9 Indent
 abbrev pub isPiece : ℕ → Bool
 isPiece kind = (leb 3 kind && leb kind 6) || eqb kind 9
 
