@@ -33,11 +33,17 @@ use Rattle.read_machine.specs.Machine as machine
 use Rattle.read_machine.specs.Reading as reading
 use Rattle.list_text.specs.Listing as listing
 use Rattle.public_claims.specs.PublicListing as public
-use Rattle.public_cases.specs.Cases.{All, no-case, one-case, worked, agreeing, cases}
+use Rattle.write_escape.specs.Escape as escape
+use Rattle.write_moment.specs.Written as moment
+use Rattle.write_uuid.specs.Written as uuid
+use Rattle.write_report.specs.Written as write
+use Rattle.write_answer.specs.Answer as answer
+use Rattle.public_cases.specs.Document.{sourceOf}
+use Rattle.public_cases.specs.Cases.{All, no-case, one-case, workedDocument, agreeing, cases}
 
 -- the first case is document 01's example, letter by letter
 pub worked-source
-    : worked .source
+    : sourceOf workedDocument
     ≡ bytes "<testsuites name=\"r\" tests=\"2\"><testsuite name=\"lab\" tests=\"2\"><testcase name=\"a\" time=\"0.5\"/><testcase name=\"b\"><failure message=\"m\"/><rerunFailure/></testcase></testsuite></testsuites>"
 worked-source = refl
 
@@ -60,6 +66,11 @@ unfolding utf8.need utf8.low utf8.high codeFrom sameBytes keys tags
     machine.act machine.step machine.run reading.readAs reading.reading
     listing.runText listing.caseText listing.suiteText listing.header listing.renderPublic listing.render listing.listingOf listing.listingAnswer
     listing.outputOf public.publicListing
+    escape.written moment.dateText moment.clockText moment.offsetText moment.timestampText uuid.hexDigit uuid.uuidText
+    write.serializeOutput write.serializeProperty write.serializeProperties write.serializeOutputs write.serializeStatus write.serializeRerun
+    write.serializeElements write.serializeTestCase write.serializeTestSuite write.declaration write.serializeReport write.numbered write.written
+    answer.eventsOf
 proved-cases =
     one-case refl (one-case refl (one-case refl (one-case refl (one-case refl (one-case refl (one-case refl
-    (one-case refl (one-case refl (one-case refl (one-case refl (one-case refl (one-case refl (one-case refl (one-case {c = agreeing} (refl, refl, refl) no-case))))))))))))))
+    (one-case refl (one-case refl (one-case refl (one-case refl (one-case refl (one-case refl (one-case refl (one-case {c = agreeing} (refl, refl, refl)
+    (one-case refl (one-case refl (one-case refl (one-case refl no-case))))))))))))))))))

@@ -1,5 +1,6 @@
 -- Document 01: "Proved cases: the listing above; the nine examples of rows 2–10; `+5` is 5; `8388607.999999999` read exactly; flaky
--- alone is success; an output U+0001, space, `a` keeps its space". What is expected is written down, not computed. Definitions only.
+-- alone is success; an output U+0001, space, `a` keeps its space"; and cases of writing. What is expected is written down, not computed.
+-- Definitions only.
 use Prim.Native.Nat.{ℕ}
 use Prim.Native.String.{String}
 use mathlib.Core.Path.{_≡_}
@@ -10,15 +11,18 @@ use Rattle.refusal.specs.Refusal.{Outcome, accepted, refused, nowhere, number}
 use Rattle.refusal.specs.declared.Cause.{Cause}
 use Rattle.refusal.specs.declared.Cause.the-variants as cause
 use Rattle.refusal.specs.declared.PathElement.{PathElement}
-use Rattle.table.specs.Event.{resolve}
-use Rattle.tree_report.specs.Report.{Counts, TestSuite, Report}
+use Rattle.table.specs.Event.{Event, resolve}
+use Rattle.tree_report.specs.Report.{TestSuite, Report}
 use Rattle.tree_report.specs.ReportOf.{reportOf}
 use Rattle.read_machine.specs.Reading.{Read, reading}
 use Rattle.public_claims.specs.Agree.{agree}
 use Rattle.public_claims.specs.PublicListing.{publicListing}
+use Rattle.write_report.specs.Written.{written}
+use Rattle.write_answer.specs.Answer as answer
 use Rattle.public_cases.specs.Document.{Markup, _≔_, start, empty, end, text, cdata, ref, comment, indent, eventsOf, attributesOf, sourceOf}
+use Rattle.public_cases.specs.Reports.{noCounts, ofSuites, workedEvents, full, fullEvents, oneFlaky, oneFlakyEvents, emptyOutput, emptyOutputEvents}
 
--- ---- a case: a table, and what is expected of it
+-- ---- what is expected of a table
 pub data Expected : Type 0 where
   -- accepted, with this public listing
   lists : List ℕ → Expected
@@ -28,12 +32,14 @@ pub data Expected : Type 0 where
   refuses : ℕ → Cause → List PathElement → ℕ → ℕ → Expected
   -- accepted, and agrees with the table of this document; both have this public listing
   agrees : List Markup → List ℕ → Expected
+  -- accepted, and the report left in the areas is written as these events
+  writes : List Event → Expected
 
-pub record Case : Type 0 where
-  pub events : List ℕ
-  pub attributes : List ℕ
-  pub source : List ℕ
-  pub expected : Expected
+-- ---- a case: the events, attributes and source of a table, or a report, and what is expected of it
+pub data Case : Type 0 where
+  table : List ℕ → List ℕ → List ℕ → Expected → Case
+  -- written as these events
+  report : Report → List Event → Case
 
 -- the areas have 10 records of 32 words, 64 bytes of text, 64 of scratch and 256 of output, which is enough for each case
 abbrev pub readIn : List ℕ → List ℕ → List ℕ → Read
@@ -49,9 +55,12 @@ HoldsOf events attributes source (agrees ms t) =
     agree (resolve events attributes source) (resolve (eventsOf ms) (attributesOf ms) (sourceOf ms))
     × (publicListing events attributes source 320 64 64 256 ≡ t)
     × (publicListing (eventsOf ms) (attributesOf ms) (sourceOf ms) 320 64 64 256 ≡ t)
+HoldsOf events attributes source (writes es) =
+    _≡_ {A = Outcome (Unit {0}) × List Event} (readIn events attributes source .outcome, answer.eventsOf (readIn events attributes source .words) (readIn events attributes source .text)) (accepted tt, es)
 
 abbrev pub Holds : Case → Type 0
-Holds c = HoldsOf (c .events) (c .attributes) (c .source) (c .expected)
+Holds (table events attributes source e) = HoldsOf events attributes source e
+Holds (report r es) = written r ≡ es
 
 pub data All : List Case → Type 0 where
   no-case : All []
@@ -59,7 +68,7 @@ pub data All : List Case → Type 0 where
 
 -- ---- how the cases are written
 abbrev pub document : List Markup → Expected → Case
-document ms e = record { events = eventsOf ms; attributes = attributesOf ms; source = sourceOf ms; expected = e }
+document ms e = table (eventsOf ms) (attributesOf ms) (sourceOf ms) e
 
 -- a text of lines, each with its newline
 abbrev pub lines : List String → List ℕ
@@ -79,13 +88,10 @@ testcase i e = record { kind = 3; index = i; event = e }
 abbrev pub attribute : ℕ → PathElement
 attribute k = record { kind = 16; index = k; event = nowhere }
 
-abbrev pub noCounts : Counts
-noCounts = record { tests = 0; failures = 0; errors = 0; skipped = 0; disabled = none }
-
 -- ---- "the listing above"
-abbrev pub worked : Case
-worked =
-    document (start "testsuites" ("name" ≔ "r" ∷ "tests" ≔ "2" ∷ [])
+abbrev pub workedDocument : List Markup
+workedDocument =
+    start "testsuites" ("name" ≔ "r" ∷ "tests" ≔ "2" ∷ [])
     ∷ start "testsuite" ("name" ≔ "lab" ∷ "tests" ≔ "2" ∷ [])
     ∷ empty "testcase" ("name" ≔ "a" ∷ "time" ≔ "0.5" ∷ [])
     ∷ start "testcase" ("name" ≔ "b" ∷ [])
@@ -94,8 +100,11 @@ worked =
     ∷ end "testcase"
     ∷ end "testsuite"
     ∷ end "testsuites"
-    ∷ [])
-    (lists (lines ("(report \"r\" 2 0 0 0 -"
+    ∷ []
+
+abbrev pub worked : Case
+worked =
+    document workedDocument (lists (lines ("(report \"r\" 2 0 0 0 -"
     ∷ "(suite \"lab\" 2 0 0 0 -"
     ∷ "(case \"a\" - 0.500 success flaky 0)"
     ∷ "(case \"b\" - - failure rerun 1"
@@ -158,7 +167,7 @@ missingName =
 
 -- 8, "no events": not even an Eof
 abbrev pub noEvents : Case
-noEvents = record { events = []; attributes = []; source = []; expected = refuses 8 cause.MissingReport [] 0 nowhere }
+noEvents = table [] [] [] (refuses 8 cause.MissingReport [] 0 nowhere)
 
 -- 9, "`a` twice": testsuites/testsuite[0]("s")/testcase[0], no Attribute
 abbrev pub twice : Case
@@ -238,7 +247,7 @@ output =
     ∷ end "testsuite"
     ∷ end "testsuites"
     ∷ [])
-    (reads (record { name = none; uuid = none; timestamp = none; time = none; counts = noCounts; suites = spaceKept ∷ [] }))
+    (reads (ofSuites (spaceKept ∷ [])))
 
 -- ---- "Two tables agree if, after the removals, they have equally many events, with the same kinds, tag names and attributes in order"
 -- the other table has Text, CData, Ref, Other and Indent, another message, and all else at other places of its source
@@ -291,4 +300,8 @@ cases =
     ∷ flakyAlone
     ∷ output
     ∷ agreeing
+    ∷ document workedDocument (writes workedEvents)
+    ∷ report full fullEvents
+    ∷ report oneFlaky oneFlakyEvents
+    ∷ report emptyOutput emptyOutputEvents
     ∷ []

@@ -1,2 +1,3 @@
 pub mod Document
+pub mod Reports
 pub mod Cases

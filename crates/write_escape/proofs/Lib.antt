@@ -1,0 +1,4 @@
+pub mod Escaping
+pub mod Putting
+pub mod Keeping
+pub mod Examples

@@ -1,0 +1,198 @@
+-- Document 01, "Writing": the events of a report, in the order of serialize.rs. Definitions only.
+use Prim.Native.Nat.{ℕ, _+_}
+use mathlib.Core.List.{List, [], _∷_, _++_, map}
+use mathlib.Core.Bool.{Bool, true, false, cond}
+use mathlib.Core.Option.{Option, none, some}
+use lib.ListN.{length}
+use lib.Dec.{eqb}
+use Rattle.names.specs.Bytes.{bytes}
+use Rattle.digits.specs.Digits.{decimal}
+use Rattle.time_text.specs.Written.{writtenTime}
+use Rattle.timestamp.specs.declared.Moment.{Moment}
+use Rattle.uuid.specs.declared.Words.{Words}
+use Rattle.write_escape.specs.Escape.{escaped}
+use Rattle.write_moment.specs.Written.{timestampText}
+use Rattle.write_uuid.specs.Written.{uuidText}
+use Rattle.table.specs.Event.{Attribute, Event, Start, Empty, End, Text, Other, Indent, Tag, Piece, Eof, Fault}
+use Rattle.tree_report.specs.Report.{Duration, Pair, NonSuccessKind, failure, error, FlakyOrRerun, flaky, rerun, TestRerun, Reason, TestCaseStatus, success, nonSuccess, skipped, TestCase, TestSuite, Report}
+use Rattle.tree_report.specs.Report as report
+
+-- ---- attributes
+abbrev pub attribute : List ℕ → List ℕ → Attribute
+attribute key value = record { good = true; key = key; value = value }
+
+-- "Text and values escape"
+abbrev pub textual : List ℕ → report.Text → List Attribute
+textual key t = attribute key (escaped t) ∷ []
+
+abbrev pub numeric : List ℕ → ℕ → List Attribute
+numeric key n = attribute key (decimal n) ∷ []
+
+-- a field that may be missing
+abbrev pub optional : {A B : Type 0} → (A → List B) → Option A → List B
+optional f none = []
+optional f (some a) = f a
+
+abbrev pub stamped : Option Moment → List Attribute
+stamped m = optional (λ (x : Moment). attribute (bytes "timestamp") (timestampText x) ∷ []) m
+
+abbrev pub timed : Option Duration → List Attribute
+timed d = optional (λ (x : Duration). attribute (bytes "time") (writtenTime (x .seconds) (x .nanos)) ∷ []) d
+
+-- an extra's key isn't escaped
+abbrev pub extraAttribute : Pair → Attribute
+extraAttribute p = attribute (p .key) (escaped (p .value))
+
+-- ---- events; the number of a tag's first attribute is given at the end
+abbrev pub startTag : List ℕ → List Attribute → Event
+startTag name attributes = Tag Start name 0 attributes
+
+abbrev pub endTag : List ℕ → Event
+endTag name = Tag End name 0 []
+
+abbrev pub textEvent : report.Text → Event
+textEvent t = Piece Text (escaped t)
+
+-- "Indent, of length 0", which is read as one newline
+abbrev pub indent : Event
+indent = Piece Indent (10 ∷ [])
+
+abbrev pub each : {A B : Type 0} → (A → List B) → List A → List B
+each f [] = []
+each f (x ∷ xs) = f x ++ each f xs
+
+abbrev pub isEmpty : {A : Type 0} → List A → Bool
+isEmpty [] = true
+isEmpty (x ∷ xs) = false
+
+unfoldable pub serializeOutput : List ℕ → report.Text → List Event
+serializeOutput name t = startTag name [] ∷ textEvent t ∷ endTag name ∷ []
+
+unfoldable pub serializeProperty : Pair → List Event
+serializeProperty p = Tag Empty (bytes "property") 0 (textual (bytes "name") (p .key) ++ textual (bytes "value") (p .value)) ∷ []
+
+-- a list of properties only where there are any
+unfoldable pub serializeProperties : List Pair → List Event
+serializeProperties [] = []
+serializeProperties (p ∷ ps) = startTag (bytes "properties") [] ∷ (each serializeProperty (p ∷ ps) ++ (endTag (bytes "properties") ∷ []))
+
+unfoldable pub serializeOutputs : Option report.Text → Option report.Text → List Event
+serializeOutputs out err = optional (serializeOutput (bytes "system-out")) out ++ optional (serializeOutput (bytes "system-err")) err
+
+-- ---- status elements
+abbrev pub statusAttributes : Option report.Text → Option report.Text → List Attribute
+statusAttributes message type = optional (textual (bytes "message")) message ++ optional (textual (bytes "type")) type
+
+abbrev pub described : List ℕ → List Attribute → Option report.Text → List Event
+described name attributes none = Tag Empty name 0 attributes ∷ []
+described name attributes (some d) = startTag name attributes ∷ textEvent d ∷ endTag name ∷ []
+
+unfoldable pub serializeStatus : List ℕ → Reason → List Event
+serializeStatus name r = described name (statusAttributes (r .message) (r .type)) (r .description)
+
+abbrev pub mainName : NonSuccessKind → List ℕ
+mainName failure = bytes "failure"
+mainName error = bytes "error"
+
+abbrev pub runName : FlakyOrRerun → NonSuccessKind → List ℕ
+runName flaky failure = bytes "flakyFailure"
+runName flaky error = bytes "flakyError"
+runName rerun failure = bytes "rerunFailure"
+runName rerun error = bytes "rerunError"
+
+-- an Indent stands before the first child behind a description
+abbrev pub indented : Option report.Text → List Event → List Event
+indented none children = children
+indented (some d) [] = textEvent d ∷ []
+indented (some d) (c ∷ cs) = textEvent d ∷ indent ∷ c ∷ cs
+
+abbrev pub runChildren : TestRerun → List Event
+runChildren r = optional (serializeOutput (bytes "stackTrace")) (r .stackTrace) ++ serializeOutputs (r .systemOut) (r .systemErr)
+
+unfoldable pub serializeRerun : FlakyOrRerun → TestRerun → List Event
+serializeRerun family r =
+    startTag (runName family (r .kind)) (stamped (r .timestamp) ++ (timed (r .time) ++ statusAttributes (r .message) (r .type)))
+    ∷ (indented (r .description) (runChildren r) ++ (endTag (runName family (r .kind)) ∷ []))
+
+-- the main, and then its runs
+unfoldable pub serializeElements : TestCaseStatus → List Event
+serializeElements (success runs) = each (serializeRerun flaky) runs
+serializeElements (nonSuccess kind reason family runs) = serializeStatus (mainName kind) reason ++ each (serializeRerun family) runs
+serializeElements (skipped reason) = serializeStatus (bytes "skipped") reason
+
+-- ---- case, suite, report
+-- a suite or case without children is Empty
+abbrev pub element : List ℕ → List Attribute → List Event → List Event
+element name attributes [] = Tag Empty name 0 attributes ∷ []
+element name attributes (c ∷ cs) = startTag name attributes ∷ ((c ∷ cs) ++ (endTag name ∷ []))
+
+abbrev pub caseAttributes : TestCase → List Attribute
+caseAttributes c =
+    textual (bytes "name") (c .name)
+    ++ (optional (textual (bytes "classname")) (c .classname)
+    ++ (optional (numeric (bytes "assertions")) (c .assertions)
+    ++ (stamped (c .timestamp)
+    ++ (timed (c .time) ++ map extraAttribute (c .extra)))))
+
+unfoldable pub serializeTestCase : TestCase → List Event
+serializeTestCase c =
+    element (bytes "testcase") (caseAttributes c)
+    (serializeProperties (c .properties) ++ (serializeElements (c .status) ++ serializeOutputs (c .systemOut) (c .systemErr)))
+
+-- errors before failures, other than on the report
+abbrev pub suiteAttributes : TestSuite → List Attribute
+suiteAttributes s =
+    textual (bytes "name") (s .name)
+    ++ (numeric (bytes "tests") (s .counts .tests)
+    ++ (numeric (bytes "skipped") (s .counts .skipped)
+    ++ (numeric (bytes "errors") (s .counts .errors)
+    ++ (numeric (bytes "failures") (s .counts .failures)
+    ++ (optional (numeric (bytes "disabled")) (s .counts .disabled)
+    ++ (stamped (s .timestamp)
+    ++ (timed (s .time) ++ map extraAttribute (s .extra))))))))
+
+unfoldable pub serializeTestSuite : TestSuite → List Event
+serializeTestSuite s =
+    element (bytes "testsuite") (suiteAttributes s)
+    (serializeProperties (s .properties) ++ (each serializeTestCase (s .cases) ++ serializeOutputs (s .systemOut) (s .systemErr)))
+
+abbrev pub reportAttributes : Report → List Attribute
+reportAttributes r =
+    optional (textual (bytes "name")) (r .name)
+    ++ (numeric (bytes "tests") (r .counts .tests)
+    ++ (numeric (bytes "skipped") (r .counts .skipped)
+    ++ (numeric (bytes "failures") (r .counts .failures)
+    ++ (numeric (bytes "errors") (r .counts .errors)
+    ++ (optional (numeric (bytes "disabled")) (r .counts .disabled)
+    ++ (optional (λ (u : Words). attribute (bytes "uuid") (uuidText u) ∷ []) (r .uuid)
+    ++ (stamped (r .timestamp) ++ timed (r .time))))))))
+
+-- "declaration as Other", "Start `testsuites` to its End, Eof, Indent"
+unfoldable pub declaration : Event
+declaration = Piece Other (bytes "xml version=\"1.0\" encoding=\"UTF-8\"")
+
+unfoldable pub serializeReport : Report → List Event
+serializeReport r =
+    declaration
+    ∷ startTag (bytes "testsuites") (reportAttributes r)
+    ∷ (each serializeTestSuite (r .suites) ++ (endTag (bytes "testsuites") ∷ Eof ∷ indent ∷ []))
+
+-- ---- the number of a tag's first attribute, of n that stand before it; "a first attribute or start without count or length is 0"
+abbrev pub numberedTag : ℕ → Event → Event
+numberedTag n (Tag kind name first attributes) = Tag kind name (cond (eqb (length attributes) 0) 0 n) attributes
+numberedTag n (Piece kind s) = Piece kind s
+numberedTag n Eof = Eof
+numberedTag n Fault = Fault
+
+abbrev pub attributesOf : Event → List Attribute
+attributesOf (Tag kind name first attributes) = attributes
+attributesOf (Piece kind s) = []
+attributesOf Eof = []
+attributesOf Fault = []
+
+unfoldable pub numbered : ℕ → List Event → List Event
+numbered n [] = []
+numbered n (e ∷ es) = numberedTag n e ∷ numbered (n + length (attributesOf e)) es
+
+unfoldable pub written : Report → List Event
+written r = numbered 0 (serializeReport r)

@@ -1,0 +1,1 @@
+// The events that a report is written as: definitions.

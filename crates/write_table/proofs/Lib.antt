@@ -1,0 +1,4 @@
+pub mod Writing
+pub mod Filling
+pub mod Rooms
+pub mod Laying
