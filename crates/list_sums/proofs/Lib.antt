@@ -1,2 +1,3 @@
 pub mod Records
 pub mod Sums
+pub mod Used

@@ -17,7 +17,7 @@ ghost use Rattle.list_text.specs.Listing.{quoted, orDash, timed, fields, countF
 ghost use Rattle.list_text.specs.inside.Behind.{filled, Puts};
 
 // The text that starts at `start`, cut at the text area's end.
-fn part_of(text: &[u8], start: u32, len: u32) -> &[u8]
+pub fn part_of(text: &[u8], start: u32, len: u32) -> &[u8]
     ensures { λ r. ⌜ now r ≡ take len (drop start (now (text .entry))) ⌝ }
 {
     let from = least(start as usize, text.len());

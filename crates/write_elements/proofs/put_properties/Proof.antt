@@ -1,0 +1,55 @@
+use Rattle.write_elements.proofs.Elements.{properties-none, properties-some}
+use Rattle.write_table.proofs.Writing.{then, said, wrote-nothing}
+use Rattle.list_sums.specs.inside.Rows.{recordsIn}
+use borrow.Author.Needs.{needs}
+use Rattle.write_elements.proofs.put_properties.Statement.{statement}
+use Rattle.write_elements.proofs.put_properties.Tie as tie
+
+kind-of-first-requires : tie.Need-kind-of-first-requires
+kind-of-first-requires c κs = search needs
+
+returns : tie.Need-returns
+returns c = said (wrote-nothing _) (properties-none (recordsIn (c .before .before .before .before .before .before .before .args .words .now)) (c .before .before .before .before .before .before .before .args .text .now) (c .before .before .before .before .before .before .before .args .level) (c .before .before .before .before .before .before .before .args .listed) _ (c .before .kind-of-first .ensures) (c .if1 .taken))
+
+put-tag-requires : tie.Need-put-tag-requires
+put-tag-requires c κs = search needs
+
+put-rows-requires : tie.Need-put-rows-requires
+put-rows-requires c κs = search needs
+
+put-tag-requires-2 : tie.Need-put-tag-requires-2
+put-tag-requires-2 c κs = search needs
+
+same-length : tie.Need-same-length
+same-length c = search needs
+
+same-length-2 : tie.Need-same-length-2
+same-length-2 c = search needs
+
+same-length-3 : tie.Need-same-length-3
+same-length-3 c = search needs
+
+returns-2 : tie.Need-returns-2
+returns-2 c = said (then (c .before .before .before .before .before .before .before .before .before .before .before .before .before .before .before .before .before .before .before .before .before .put-tag .ensures _) (then (c .before .before .before .before .before .before .before .before .before .before .before .before .before .put-rows .ensures) (c .before .before .before .before .put-tag2 .ensures _))) (properties-some (recordsIn (c .before .before .before .before .before .before .before .before .before .before .before .before .before .before .before .before .before .before .before .before .before .before .before .before .before .before .before .before .before .before .before .args .words .now)) (c .before .before .before .before .before .before .before .before .before .before .before .before .before .before .before .before .before .before .before .before .before .before .before .before .before .before .before .before .before .before .before .args .text .now) (c .before .before .before .before .before .before .before .before .before .before .before .before .before .before .before .before .before .before .before .before .before .before .before .before .before .before .before .before .before .before .before .args .level) (c .before .before .before .before .before .before .before .before .before .before .before .before .before .before .before .before .before .before .before .before .before .before .before .before .before .before .before .before .before .before .before .args .listed) _ (c .before .before .before .before .before .before .before .before .before .before .before .before .before .before .before .before .before .before .before .before .before .before .before .before .before .kind-of-first .ensures) (c .before .before .before .before .before .before .before .before .before .before .before .before .before .before .before .before .before .before .before .before .before .before .before .before .if1 .left))
+
+cast-put-tag : tie.Need-cast-put-tag
+cast-put-tag c = search needs
+
+cast-put-tag-2 : tie.Need-cast-put-tag-2
+cast-put-tag-2 c = search needs
+
+pub put-properties-spec : {M : Type 1} → statement M
+put-properties-spec =
+    tie.close
+    (tie.spec
+    kind-of-first-requires
+    returns
+    cast-put-tag
+    put-tag-requires
+    put-rows-requires
+    cast-put-tag-2
+    put-tag-requires-2
+    same-length
+    same-length-2
+    same-length-3
+    returns-2)

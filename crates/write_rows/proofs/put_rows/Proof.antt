@@ -1,0 +1,138 @@
+use Rattle.write_rows.proofs.Rows.{rows-over, rows-end, rows-row, rows-pass}
+use Rattle.write_rows.proofs.Going.{Going, goes-on, going-start, going-stop, going-end, going-pass, going-wrote}
+use Rattle.write_items.specs.inside.Rows.{rowsItems}
+use Rattle.write_marks.specs.inside.Kept.{kept}
+use Rattle.list_sums.proofs.Records.{stands-room}
+use Rattle.list_sums.specs.inside.Rows.{recordsIn}
+use lib.ListN.{length, take, drop}
+use borrow.Author.Needs.{needs}
+use native.Mathlib.Omega.{arith}
+use mathlib.Core.Path.{sym, _∙_}
+use Prim.Native.Nat.{_+_, _-_}
+use Rattle.write_rows.proofs.put_rows.Statement.{statement}
+use Rattle.write_rows.proofs.put_rows.Tie as tie
+
+abbrev Inv-loop : tie.InvT-loop
+Inv-loop events₀ attributes₀ bytes₀ text words level low high flaky at₀ mark₀ events attributes bytes at mark = Going (rowsItems text flaky level low high) (kept mark₀ events₀ attributes₀ bytes₀) words (kept mark events attributes bytes) at
+
+abbrev μ-loop : tie.MeasureT-loop
+μ-loop events₀ attributes₀ bytes₀ text words level low high flaky at₀ mark₀ events attributes bytes at mark = length words - at
+
+loop-holds : tie.Need-loop-holds Inv-loop μ-loop
+loop-holds c = going-start (rowsItems (c .before .before .before .before .before .args .text .now) (c .before .before .before .before .before .args .flaky) (c .before .before .before .before .before .args .level) (c .before .before .before .before .before .args .low) (c .before .before .before .before .before .args .high)) _ _
+
+is-open-requires : tie.Need-is-open-requires Inv-loop μ-loop
+is-open-requires c κs = search needs
+
+mul-stands-here : tie.Need-mul-stands-here Inv-loop μ-loop
+mul-stands-here c = omega (arith, c .before .loop .inv .fits)
+
+sub-stands-here : tie.Need-sub-stands-here Inv-loop μ-loop
+sub-stands-here c = omega (arith, c .before .loop .inv .fits)
+
+part-stands-here-start : tie.Need-part-stands-here-start Inv-loop μ-loop
+part-stands-here-start c = omega (arith, c .before .loop .inv .fits)
+
+part-stands-here-end : tie.Need-part-stands-here-end Inv-loop μ-loop
+part-stands-here-end c = search needs
+
+stands-here-requires : tie.Need-stands-here-requires Inv-loop μ-loop
+stands-here-requires c κs = search needs
+
+add-end : tie.Need-add-end Inv-loop μ-loop
+add-end c = omega (arith, stands-room (c .before .before .before .before .before .before .before .before .before .before .args .words .now) (c .before .before .before .before .loop .at) (goes-on (c .before .before .before .is-open .result) (c .before .stands-here .result) (c .if1 .taken) (c .before .stands-here .ensures)))
+
+mul-r : tie.Need-mul-r Inv-loop μ-loop
+mul-r c = omega (arith, stands-room (c .before .before .before .before .before .before .before .before .before .before .args .words .now) (c .before .before .before .before .loop .at) (goes-on (c .before .before .before .is-open .result) (c .before .stands-here .result) (c .if1 .taken) (c .before .stands-here .ensures)))
+
+sub-r : tie.Need-sub-r Inv-loop μ-loop
+sub-r c = omega arith
+
+part-r-start : tie.Need-part-r-start Inv-loop μ-loop
+part-r-start c = omega arith
+
+part-r-end : tie.Need-part-r-end Inv-loop μ-loop
+part-r-end c = omega (arith, stands-room (c .before .before .before .before .before .before .before .before .before .before .args .words .now) (c .before .before .before .before .loop .at) (goes-on (c .before .before .before .is-open .result) (c .before .stands-here .result) (c .if1 .taken) (c .before .stands-here .ensures)))
+
+field-requires : tie.Need-field-requires Inv-loop μ-loop
+field-requires c κs = search needs
+
+ends-requires : tie.Need-ends-requires Inv-loop μ-loop
+ends-requires c κs = search needs
+
+same-length : tie.Need-same-length Inv-loop μ-loop
+same-length c = c .before .before .before .before .before .before .before .before .loop .inv .sameEvents
+
+same-length-2 : tie.Need-same-length-2 Inv-loop μ-loop
+same-length-2 c = c .before .before .before .before .before .before .before .before .loop .inv .sameAttributes
+
+same-length-3 : tie.Need-same-length-3 Inv-loop μ-loop
+same-length-3 c = c .before .before .before .before .before .before .before .before .loop .inv .sameBytes
+
+returns : tie.Need-returns Inv-loop μ-loop
+returns c = going-end (rowsItems (c .before .before .before .before .before .before .before .before .before .before .before .before .before .before .args .text .now) (c .before .before .before .before .before .before .before .before .before .before .before .before .before .before .args .flaky) (c .before .before .before .before .before .before .before .before .before .before .before .before .before .before .args .level) (c .before .before .before .before .before .before .before .before .before .before .before .before .before .before .args .low) (c .before .before .before .before .before .before .before .before .before .before .before .before .before .before .args .high)) (c .before .before .before .before .before .before .before .before .loop .inv) (goes-on (c .before .before .before .before .before .before .before .is-open .result) (c .before .before .before .before .before .stands-here .result) (c .before .before .before .before .if1 .taken) (c .before .before .before .before .before .stands-here .ensures)) (rows-end (c .before .before .before .before .before .before .before .before .before .before .before .before .before .before .args .text .now) (c .before .before .before .before .before .before .before .before .before .before .before .before .before .before .args .flaky) (c .before .before .before .before .before .before .before .before .before .before .before .before .before .before .args .level) (c .before .before .before .before .before .before .before .before .before .before .before .before .before .before .args .low) (c .before .before .before .before .before .before .before .before .before .before .before .before .before .before .args .high) (take (c .before .before .before .before .before .before .before .before .loop .at + 32 - c .before .before .before .before .before .before .before .before .loop .at) (drop (c .before .before .before .before .before .before .before .before .loop .at) (c .before .before .before .before .before .before .before .before .before .before .before .before .before .before .args .words .now))) (recordsIn (drop (c .before .before .before .before .before .before .before .before .loop .at + 32) (c .before .before .before .before .before .before .before .before .before .before .before .before .before .before .args .words .now))) (rw (c .before .before .field .ensures) at (sym (c .before .ends .ensures) ∙ c .if2 .taken)))
+
+is-between-requires : tie.Need-is-between-requires Inv-loop μ-loop
+is-between-requires c κs = search needs
+
+put-row-requires : tie.Need-put-row-requires Inv-loop μ-loop
+put-row-requires c κs = search needs
+
+loop-less : tie.Need-loop-less Inv-loop μ-loop
+loop-less c = omega (arith, stands-room (c .before .before .before .before .before .before .before .before .before .before .before .before .before .before .before .before .before .before .before .before .before .before .before .before .before .before .args .words .now) (c .before .before .before .before .before .before .before .before .before .before .before .before .before .before .before .before .before .before .before .before .loop .at) (goes-on (c .before .before .before .before .before .before .before .before .before .before .before .before .before .before .before .before .before .before .before .is-open .result) (c .before .before .before .before .before .before .before .before .before .before .before .before .before .before .before .before .before .stands-here .result) (c .before .before .before .before .before .before .before .before .before .before .before .before .before .before .before .before .if1 .taken) (c .before .before .before .before .before .before .before .before .before .before .before .before .before .before .before .before .before .stands-here .ensures)))
+
+loop-again : tie.Need-loop-again Inv-loop μ-loop
+loop-again c = going-wrote (rowsItems (c .before .before .before .before .before .before .before .before .before .before .before .before .before .before .before .before .before .before .before .before .before .before .before .before .before .before .args .text .now) (c .before .before .before .before .before .before .before .before .before .before .before .before .before .before .before .before .before .before .before .before .before .before .before .before .before .before .args .flaky) (c .before .before .before .before .before .before .before .before .before .before .before .before .before .before .before .before .before .before .before .before .before .before .before .before .before .before .args .level) (c .before .before .before .before .before .before .before .before .before .before .before .before .before .before .before .before .before .before .before .before .before .before .before .before .before .before .args .low) (c .before .before .before .before .before .before .before .before .before .before .before .before .before .before .before .before .before .before .before .before .before .before .before .before .before .before .args .high)) (c .before .before .before .before .before .before .before .before .before .before .before .before .before .before .before .before .before .before .before .before .loop .inv) (goes-on (c .before .before .before .before .before .before .before .before .before .before .before .before .before .before .before .before .before .before .before .is-open .result) (c .before .before .before .before .before .before .before .before .before .before .before .before .before .before .before .before .before .stands-here .result) (c .before .before .before .before .before .before .before .before .before .before .before .before .before .before .before .before .if1 .taken) (c .before .before .before .before .before .before .before .before .before .before .before .before .before .before .before .before .before .stands-here .ensures)) _ (rows-row (c .before .before .before .before .before .before .before .before .before .before .before .before .before .before .before .before .before .before .before .before .before .before .before .before .before .before .args .text .now) (c .before .before .before .before .before .before .before .before .before .before .before .before .before .before .before .before .before .before .before .before .before .before .before .before .before .before .args .flaky) (c .before .before .before .before .before .before .before .before .before .before .before .before .before .before .before .before .before .before .before .before .before .before .before .before .before .before .args .level) (c .before .before .before .before .before .before .before .before .before .before .before .before .before .before .before .before .before .before .before .before .before .before .before .before .before .before .args .low) (c .before .before .before .before .before .before .before .before .before .before .before .before .before .before .before .before .before .before .before .before .before .before .before .before .before .before .args .high) (take (c .before .before .before .before .before .before .before .before .before .before .before .before .before .before .before .before .before .before .before .before .loop .at + 32 - c .before .before .before .before .before .before .before .before .before .before .before .before .before .before .before .before .before .before .before .before .loop .at) (drop (c .before .before .before .before .before .before .before .before .before .before .before .before .before .before .before .before .before .before .before .before .loop .at) (c .before .before .before .before .before .before .before .before .before .before .before .before .before .before .before .before .before .before .before .before .before .before .before .before .before .before .args .words .now))) (recordsIn (drop (c .before .before .before .before .before .before .before .before .before .before .before .before .before .before .before .before .before .before .before .before .loop .at + 32) (c .before .before .before .before .before .before .before .before .before .before .before .before .before .before .before .before .before .before .before .before .before .before .before .before .before .before .args .words .now))) (rw (c .before .before .before .before .before .before .before .before .before .before .before .before .before .before .field .ensures) at (sym (c .before .before .before .before .before .before .before .before .before .before .before .before .before .ends .ensures) ∙ c .before .before .before .before .before .before .before .before .before .before .before .before .if2 .left)) (rw (c .before .before .before .before .before .before .before .before .before .before .before .before .before .before .field .ensures) at (sym (c .before .before .before .before .before .before .before .before .before .before .before .is-between .ensures) ∙ c .before .before .before .before .before .before .before .before .before .before .if3 .taken))) (c .before .before .before .before .before .before .put-row .ensures) (search needs) (search needs) (search needs)
+
+loop-less-2 : tie.Need-loop-less-2 Inv-loop μ-loop
+loop-less-2 c = omega (arith, stands-room (c .before .before .before .before .before .before .before .before .before .before .before .before .before .before .before .before .args .words .now) (c .before .before .before .before .before .before .before .before .before .before .loop .at) (goes-on (c .before .before .before .before .before .before .before .before .before .is-open .result) (c .before .before .before .before .before .before .before .stands-here .result) (c .before .before .before .before .before .before .if1 .taken) (c .before .before .before .before .before .before .before .stands-here .ensures)))
+
+loop-again-2 : tie.Need-loop-again-2 Inv-loop μ-loop
+loop-again-2 c = going-pass (rowsItems (c .before .before .before .before .before .before .before .before .before .before .before .before .before .before .before .before .args .text .now) (c .before .before .before .before .before .before .before .before .before .before .before .before .before .before .before .before .args .flaky) (c .before .before .before .before .before .before .before .before .before .before .before .before .before .before .before .before .args .level) (c .before .before .before .before .before .before .before .before .before .before .before .before .before .before .before .before .args .low) (c .before .before .before .before .before .before .before .before .before .before .before .before .before .before .before .before .args .high)) (c .before .before .before .before .before .before .before .before .before .before .loop .inv) (goes-on (c .before .before .before .before .before .before .before .before .before .is-open .result) (c .before .before .before .before .before .before .before .stands-here .result) (c .before .before .before .before .before .before .if1 .taken) (c .before .before .before .before .before .before .before .stands-here .ensures)) (rows-pass (c .before .before .before .before .before .before .before .before .before .before .before .before .before .before .before .before .args .text .now) (c .before .before .before .before .before .before .before .before .before .before .before .before .before .before .before .before .args .flaky) (c .before .before .before .before .before .before .before .before .before .before .before .before .before .before .before .before .args .level) (c .before .before .before .before .before .before .before .before .before .before .before .before .before .before .before .before .args .low) (c .before .before .before .before .before .before .before .before .before .before .before .before .before .before .before .before .args .high) (take (c .before .before .before .before .before .before .before .before .before .before .loop .at + 32 - c .before .before .before .before .before .before .before .before .before .before .loop .at) (drop (c .before .before .before .before .before .before .before .before .before .before .loop .at) (c .before .before .before .before .before .before .before .before .before .before .before .before .before .before .before .before .args .words .now))) (recordsIn (drop (c .before .before .before .before .before .before .before .before .before .before .loop .at + 32) (c .before .before .before .before .before .before .before .before .before .before .before .before .before .before .before .before .args .words .now))) (rw (c .before .before .before .before .field .ensures) at (sym (c .before .before .before .ends .ensures) ∙ c .before .before .if2 .left)) (rw (c .before .before .before .before .field .ensures) at (sym (c .before .is-between .ensures) ∙ c .if3 .left)))
+
+same-length-4 : tie.Need-same-length-4 Inv-loop μ-loop
+same-length-4 c = c .before .before .before .before .loop .inv .sameEvents
+
+same-length-5 : tie.Need-same-length-5 Inv-loop μ-loop
+same-length-5 c = c .before .before .before .before .loop .inv .sameAttributes
+
+same-length-6 : tie.Need-same-length-6 Inv-loop μ-loop
+same-length-6 c = c .before .before .before .before .loop .inv .sameBytes
+
+returns-2 : tie.Need-returns-2 Inv-loop μ-loop
+returns-2 c = going-stop (rowsItems (c .before .before .before .before .before .before .before .before .before .before .args .text .now) (c .before .before .before .before .before .before .before .before .before .before .args .flaky) (c .before .before .before .before .before .before .before .before .before .before .args .level) (c .before .before .before .before .before .before .before .before .before .before .args .low) (c .before .before .before .before .before .before .before .before .before .before .args .high)) (c .before .before .before .before .loop .inv) (c .before .before .before .is-open .result) (c .before .stands-here .result) (rows-over (c .before .before .before .before .before .before .before .before .before .before .args .text .now) (c .before .before .before .before .before .before .before .before .before .before .args .flaky) (c .before .before .before .before .before .before .before .before .before .before .args .level) (c .before .before .before .before .before .before .before .before .before .before .args .low) (c .before .before .before .before .before .before .before .before .before .before .args .high)) (c .if1 .left) (c .before .before .before .is-open .ensures) (c .before .stands-here .ensures)
+
+pub put-rows-spec : {M : Type 1} → statement M
+put-rows-spec =
+    tie.close
+    (tie.spec
+    Inv-loop
+    μ-loop
+    loop-holds
+    is-open-requires
+    mul-stands-here
+    sub-stands-here
+    part-stands-here-start
+    part-stands-here-end
+    stands-here-requires
+    add-end
+    mul-r
+    sub-r
+    part-r-start
+    part-r-end
+    field-requires
+    ends-requires
+    same-length
+    same-length-2
+    same-length-3
+    returns
+    is-between-requires
+    put-row-requires
+    loop-less
+    loop-again
+    loop-less-2
+    loop-again-2
+    same-length-4
+    same-length-5
+    same-length-6
+    returns-2)

@@ -1,0 +1,74 @@
+use Rattle.write_values.proofs.Moments.{moment-digits}
+use Rattle.tree_report.specs.Fields.{momentOf}
+use borrow.Author.Needs.{needs}
+use Rattle.write_values.proofs.moment_of.Statement.{statement}
+use Rattle.write_values.proofs.moment_of.Tie as tie
+
+field-requires : tie.Need-field-requires
+field-requires c κs = search needs
+
+cast-t4 : tie.Need-cast-t4
+cast-t4 c = search needs
+
+field-requires-2 : tie.Need-field-requires-2
+field-requires-2 c κs = search needs
+
+cast-t7 : tie.Need-cast-t7
+cast-t7 c = search needs
+
+field-requires-3 : tie.Need-field-requires-3
+field-requires-3 c κs = search needs
+
+cast-t10 : tie.Need-cast-t10
+cast-t10 c = search needs
+
+field-requires-4 : tie.Need-field-requires-4
+field-requires-4 c κs = search needs
+
+cast-t13 : tie.Need-cast-t13
+cast-t13 c = search needs
+
+field-requires-5 : tie.Need-field-requires-5
+field-requires-5 c κs = search needs
+
+cast-t16 : tie.Need-cast-t16
+cast-t16 c = search needs
+
+field-requires-6 : tie.Need-field-requires-6
+field-requires-6 c κs = search needs
+
+cast-t19 : tie.Need-cast-t19
+cast-t19 c = search needs
+
+field-requires-7 : tie.Need-field-requires-7
+field-requires-7 c κs = search needs
+
+field-requires-8 : tie.Need-field-requires-8
+field-requires-8 c κs = search needs
+
+offset-of-requires : tie.Need-offset-of-requires
+offset-of-requires c κs = search needs
+
+returns : tie.Need-returns
+returns c = rw (c .before .before .before .before .before .before .before .before .field .ensures, c .before .before .before .before .before .before .before .field2 .ensures, c .before .before .before .before .before .before .field3 .ensures, c .before .before .before .before .before .field4 .ensures, c .before .before .before .before .field5 .ensures, c .before .before .before .field6 .ensures, c .before .before .field7 .ensures) (moment-digits (momentOf (c .before .before .before .before .before .before .before .before .before .before .args .r .now)) (c .offset-of .result) (rw (c .before .field8 .ensures) at (c .offset-of .ensures)))
+
+pub moment-of-spec : {M : Type 1} → statement M
+moment-of-spec =
+    tie.close
+    (tie.spec
+    field-requires
+    cast-t4
+    field-requires-2
+    cast-t7
+    field-requires-3
+    cast-t10
+    field-requires-4
+    cast-t13
+    field-requires-5
+    cast-t16
+    field-requires-6
+    cast-t19
+    field-requires-7
+    field-requires-8
+    offset-of-requires
+    returns)

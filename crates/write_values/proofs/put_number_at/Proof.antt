@@ -1,0 +1,36 @@
+use borrow.Author.Needs.{needs}
+use Rattle.write_values.proofs.put_number_at.Statement.{statement}
+use Rattle.write_values.proofs.put_number_at.Tie as tie
+
+field-requires : tie.Need-field-requires
+field-requires c κs = search needs
+
+add-field : tie.Need-add-field
+add-field c = search needs
+
+field-requires-2 : tie.Need-field-requires-2
+field-requires-2 c κs = search needs
+
+number-of-requires : tie.Need-number-of-requires
+number-of-requires c κs = search needs
+
+put-decimal-requires : tie.Need-put-decimal-requires
+put-decimal-requires c κs = search needs
+
+same-length : tie.Need-same-length
+same-length c = search needs
+
+returns : tie.Need-returns
+returns c = rw (c .before .before .before .number-of .ensures, c .before .before .before .before .before .field .ensures, c .before .before .before .before .field2 .ensures) at (c .before .before .put-decimal .ensures)
+
+pub put-number-at-spec : {M : Type 1} → statement M
+put-number-at-spec =
+    tie.close
+    (tie.spec
+    field-requires
+    add-field
+    field-requires-2
+    number-of-requires
+    put-decimal-requires
+    same-length
+    returns)

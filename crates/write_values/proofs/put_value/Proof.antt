@@ -1,0 +1,95 @@
+use borrow.Author.Tests.{eq-eqb, ne-eqb}
+use Rattle.write_items.specs.inside.Values.{valueOf}
+use borrow.Author.Needs.{needs}
+use Rattle.write_values.proofs.put_value.Statement.{statement}
+use Rattle.write_values.proofs.put_value.Tie as tie
+
+words-of-requires : tie.Need-words-of-requires
+words-of-requires c κs = search needs
+
+put-uuid-requires : tie.Need-put-uuid-requires
+put-uuid-requires c κs = search needs
+
+same-length : tie.Need-same-length
+same-length c = search needs
+
+returns : tie.Need-returns
+unfolding valueOf
+returns c = rw (eq-eqb (c .before .before .before .before .before .before .before .before .before .args .code) 3 (c .before .before .before .before .before .if1 .taken)) (rw (c .before .before .before .words-of .ensures) at (c .before .before .put-uuid .ensures))
+
+moment-of-requires : tie.Need-moment-of-requires
+moment-of-requires c κs = search needs
+
+put-timestamp-requires : tie.Need-put-timestamp-requires
+put-timestamp-requires c κs = search needs
+
+same-length-2 : tie.Need-same-length-2
+same-length-2 c = search needs
+
+returns-2 : tie.Need-returns-2
+unfolding valueOf
+returns-2 c = rw (ne-eqb (c .before .before .before .before .before .before .before .before .before .before .args .code) 3 (c .before .before .before .before .before .before .if1 .left), eq-eqb (c .before .before .before .before .before .before .before .before .before .before .args .code) 4 (c .before .before .before .before .before .if2 .taken)) (rw (c .before .before .before .moment-of .ensures) at (c .before .before .put-timestamp .ensures))
+
+field-requires : tie.Need-field-requires
+field-requires c κs = search needs
+
+field-requires-2 : tie.Need-field-requires-2
+field-requires-2 c κs = search needs
+
+put-time-requires : tie.Need-put-time-requires
+put-time-requires c κs = search needs
+
+same-length-3 : tie.Need-same-length-3
+same-length-3 c = search needs
+
+returns-3 : tie.Need-returns-3
+unfolding valueOf
+returns-3 c = rw (ne-eqb (c .before .before .before .before .before .before .before .before .before .before .before .before .args .code) 3 (c .before .before .before .before .before .before .before .before .if1 .left), ne-eqb (c .before .before .before .before .before .before .before .before .before .before .before .before .args .code) 4 (c .before .before .before .before .before .before .before .if2 .left), eq-eqb (c .before .before .before .before .before .before .before .before .before .before .before .before .args .code) 5 (c .before .before .before .before .before .before .if3 .taken)) (rw (c .before .before .before .before .field .ensures, c .before .before .before .field2 .ensures) at (c .before .before .put-time .ensures))
+
+offset-of-key-requires : tie.Need-offset-of-key-requires
+offset-of-key-requires c κs = search needs
+
+put-number-at-requires : tie.Need-put-number-at-requires
+put-number-at-requires c κs = search needs
+
+same-length-4 : tie.Need-same-length-4
+same-length-4 c = search needs
+
+returns-4 : tie.Need-returns-4
+unfolding valueOf
+returns-4 c = rw (ne-eqb (c .before .before .before .before .before .before .before .before .before .before .before .before .args .code) 3 (c .before .before .before .before .before .before .before .before .if1 .left), ne-eqb (c .before .before .before .before .before .before .before .before .before .before .before .before .args .code) 4 (c .before .before .before .before .before .before .before .if2 .left), ne-eqb (c .before .before .before .before .before .before .before .before .before .before .before .before .args .code) 5 (c .before .before .before .before .before .before .if3 .left), c .before .before .before .before .if4 .taken) (rw (c .before .before .before .before .before .offset-of-key .ensures .0) at (c .before .before .put-number-at .ensures))
+
+put-text-at-requires : tie.Need-put-text-at-requires
+put-text-at-requires c κs = search needs
+
+same-length-5 : tie.Need-same-length-5
+same-length-5 c = search needs
+
+returns-5 : tie.Need-returns-5
+unfolding valueOf
+returns-5 c = rw (ne-eqb (c .before .before .before .before .before .before .before .before .before .before .before .before .args .code) 3 (c .before .before .before .before .before .before .before .before .if1 .left), ne-eqb (c .before .before .before .before .before .before .before .before .before .before .before .before .args .code) 4 (c .before .before .before .before .before .before .before .if2 .left), ne-eqb (c .before .before .before .before .before .before .before .before .before .before .before .before .args .code) 5 (c .before .before .before .before .before .before .if3 .left), c .before .before .before .before .if4 .left) (rw (c .before .before .before .before .before .offset-of-key .ensures .0) at (c .before .before .put-text-at .ensures))
+
+pub put-value-spec : {M : Type 1} → statement M
+put-value-spec =
+    tie.close
+    (tie.spec
+    words-of-requires
+    put-uuid-requires
+    same-length
+    returns
+    moment-of-requires
+    put-timestamp-requires
+    same-length-2
+    returns-2
+    field-requires
+    field-requires-2
+    put-time-requires
+    same-length-3
+    returns-3
+    offset-of-key-requires
+    put-number-at-requires
+    same-length-4
+    returns-4
+    put-text-at-requires
+    same-length-5
+    returns-5)

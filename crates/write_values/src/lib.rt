@@ -1,0 +1,183 @@
+// The values of a record, and names by their codes, put behind what the byte area holds.
+use area::Stored;
+use list_values::part_of;
+use names::key;
+use timestamp::Moment;
+use tree_record::field;
+use tree_record::word;
+use uuid::Words;
+use write_bytes::put_escaped;
+use write_bytes::put_timestamp;
+use write_bytes::put_uuid;
+ghost use mathlib.Core.Path.{_≡_};
+ghost use Prim.Native.Nat.{_+_, _-_, _*_, _≤_};
+ghost use lib.ListN.{getD};
+ghost use Rattle.digits.specs.Digits.{decimal};
+ghost use Rattle.write_escape.specs.Escape.{escaped};
+ghost use Rattle.write_moment.specs.Written as moment;
+ghost use Rattle.tree_report.specs.Fields.{textAt, numberAt, momentOf};
+ghost use Rattle.list_text.specs.inside.Behind.{filled, Puts};
+ghost use Rattle.write_items.specs.inside.Values.{tagName, keyName, cutAt, wordsOf, offsetOf, valueOf};
+
+fn byte_at(s: &[u8], i: usize) -> u8
+    ensures { λ r. ⌜ r ≡ getD (now (s .entry)) i 0 ⌝ }
+{
+    if i < s.len() {
+        return s[i];
+    }
+    0
+}
+
+fn less(a: u8, b: u8) -> u8
+    ensures { λ r. ⌜ r ≡ a - b ⌝ }
+{
+    if a < b {
+        return 0;
+    }
+    a - b
+}
+
+// Of names that stand one behind the other, the one with that code; it ends where the next begins.
+fn put_named(bytes: &mut [u8], k: Stored, names: &[u8], starts: &[u8], code: u8) -> Stored
+    ensures { λ r. ⌜ Puts (filled k (now (bytes .entry))) (cutAt (now (names .entry)) (now (starts .entry)) code) (filled r (now (bytes .exit))) ⌝ }
+{
+    let i = code as usize;
+    let start = byte_at(starts, i);
+    let len = less(byte_at(starts, i + 1), start);
+    list_text::put(bytes, k, part_of(names, start as u32, len as u32))
+}
+
+pub fn put_tag_name(bytes: &mut [u8], k: Stored, code: u8) -> Stored
+    ensures { λ r. ⌜ Puts (filled k (now (bytes .entry))) (tagName code) (filled r (now (bytes .exit))) ⌝ }
+{
+    put_named(
+        bytes,
+        k,
+        b"testsuitestestsuitetestcasepropertiespropertyfailureerrorskippedflakyFailureflakyErrorrerunFailurererunErrorstackTracesystem-outsystem-err",
+        b"\x00\x00\x0a\x13\x1b\x25\x2d\x34\x39\x40\x4c\x56\x62\x6c\x76\x80\x8a",
+        code,
+    )
+}
+
+pub fn put_key(bytes: &mut [u8], k: Stored, code: u8) -> Stored
+    ensures { λ r. ⌜ Puts (filled k (now (bytes .entry))) (keyName code) (filled r (now (bytes .exit))) ⌝ }
+{
+    put_named(
+        bytes,
+        k,
+        b"nameclassnameuuidtimestamptimetestsfailureserrorsskippeddisabledassertionsmessagetypevaluename",
+        b"\x00\x00\x04\x0d\x11\x1a\x1e\x23\x2b\x31\x38\x40\x4a\x51\x55\x5a\x5e",
+        code,
+    )
+}
+
+fn number_of(low: u32, high: u32) -> u64
+    ensures { λ n. ⌜ n ≡ low + high * 4294967296 ⌝ }
+{
+    low as u64 + high as u64 * 4294967296
+}
+
+// Hours and minutes of an offset have two digits each.
+fn offset_of(w: u32) -> u16
+    ensures { λ r. ⌜ moment.offsetText r ≡ moment.offsetText w ⌝ }
+{
+    if w < 1439 {
+        return w as u16;
+    }
+    (1439 + (w - 1439) % 6000) as u16
+}
+
+// The timestamp of a record, each number with no more digits than are written.
+fn moment_of(r: &[u32]) -> Moment
+    ensures { λ m. ⌜ moment.timestampText m ≡ moment.timestampText (momentOf (now (r .entry))) ⌝ }
+{
+    Moment {
+        year: (field(r, word::YEAR) % 10000) as u16,
+        month: (field(r, word::MONTH) % 100) as u8,
+        day: (field(r, word::DAY) % 100) as u8,
+        hour: (field(r, word::HOUR) % 100) as u8,
+        minute: (field(r, word::MINUTE) % 100) as u8,
+        second: (field(r, word::SECOND) % 100) as u8,
+        nanos: field(r, word::NANOS),
+        offset: offset_of(field(r, word::OFFSET)),
+    }
+}
+
+fn words_of(r: &[u32]) -> Words
+    ensures { λ w. ⌜ w ≡ wordsOf (now (r .entry)) ⌝ }
+{
+    Words {
+        a: field(r, word::UUID),
+        b: field(r, word::UUID + 1),
+        c: field(r, word::UUID_BACK),
+        d: field(r, word::UUID_BACK + 1),
+    }
+}
+
+// Where the value under a key stands in a record.
+fn offset_of_key(code: u8) -> usize
+    ensures { λ o. ⌜ o ≡ offsetOf code ⌝ }
+    ensures { λ o. ⌜ o ≤ 30 ⌝ }
+{
+    let c = code as usize;
+    if (c == key::CLASSNAME) | ((c == key::TESTS) | (c == key::TYPE)) {
+        return word::CLASSNAME;
+    }
+    if (c == key::FAILURES) | (c == key::ASSERTIONS) {
+        return word::FAILURES;
+    }
+    if c == key::ERRORS {
+        return word::ERRORS;
+    }
+    if c == key::SKIPPED {
+        return word::SKIPPED;
+    }
+    if c == key::DISABLED {
+        return word::DISABLED;
+    }
+    if c == key::VALUE {
+        word::VALUE
+    } else {
+        word::NAME
+    }
+}
+
+pub fn put_text_at(bytes: &mut [u8], k: Stored, text: &[u8], r: &[u32], o: usize) -> Stored
+    requires { ⌜ o ≤ 30 ⌝ }
+    ensures { λ m. ⌜ Puts (filled k (now (bytes .entry))) (escaped (textAt (now (text .entry)) (now (r .entry)) o)) (filled m (now (bytes .exit))) ⌝ }
+{
+    put_escaped(bytes, k, part_of(text, field(r, o), field(r, o + 1)))
+}
+
+fn put_number_at(bytes: &mut [u8], k: Stored, r: &[u32], o: usize) -> Stored
+    requires { ⌜ o ≤ 30 ⌝ }
+    ensures { λ m. ⌜ Puts (filled k (now (bytes .entry))) (decimal (numberAt (now (r .entry)) o)) (filled m (now (bytes .exit))) ⌝ }
+{
+    list_text::put_decimal(bytes, k, number_of(field(r, o), field(r, o + 1)))
+}
+
+// The value under a key.
+pub fn put_value(bytes: &mut [u8], k: Stored, text: &[u8], r: &[u32], code: u8) -> Stored
+    ensures { λ m. ⌜ Puts (filled k (now (bytes .entry))) (valueOf (now (text .entry)) (now (r .entry)) code) (filled m (now (bytes .exit))) ⌝ }
+{
+    let c = code as usize;
+    if c == key::UUID {
+        return put_uuid(bytes, k, words_of(r));
+    }
+    if c == key::TIMESTAMP {
+        return put_timestamp(bytes, k, moment_of(r));
+    }
+    if c == key::TIME {
+        return list_text::put_time(
+            bytes,
+            k,
+            field(r, word::SECONDS),
+            field(r, word::TIME_NANOS),
+        );
+    }
+    let o = offset_of_key(code);
+    if (key::TESTS <= c) & (c <= key::ASSERTIONS) {
+        return put_number_at(bytes, k, r, o);
+    }
+    put_text_at(bytes, k, text, r, o)
+}

@@ -1,0 +1,106 @@
+use Rattle.write_walk.proofs.Walking.{Counting, counting-start, counting-over, counting-end, counting-more, counting-pass}
+use Rattle.list_sums.proofs.Records.{stands-room}
+use lib.ListN.{length}
+use borrow.Author.Needs.{needs}
+use native.Mathlib.Omega.{arith}
+use mathlib.Core.Path.{sym, _∙_}
+use Prim.Native.Nat.{_-_}
+use Rattle.write_walk.proofs.count_kind.Statement.{statement}
+use Rattle.write_walk.proofs.count_kind.Tie as tie
+
+abbrev Inv-loop : tie.InvT-loop
+Inv-loop words level kind n₀ at₀ n at = Counting level kind kind words n at
+
+abbrev μ-loop : tie.MeasureT-loop
+μ-loop words level kind n₀ at₀ n at = length words - at
+
+loop-holds : tie.Need-loop-holds Inv-loop μ-loop
+loop-holds c = counting-start (c .before .args .level) (c .before .args .k) (c .before .args .k) _
+
+mul-stands-here : tie.Need-mul-stands-here Inv-loop μ-loop
+mul-stands-here c = omega (arith, c .loop .inv .fits)
+
+sub-stands-here : tie.Need-sub-stands-here Inv-loop μ-loop
+sub-stands-here c = omega (arith, c .loop .inv .fits)
+
+part-stands-here-start : tie.Need-part-stands-here-start Inv-loop μ-loop
+part-stands-here-start c = omega (arith, c .loop .inv .fits)
+
+part-stands-here-end : tie.Need-part-stands-here-end Inv-loop μ-loop
+part-stands-here-end c = search needs
+
+stands-here-requires : tie.Need-stands-here-requires Inv-loop μ-loop
+stands-here-requires c κs = search needs
+
+add-end : tie.Need-add-end Inv-loop μ-loop
+add-end c = omega (arith, stands-room (c .before .before .before .before .before .args .words .now) (c .before .before .before .loop .at) (sym (c .before .stands-here .ensures) ∙ c .if1 .taken))
+
+mul-field : tie.Need-mul-field Inv-loop μ-loop
+mul-field c = omega (arith, stands-room (c .before .before .before .before .before .args .words .now) (c .before .before .before .loop .at) (sym (c .before .stands-here .ensures) ∙ c .if1 .taken))
+
+sub-field : tie.Need-sub-field Inv-loop μ-loop
+sub-field c = omega arith
+
+part-field-start : tie.Need-part-field-start Inv-loop μ-loop
+part-field-start c = omega arith
+
+part-field-end : tie.Need-part-field-end Inv-loop μ-loop
+part-field-end c = omega (arith, stands-room (c .before .before .before .before .before .args .words .now) (c .before .before .before .loop .at) (sym (c .before .stands-here .ensures) ∙ c .if1 .taken))
+
+field-requires : tie.Need-field-requires Inv-loop μ-loop
+field-requires c κs = search needs
+
+ends-requires : tie.Need-ends-requires Inv-loop μ-loop
+ends-requires c κs = search needs
+
+returns : tie.Need-returns Inv-loop μ-loop
+returns c = (counting-end (c .before .before .before .before .before .before .before .before .before .args .level) (c .before .before .before .before .before .before .before .before .before .args .k) (c .before .before .before .before .before .before .before .before .before .args .k) (c .before .before .before .before .before .before .before .before .before .args .words .now) (c .before .before .before .before .before .before .before .loop .inv) (sym (c .before .before .before .before .before .stands-here .ensures) ∙ c .before .before .before .before .if1 .taken) (rw (c .before .before .field .ensures) at (sym (c .before .ends .ensures) ∙ c .if2 .taken)), omega (arith, c .before .before .before .before .before .before .before .loop .inv .most, c .before .before .before .before .before .before .before .loop .inv .fits))
+
+is-between-requires : tie.Need-is-between-requires Inv-loop μ-loop
+is-between-requires c κs = search needs
+
+add-n : tie.Need-add-n Inv-loop μ-loop
+add-n c = omega (arith, c .before .before .before .before .before .before .before .before .before .loop .inv .most, c .before .before .before .before .before .before .before .before .before .loop .inv .fits)
+
+loop-less : tie.Need-loop-less Inv-loop μ-loop
+loop-less c = omega (arith, stands-room (c .before .before .before .before .before .before .before .before .before .before .before .args .words .now) (c .before .before .before .before .before .before .before .before .before .loop .at) (sym (c .before .before .before .before .before .before .before .stands-here .ensures) ∙ c .before .before .before .before .before .before .if1 .taken))
+
+loop-again : tie.Need-loop-again Inv-loop μ-loop
+loop-again c = counting-more (c .before .before .before .before .before .before .before .before .before .before .before .args .level) (c .before .before .before .before .before .before .before .before .before .before .before .args .k) (c .before .before .before .before .before .before .before .before .before .before .before .args .k) (c .before .before .before .before .before .before .before .before .before .before .before .args .words .now) (c .before .before .before .before .before .before .before .before .before .loop .inv) (sym (c .before .before .before .before .before .before .before .stands-here .ensures) ∙ c .before .before .before .before .before .before .if1 .taken) (rw (c .before .before .before .before .field .ensures) at (sym (c .before .before .before .ends .ensures) ∙ c .before .before .if2 .left)) (rw (c .before .before .before .before .field .ensures) at (sym (c .before .is-between .ensures) ∙ c .if3 .taken))
+
+loop-less-2 : tie.Need-loop-less-2 Inv-loop μ-loop
+loop-less-2 c = omega (arith, stands-room (c .before .before .before .before .before .before .before .before .before .before .before .args .words .now) (c .before .before .before .before .before .before .before .before .before .loop .at) (sym (c .before .before .before .before .before .before .before .stands-here .ensures) ∙ c .before .before .before .before .before .before .if1 .taken))
+
+loop-again-2 : tie.Need-loop-again-2 Inv-loop μ-loop
+loop-again-2 c = counting-pass (c .before .before .before .before .before .before .before .before .before .before .before .args .level) (c .before .before .before .before .before .before .before .before .before .before .before .args .k) (c .before .before .before .before .before .before .before .before .before .before .before .args .k) (c .before .before .before .before .before .before .before .before .before .before .before .args .words .now) (c .before .before .before .before .before .before .before .before .before .loop .inv) (sym (c .before .before .before .before .before .before .before .stands-here .ensures) ∙ c .before .before .before .before .before .before .if1 .taken) (rw (c .before .before .before .before .field .ensures) at (sym (c .before .before .before .ends .ensures) ∙ c .before .before .if2 .left)) (rw (c .before .before .before .before .field .ensures) at (sym (c .before .is-between .ensures) ∙ c .if3 .left))
+
+returns-2 : tie.Need-returns-2 Inv-loop μ-loop
+returns-2 c = (counting-over (c .before .before .before .before .before .args .level) (c .before .before .before .before .before .args .k) (c .before .before .before .before .before .args .k) (c .before .before .before .before .before .args .words .now) (c .before .before .before .loop .inv) (sym (c .before .stands-here .ensures) ∙ c .if1 .left), omega (arith, c .before .before .before .loop .inv .most, c .before .before .before .loop .inv .fits))
+
+pub count-kind-spec : {M : Type 1} → statement M
+count-kind-spec =
+    tie.close
+    (tie.spec
+    Inv-loop
+    μ-loop
+    loop-holds
+    mul-stands-here
+    sub-stands-here
+    part-stands-here-start
+    part-stands-here-end
+    stands-here-requires
+    add-end
+    mul-field
+    sub-field
+    part-field-start
+    part-field-end
+    field-requires
+    ends-requires
+    returns
+    is-between-requires
+    add-n
+    loop-less
+    loop-again
+    loop-less-2
+    loop-again-2
+    returns-2)

@@ -1,0 +1,130 @@
+// The events that a layout's report is written as: serialize.rs, into three areas that the caller lends.
+use area::Stored;
+use area::clear;
+use area::clear_words;
+use area::least;
+use area::limit;
+use refusal::Cause;
+use refusal::Refusal;
+use refusal::Verdict;
+use refusal::no_refusal;
+use refusal::refuse_late;
+use write_document::put_document;
+use write_marks::Marks;
+ghost use mathlib.Core.Path.{_≡_};
+ghost use lib.ListN.{length};
+ghost use Rattle.refusal.specs.Refusal.{refused, late};
+ghost use Rattle.area.specs.Area.{zeros};
+ghost use Rattle.write_table.specs.Laid.{itemsOf};
+ghost use Rattle.write_table.specs.inside.Putting.{Wrote};
+ghost use Rattle.write_marks.specs.inside.Kept.{empty, kept};
+ghost use Rattle.write_answer.specs.Answer.{eventsOf, wrote, eventsLeft, attributesLeft, bytesLeft};
+ghost use Rattle.writer.specs.Answer.{sizesOf, writingFrom};
+
+// How many events, attributes and bytes the table has, or why there is none.
+pub struct Writing {
+    pub verdict: Verdict,
+    pub events: usize,
+    pub attributes: usize,
+    pub bytes: usize,
+    pub refusal: Refusal,
+}
+
+fn refuse(cause: Cause) -> Writing
+    ensures { λ r. ⌜ r ≡ writingFrom (refused (late cause)) ⌝ }
+{
+    Writing {
+        verdict: Verdict::Refused,
+        events: 0,
+        attributes: 0,
+        bytes: 0,
+        refusal: refuse_late(cause),
+    }
+}
+
+fn clear_all(events: &mut [u32], attributes: &mut [u32], bytes: &mut [u8])
+    ensures { λ _. ⌜ now (events .exit) ≡ zeros (length (now (events .entry))) ⌝ }
+    ensures { λ _. ⌜ now (attributes .exit) ≡ zeros (length (now (attributes .entry))) ⌝ }
+    ensures { λ _. ⌜ now (bytes .exit) ≡ zeros (length (now (bytes .entry))) ⌝ }
+{
+    clear_words(events);
+    clear_words(attributes);
+    clear(bytes);
+}
+
+// Puts the events of the report that the records and the text hold.
+fn put_tree(
+    records: &[u32],
+    text: &[u8],
+    events: &mut [u32],
+    attributes: &mut [u32],
+    bytes: &mut [u8],
+) -> Marks
+    ensures { λ m. ⌜ Wrote (kept empty (now (events .entry)) (now (attributes .entry)) (now (bytes .entry))) (itemsOf (eventsOf (now (records .entry)) (now (text .entry)))) (kept m (now (events .exit)) (now (attributes .exit)) (now (bytes .exit))) ⌝ }
+{
+    let limit = least(records.len(), limit::WORDS);
+    let used = least(text.len(), limit::BYTES);
+    let start = Marks {
+        events: 0,
+        attributes: 0,
+        bytes: Stored::Put(0),
+    };
+    put_document(
+        events,
+        attributes,
+        bytes,
+        start,
+        &text[..used],
+        &records[..limit],
+    )
+}
+
+// Puts the table at the front of the three areas, and zeros behind it; at a refusal all of them becomes zero.
+pub fn write(
+    records: &[u32],
+    text: &[u8],
+    events: &mut [u32],
+    attributes: &mut [u32],
+    bytes: &mut [u8],
+) -> Writing
+    ensures { λ r. ⌜ r ≡ writingFrom (wrote (now (records .entry)) (now (text .entry)) (length (now (events .entry))) (length (now (attributes .entry))) (length (now (bytes .entry)))) ⌝ }
+    ensures { λ r. ⌜ now (events .exit) ≡ eventsLeft (now (records .entry)) (now (text .entry)) (length (now (events .entry))) (length (now (attributes .entry))) (length (now (bytes .entry))) ⌝ }
+    ensures { λ r. ⌜ now (attributes .exit) ≡ attributesLeft (now (records .entry)) (now (text .entry)) (length (now (events .entry))) (length (now (attributes .entry))) (length (now (bytes .entry))) ⌝ }
+    ensures { λ r. ⌜ now (bytes .exit) ≡ bytesLeft (now (records .entry)) (now (text .entry)) (length (now (events .entry))) (length (now (attributes .entry))) (length (now (bytes .entry))) ⌝ }
+{
+    clear_all(events, attributes, bytes);
+    if !tree_layout::is_layout(records, text) {
+        return refuse(Cause::NotLayout);
+    }
+    let k = put_tree(records, text, events, attributes, bytes);
+    let mark = k.bytes;
+    let Stored::Put(n) = mark else {
+        clear_all(events, attributes, bytes);
+        return refuse(Cause::OutputFull);
+    };
+    Writing {
+        verdict: Verdict::Accepted,
+        events: k.events,
+        attributes: k.attributes,
+        bytes: n,
+        refusal: no_refusal(),
+    }
+}
+
+// The same for programs in other languages: how many events were put, which is 0 only at a refusal.
+#[no_mangle]
+pub extern "C" fn kerzhoma_write(
+    records: &[u32],
+    text: &[u8],
+    events: &mut [u32],
+    attributes: &mut [u32],
+    bytes: &mut [u8],
+) -> usize
+    ensures { λ r. ⌜ r ≡ sizesOf (wrote (now (records .entry)) (now (text .entry)) (length (now (events .entry))) (length (now (attributes .entry))) (length (now (bytes .entry)))) .events ⌝ }
+    ensures { λ r. ⌜ now (events .exit) ≡ eventsLeft (now (records .entry)) (now (text .entry)) (length (now (events .entry))) (length (now (attributes .entry))) (length (now (bytes .entry))) ⌝ }
+    ensures { λ r. ⌜ now (attributes .exit) ≡ attributesLeft (now (records .entry)) (now (text .entry)) (length (now (events .entry))) (length (now (attributes .entry))) (length (now (bytes .entry))) ⌝ }
+    ensures { λ r. ⌜ now (bytes .exit) ≡ bytesLeft (now (records .entry)) (now (text .entry)) (length (now (events .entry))) (length (now (attributes .entry))) (length (now (bytes .entry))) ⌝ }
+{
+    let answer = write(records, text, events, attributes, bytes);
+    answer.events
+}
