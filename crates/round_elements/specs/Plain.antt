@@ -1,0 +1,129 @@
+-- Document 01, "Writing": when a report is plain, and what its values are. Definitions only.
+use Prim.Native.Nat.{ℕ, _%_, _*_}
+use mathlib.Core.List.{List, [], _∷_, _++_, map}
+use mathlib.Core.Bool.{Bool, true, false, not, _&&_, _||_}
+use mathlib.Core.Option.{Option, none, some}
+use lib.Dec.{eqb}
+use Rattle.area.specs.Limits.{mostEntries, mostBytes}
+use Rattle.names.specs.Bytes.{bytes}
+use Rattle.names.specs.Names.{sameBytes}
+use Rattle.trim.specs.Trim.{trimmed}
+use Rattle.timestamp.specs.declared.Moment.{Moment}
+use Rattle.tree_report.specs.Report.{Text, Duration, Pair, flaky, rerun, TestRerun, Reason, TestCaseStatus, success, nonSuccess, skipped, TestCase, TestSuite, Report}
+use Rattle.tree_report.specs.Encode.{every, fitsRow, rowsOf}
+use Rattle.write_report.specs.Written.{each, isEmpty, written}
+use Rattle.write_table.specs.Laid.{laidOut, fits}
+
+-- ---- the parts of a report, in their order
+abbrev pub listed : {A : Type 0} → Option A → List A
+listed none = []
+listed (some a) = a ∷ []
+
+abbrev pub casesOf : Report → List TestCase
+casesOf r = each (λ (s : TestSuite). s .cases) (r .suites)
+
+abbrev pub reasonsIn : TestCaseStatus → List Reason
+reasonsIn (success runs) = []
+reasonsIn (nonSuccess kind reason family runs) = reason ∷ []
+reasonsIn (skipped reason) = reason ∷ []
+
+abbrev pub runsIn : TestCaseStatus → List TestRerun
+runsIn (success runs) = runs
+runsIn (nonSuccess kind reason family runs) = runs
+runsIn (skipped reason) = []
+
+abbrev pub reasonsOf : Report → List Reason
+reasonsOf r = each (λ (c : TestCase). reasonsIn (c .status)) (casesOf r)
+
+abbrev pub runsOf : Report → List TestRerun
+runsOf r = each (λ (c : TestCase). runsIn (c .status)) (casesOf r)
+
+abbrev pub descriptions : Report → List Text
+descriptions r =
+    each (λ (m : Reason). listed (m .description)) (reasonsOf r)
+    ++ each (λ (e : TestRerun). listed (e .description)) (runsOf r)
+
+abbrev pub outputs : Report → List Text
+outputs r =
+    each (λ (s : TestSuite). listed (s .systemOut) ++ listed (s .systemErr)) (r .suites)
+    ++ (each (λ (c : TestCase). listed (c .systemOut) ++ listed (c .systemErr)) (casesOf r)
+    ++ each (λ (e : TestRerun). listed (e .stackTrace) ++ (listed (e .systemOut) ++ listed (e .systemErr))) (runsOf r))
+
+abbrev pub times : Report → List Duration
+times r =
+    listed (r .time)
+    ++ (each (λ (s : TestSuite). listed (s .time)) (r .suites)
+    ++ (each (λ (c : TestCase). listed (c .time)) (casesOf r) ++ each (λ (e : TestRerun). listed (e .time)) (runsOf r)))
+
+abbrev pub timestamps : Report → List Moment
+timestamps r =
+    listed (r .timestamp)
+    ++ (each (λ (s : TestSuite). listed (s .timestamp)) (r .suites)
+    ++ (each (λ (c : TestCase). listed (c .timestamp)) (casesOf r) ++ each (λ (e : TestRerun). listed (e .timestamp)) (runsOf r)))
+
+abbrev pub keysOf : List Pair → List Text
+keysOf ps = map (λ (p : Pair). p .key) ps
+
+-- ---- one condition each
+abbrev pub bare : Text → Bool
+bare t = sameBytes (trimmed t) t
+
+-- whole milliseconds
+abbrev pub wholeTime : Duration → Bool
+wholeTime d = eqb (d .nanos % 1000000) 0
+
+abbrev pub wholeMoment : Moment → Bool
+wholeMoment m = eqb (m .nanos % 1000000) 0
+
+abbrev pub isIn : Text → List Text → Bool
+isIn t [] = false
+isIn t (u ∷ us) = sameBytes u t || isIn t us
+
+abbrev pub distinct : List Text → Bool
+distinct [] = true
+distinct (t ∷ ts) = not (isIn t ts) && distinct ts
+
+abbrev pub holds : ℕ → Text → Bool
+holds b [] = false
+holds b (a ∷ t) = eqb a b || holds b t
+
+abbrev pub suiteKeys : List Text
+suiteKeys =
+    bytes "name" ∷ bytes "tests" ∷ bytes "skipped" ∷ bytes "errors" ∷ bytes "failures" ∷ bytes "disabled" ∷ bytes "timestamp" ∷ bytes "time" ∷ []
+
+abbrev pub caseKeys : List Text
+caseKeys = bytes "name" ∷ bytes "classname" ∷ bytes "assertions" ∷ bytes "timestamp" ∷ bytes "time" ∷ []
+
+-- "extra keys are distinct, hold no `&` and aren't the element's own keys"
+abbrev pub goodKeys : List Text → List Text → Bool
+goodKeys own ks = distinct ks && every (λ (k : Text). not (holds 0x26 k) && not (isIn k own)) ks
+
+abbrev pub isRuled : TestCaseStatus → Bool
+isRuled (success runs) = true
+isRuled (nonSuccess kind reason flaky []) = false
+isRuled (nonSuccess kind reason flaky (r ∷ rs)) = true
+isRuled (nonSuccess kind reason rerun runs) = true
+isRuled (skipped reason) = true
+
+-- "A report is plain if": one line for each condition
+unfoldable pub plain : Report → Bool
+plain r =
+    -- "its gathered texts have no outer White_Space"
+    every bare (descriptions r ++ outputs r)
+    -- "descriptions aren't empty"
+    && (every (λ (t : Text). not (isEmpty t)) (descriptions r)
+    -- "times and timestamps are whole milliseconds"
+    && (every wholeTime (times r)
+    && (every wholeMoment (timestamps r)
+    -- "extra keys are distinct, hold no `&` and aren't the element's own keys"
+    && (every (λ (s : TestSuite). goodKeys suiteKeys (keysOf (s .extra))) (r .suites)
+    && (every (λ (c : TestCase). goodKeys caseKeys (keysOf (c .extra))) (casesOf r)
+    -- "failure or error without runs has kind Rerun"
+    && (every (λ (c : TestCase). isRuled (c .status)) (casesOf r)
+    -- "its written events, attributes and bytes stay within the limits at the end"
+    && fits (laidOut (written r)) (mostEntries * 5) (mostEntries * 5) mostBytes))))))
+
+-- "a layout's texts are UTF-8 without filtered characters, its times and timestamps in the ranges above": what each report that a
+-- layout holds has
+unfoldable pub sound : Report → Bool
+sound r = every fitsRow (rowsOf r)

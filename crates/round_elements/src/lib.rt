@@ -1,0 +1,1 @@
+// Elements read back from the attributes that they are written with: definitions, and that it is so.
