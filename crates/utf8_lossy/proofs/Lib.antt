@@ -1,0 +1,5 @@
+pub mod Parts
+pub mod Replacing
+pub mod Putting
+pub mod Maximal
+pub mod Examples
