@@ -20,7 +20,9 @@ use Rattle.read_keys.specs.Roles.{roleOf}
 use Rattle.read_keys.specs.declared.Role.{Role}
 use Rattle.read_keys.specs.declared.Role.the-variants as role
 use Rattle.read_element.specs.Outcome.{Place, Rooms, within, need}
-use Rattle.read_element.specs.Attributes.{Given, among, numbered, readExtra, byRole}
+use Rattle.text.specs.Value.{valueText}
+use Rattle.read_extras.specs.inside.Hinted.{Hinted}
+use Rattle.read_element.specs.Attributes.{Given, placeOf, among, numbered, readExtra, byRole}
 use Rattle.read_element.specs.inside.Held.{Held, Meets, goes, stops}
 use Rattle.read_extra_record.specs.inside.Answers.{gaveAnswer}
 use Rattle.read_repeats.specs.inside.Words.{attributeIn}
@@ -119,6 +121,10 @@ lent attributes j = take (length attributes - j * 5) (drop (j * 5) attributes)
 module _ (attributes source : List ℕ) (j : ℕ) where
   attribute-lent : attributeIn (lent attributes j) source ≡ attributeAt attributes source j
   attribute-lent = ap (λ (l : List ℕ). attributeIn l source) (rest-part attributes (j * 5)) ∙ attribute-in attributes source j
+
+  -- a hint for its key
+  pub hint-lent : {hint : ℕ} (g : Given) → Hinted hint g (valueText (keyAt attributes source j)) → Hinted hint g (valueText (attributeIn (lent attributes j) source .key))
+  hint-lent {hint} g k h = ap (λ (x : Attribute). placeOf (g .texts) (valueText (x .key)) (g .extras)) attribute-lent ∙ k h
 
   mark-lent : {t : Bool} → eqb (getD (lent attributes j) 0 0) 0 ≡ t → markAt attributes j ≡ t
   mark-lent e = sym (ap (λ (x : Attribute). x .good) attribute-lent) ∙ e

@@ -20,6 +20,8 @@ ghost use Rattle.read_element.specs.Outcome.{Place, Rooms, need};
 ghost use Rattle.read_element.specs.Attributes.{among, numbered};
 ghost use Rattle.read_element.specs.Attributes.{Given as Said};
 ghost use Rattle.read_element.specs.inside.Held.{keysOf, Held, Roomy};
+ghost use Rattle.text.specs.Value.{valueText};
+ghost use Rattle.read_extras.specs.inside.Hinted.{Hinted};
 ghost use Rattle.read_repeats.specs.inside.Words.{attributeIn};
 ghost use Rattle.read_attribute.specs.inside.Steps.{takenStep, gaveStep, faultStep, byKey, Matches};
 ghost use Rattle.refusal.specs.declared.Cause.the-variants as cause;
@@ -91,6 +93,7 @@ fn read_attribute(
     words: &[u32],
     j: usize,
     source: &[u8],
+    hint: usize,
     given: Given,
     own: &mut [u32],
     text: &mut [u8],
@@ -101,14 +104,14 @@ fn read_attribute(
     requires { ⌜ given .fill ≤ length (now text) ⌝ }
     requires { ⌜ length (now text) ≤ 16777216 ⌝ }
     requires { ⌜ given .extras * 32 + 32 ≤ length (now own) ⌝ }
-    ensures { λ r. ⌜ ((g : Said) (rooms : Rooms) (p : Place) (used : ℕ) → Held (now (own .entry)) (now (text .entry)) (given .extras) (given .fill) g → Roomy rooms used (length (now (own .entry))) (length (now (text .entry))) → Matches p (now (own .exit)) (now (text .exit)) (byKey rooms (numbered p j) used kind (attributeIn (now (words .entry)) (now (source .entry))) g) r) ⌝ }
+    ensures { λ r. ⌜ ((g : Said) (rooms : Rooms) (p : Place) (used : ℕ) → Held (now (own .entry)) (now (text .entry)) (given .extras) (given .fill) g → Roomy rooms used (length (now (own .entry))) (length (now (text .entry))) → Hinted hint g (valueText (attributeIn (now (words .entry)) (now (source .entry)) .key)) → Matches p (now (own .exit)) (now (text .exit)) (byKey rooms (numbered p j) used kind (attributeIn (now (words .entry)) (now (source .entry))) g) r) ⌝ }
 {
     let name = bytes_of(source, wide(words[1]), wide(words[2]));
     let value = bytes_of(source, wide(words[3]), wide(words[4]));
     let key = key_of(name);
     let role = role_of(kind, key);
     if let Role::Extra = role {
-        return gave(read_extra(kind, name, value, given, own, text), j);
+        return gave(read_extra(kind, name, value, hint, given, own, text), j);
     }
     let fill = given.fill;
     taken(read_value(role, value, fill, own, text), given, key, j)
@@ -121,6 +124,7 @@ pub fn step_attribute(
     source: &[u8],
     range: Range,
     free: bool,
+    hint: usize,
     j: usize,
     given: Given,
     own: &mut [u32],
@@ -133,7 +137,7 @@ pub fn step_attribute(
     requires { ⌜ given .fill ≤ length (now text) ⌝ }
     requires { ⌜ length (now text) ≤ 16777216 ⌝ }
     requires { ⌜ given .extras * 32 + 32 ≤ length (now own) ⌝ }
-    ensures { λ r. ⌜ ((g : Said) (rooms : Rooms) (p : Place) (used : ℕ) → Held (now (own .entry)) (now (text .entry)) (given .extras) (given .fill) g → Roomy rooms used (length (now (own .entry))) (length (now (text .entry))) → (free ≡ true → among (keyAt (now (attributes .entry)) (now (source .entry)) j) (keysOf (attributesFrom (now (attributes .entry)) (now (source .entry)) (j - range .first) (range .first))) ≡ false) → Matches p (now (own .exit)) (now (text .exit)) (need (markAt (now (attributes .entry)) j) (numbered p j) cause.FaultyAttribute (need (not (among (keyAt (now (attributes .entry)) (now (source .entry)) j) (keysOf (attributesFrom (now (attributes .entry)) (now (source .entry)) (j - range .first) (range .first))))) (numbered p j) cause.RepeatedKey (byKey rooms (numbered p j) used kind (attributeAt (now (attributes .entry)) (now (source .entry)) j) g))) r) ⌝ }
+    ensures { λ r. ⌜ ((g : Said) (rooms : Rooms) (p : Place) (used : ℕ) → Held (now (own .entry)) (now (text .entry)) (given .extras) (given .fill) g → Roomy rooms used (length (now (own .entry))) (length (now (text .entry))) → (free ≡ true → among (keyAt (now (attributes .entry)) (now (source .entry)) j) (keysOf (attributesFrom (now (attributes .entry)) (now (source .entry)) (j - range .first) (range .first))) ≡ false) → Hinted hint g (valueText (keyAt (now (attributes .entry)) (now (source .entry)) j)) → Matches p (now (own .exit)) (now (text .exit)) (need (markAt (now (attributes .entry)) j) (numbered p j) cause.FaultyAttribute (need (not (among (keyAt (now (attributes .entry)) (now (source .entry)) j) (keysOf (attributesFrom (now (attributes .entry)) (now (source .entry)) (j - range .first) (range .first))))) (numbered p j) cause.RepeatedKey (byKey rooms (numbered p j) used kind (attributeAt (now (attributes .entry)) (now (source .entry)) j) g))) r) ⌝ }
 {
     let at = j * 5;
     let words = &attributes[at..];
@@ -143,5 +147,5 @@ pub fn step_attribute(
     if is_repeated(attributes, source, range.first, j, words, free) {
         return refused_at(Cause::RepeatedKey, j);
     }
-    read_attribute(kind, words, j, source, given, own, text)
+    read_attribute(kind, words, j, source, hint, given, own, text)
 }

@@ -4,7 +4,7 @@ use mathlib.Core.Path.{_≡_, refl, sym, ap, subst, _∙_}
 use mathlib.Core.Bool.{Bool, true, false, cond, not, _&&_, _||_}
 use mathlib.Core.List.{List, [], _∷_, _++_}
 use native.Mathlib.Omega.{arith}
-use borrow.Author.Tests.{leb-true, leb-false, not-true}
+use borrow.Author.Tests.{leb-true, not-true}
 use lib.Dec.{leb, eqb}
 use Rattle.refusal.specs.Refusal.{Outcome, accepted, refused}
 use Rattle.names.specs.Names.{sameBytes}
@@ -14,12 +14,10 @@ use Rattle.read_element.specs.Attributes.{Given, among, numbered, readAttribute
 use Rattle.read_element.specs.inside.Held.{keysOf}
 use Rattle.read_attributes.specs.inside.Elements.{Free, knownOf}
 use Rattle.read_attribute.specs.declared.Range.{Range}
+use Rattle.read_free.proofs.MoreKeys.{unrepeated-more}
+use Rattle.read_each.proofs.KeysBefore.{keys-next}
 use Rattle.read_element.proofs.TreeOutcome.{Holds, accept, refuse, bind, weaken, needed}
 use Rattle.refusal.specs.declared.Cause.the-variants as cause
-
-or-false : (a b : Bool) → (a || b) ≡ false → (a ≡ false) × (b ≡ false)
-or-false true b e = let z : _≡_ {A = ℕ} 0 1 = cc in absurd (omega arith)
-or-false false b e = (refl, e)
 
 and-true : (a b : Bool) → (a && b) ≡ true → (a ≡ true) × (b ≡ true)
 and-true true b e = (refl, e)
@@ -30,57 +28,6 @@ pub known-answer : (known range : Range) {b t : Bool} → b ≡ (leb (known .fir
 known-answer known range e q = sym (ap (λ (u : Bool). cond (eqb (range .first) (range .end) || u) known range) (sym e) ∙ ap (λ (u : Bool). cond u known range) q)
 
 module _ (attributes source : List ℕ) where
-  among-none : (key : List ℕ) (n i : ℕ) → ((k : ℕ) → i ≤ k → k < i + n → sameBytes (keyAt attributes source k) key ≡ false) → among key (keysOf (attributesFrom attributes source n i)) ≡ false
-  unfolding attributesFrom
-  among-none key zero i h = refl
-  among-none key (suc n) i h =
-      ap (λ (t : Bool). t || among key (keysOf (attributesFrom attributes source n (i + 1)))) (h i (omega arith) (omega arith))
-      ∙ among-none key n (i + 1) (λ k a b. h k (omega arith) (omega arith))
-
-  among-at : (key : List ℕ) (n i m : ℕ) → among key (keysOf (attributesFrom attributes source n i)) ≡ false → m < n → sameBytes (keyAt attributes source (i + m)) key ≡ false
-  unfolding attributesFrom
-  among-at key zero i m e h = absurd (omega arith)
-  among-at key (suc n) i zero e h =
-      let z : i + 0 ≡ i = omega arith in
-      ap (λ (k : ℕ). sameBytes (keyAt attributes source k) key) z ∙ or-false (sameBytes (keyAt attributes source i) key) (among key (keysOf (attributesFrom attributes source n (i + 1)))) e .0
-  among-at key (suc n) i (suc m) e h =
-      let z : i + suc m ≡ i + 1 + m = omega arith in
-      ap (λ (k : ℕ). sameBytes (keyAt attributes source k) key) z
-      ∙ among-at key n (i + 1) m (or-false (sameBytes (keyAt attributes source i) key) (among key (keysOf (attributesFrom attributes source n (i + 1)))) e .1) (omega arith)
-
-  keys-more : (n i : ℕ) → keysOf (attributesFrom attributes source (suc n) i) ≡ keysOf (attributesFrom attributes source n i) ++ (keyAt attributes source (i + n) ∷ [])
-  unfolding attributesFrom
-  keys-more zero i = let z : i ≡ i + 0 = omega arith in ap (λ (k : ℕ). keyAt attributes source k ∷ []) z
-  keys-more (suc n) i =
-      let z : i + 1 + n ≡ i + suc n = omega arith in
-      ap (λ (ks : List (List ℕ)). keyAt attributes source i ∷ ks)
-      (keys-more n (i + 1) ∙ ap (λ (k : ℕ). keysOf (attributesFrom attributes source n (i + 1)) ++ (keyAt attributes source k ∷ [])) z)
-
-  -- the keys before attribute j + 1 are those before j, and j's
-  pub keys-next : (first j : ℕ) → first ≤ j → keysOf (attributesFrom attributes source (j + 1 - first) first) ≡ keysOf (attributesFrom attributes source (j - first) first) ++ (keyAt attributes source j ∷ [])
-  keys-next first j h =
-      let y : j + 1 - first ≡ suc (j - first) = omega arith in
-      let z : first + (j - first) ≡ j = omega arith in
-      ap (λ (n : ℕ). keysOf (attributesFrom attributes source n first)) y
-      ∙ keys-more (j - first) first
-      ∙ ap (λ (k : ℕ). keysOf (attributesFrom attributes source (j - first) first) ++ (keyAt attributes source k ∷ [])) z
-
-  pub free-key : (first end j : ℕ) → Free attributes source first end → first ≤ j → j < end → among (keyAt attributes source j) (keysOf (attributesFrom attributes source (j - first) first)) ≡ false
-  free-key first end j f l h = among-none (keyAt attributes source j) (j - first) first (λ k a b. f k j a (omega arith) h)
-
-  free-more : (first j : ℕ) → Free attributes source first j → among (keyAt attributes source j) (keysOf (attributesFrom attributes source (j - first) first)) ≡ false → Free attributes source first (j + 1)
-  free-more first j f e i k a b c = go (leb (suc k) j) refl
-    where
-      go : (t : Bool) → leb (suc k) j ≡ t → sameBytes (keyAt attributes source i) (keyAt attributes source k) ≡ false
-      go true q = let h = leb-true (suc k) j q in f i k a b (omega arith)
-      go false q =
-          let h = leb-false (suc k) j q in
-          let y : k ≡ j = omega arith in
-          let z : i ≡ first + (i - first) = omega arith in
-          ap (λ (n : ℕ). sameBytes (keyAt attributes source n) (keyAt attributes source k)) z
-          ∙ ap (λ (n : ℕ). sameBytes (keyAt attributes source (first + (i - first))) (keyAt attributes source n)) y
-          ∙ among-at (keyAt attributes source j) (j - first) first (i - first) e (omega arith)
-
   pub free-within : (known range : Range) → Free attributes source (known .first) (known .end) → (leb (known .first) (range .first) && leb (range .end) (known .end)) ≡ true → Free attributes source (range .first) (range .end)
   free-within known range f e i j a b c =
       let q = and-true (leb (known .first) (range .first)) (leb (range .end) (known .end)) e in
@@ -112,7 +59,7 @@ module _ (attributes source : List ℕ) (rooms : Rooms) (p : Place) (used kind f
       bind (needed (markAt attributes j) (numbered p j) cause.FaultyAttribute λ _. needed (not (among key keys)) (numbered p j) cause.RepeatedKey (λ e. always _ (not-true (among key keys) e)))
       (λ g′ q. subst (λ (ks : List (List ℕ)). Holds (λ _. Free attributes source first (j + suc n)) (readAttributes rooms p used kind ks (j + 1) (attributesFrom attributes source n (j + 1)) g′))
       (keys-next attributes source first j h)
-      (weaken (free-from n (j + 1) g′ (omega arith) (free-more attributes source first j f q)) (λ _ r i k a b c. r i k a b (omega arith))))
+      (weaken (free-from n (j + 1) g′ (omega arith) (unrepeated-more attributes source first j f q)) (λ _ r i k a b c. r i k a b (omega arith))))
 
   pub free-read : (end : ℕ) (g : Given) → first ≤ end → Holds (λ _. Free attributes source first end) (readAttributes rooms p used kind [] first (attributesFrom attributes source (end - first) first) g)
   unfolding attributesFrom

@@ -27,9 +27,9 @@ use Rattle.read_attribute.specs.declared.Step.the-variants as step
 use Rattle.read_attributes.specs.declared.Element.{Element}
 use Rattle.read_attributes.specs.declared.Element.the-variants as element
 use Rattle.read_element.proofs.TreeOutcome.{Holds, held}
-use Rattle.read_attributes.proofs.HeldBounds.{held-extras}
+use Rattle.read_each.proofs.HeldBounds.{held-extras}
 use Rattle.read_attributes.proofs.FreeKeys.{free-read, free-either}
-use Rattle.read_attributes.proofs.Going.{spacious, somewhere, roomy-spacious, Gone, gone, halted}
+use Rattle.read_each.proofs.Going.{spacious, somewhere, roomy-spacious, Gone, gone, halted}
 use Rattle.refusal.specs.declared.Cause.the-variants as cause
 
 -- the areas before the first attribute, with the kind put

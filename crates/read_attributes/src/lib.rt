@@ -1,16 +1,16 @@
 // An element's record, extras and texts from its attributes (the attribute loops of deserialize.rs).
+use read_all::read_all;
 use read_attribute::Fault;
 use read_attribute::Range;
 use read_attribute::Step;
-use read_attribute::step_attribute;
-use read_extra_record::Given;
+use read_free::free_to;
 use refusal::Cause;
 use refusal::NOWHERE;
 use tree_record::has_bit;
 use tree_record::put_field;
 ghost use mathlib.Core.Path.{_≡_};
 ghost use mathlib.Core.List.{List, []};
-ghost use mathlib.Core.Bool.{true, _&&_};
+ghost use mathlib.Core.Bool.{_&&_};
 ghost use Prim.Native.Nat.{ℕ, _≤_, _-_, _*_};
 ghost use lib.ListN.{length, take, drop};
 ghost use lib.Dec.{leb};
@@ -34,39 +34,6 @@ pub struct Grown {
 pub enum Element {
     Is(Grown),
     Not(Fault),
-}
-
-fn read_attributes(
-    kind: u32,
-    attributes: &[u32],
-    source: &[u8],
-    range: Range,
-    free: bool,
-    fill: usize,
-    own: &mut [u32],
-    text: &mut [u8],
-) -> Step
-    requires { ⌜ kind ≤ 12 ⌝ }
-    requires { ⌜ range .first ≤ range .end ⌝ }
-    requires { ⌜ range .end * 5 ≤ length (now attributes) ⌝ }
-    requires { ⌜ range .end ≤ 65536 ⌝ }
-    requires { ⌜ length (now text) ≤ 16777216 ⌝ }
-    requires { ⌜ Held (now own) (now text) 0 fill (fresh kind (take fill (now text))) ⌝ }
-    requires { ⌜ (free ≡ true → Free (now attributes) (now source) (range .first) (range .end)) ⌝ }
-    ensures { λ r. ⌜ ((rooms : Rooms) (p : Place) (used : ℕ) → Roomy rooms used (length (now (own .entry))) (length (now (text .entry))) → Matches p (now (own .exit)) (now (text .exit)) (readAttributes rooms p used kind [] (range .first) (attributesFrom (now (attributes .entry)) (now (source .entry)) (range .end - range .first) (range .first)) (fresh kind (take fill (now (text .entry))))) r) ⌝ }
-{
-    let end = range.end;
-    let mut j = range.first;
-    let mut given = Given { extras: 0, fill };
-    while j < end {
-        let step = step_attribute(kind, attributes, source, range, free, j, given, own, text);
-        j += 1;
-        match step {
-            Step::To(next) => given = next,
-            Step::Not(fault) => return Step::Not(fault),
-        }
-    }
-    Step::To(given)
 }
 
 // The code of the first attribute that the element lacks, or 0: "a missing `name` (suite, case), `name` before `value` (property)".
@@ -108,6 +75,21 @@ fn known_of(known: Range, range: Range) -> Range
     range
 }
 
+// A number up to which no two attributes of the range have the same key. The words lent are zero, and are so again afterwards.
+fn clear_to(attributes: &[u32], source: &[u8], range: Range, known: Range, own: &mut [u32]) -> usize
+    requires { ⌜ range .first ≤ range .end ⌝ }
+    requires { ⌜ range .end * 5 ≤ length (now attributes) ⌝ }
+    requires { ⌜ now own ≡ zeros (length (now own)) ⌝ }
+    requires { ⌜ Free (now attributes) (now source) (known .first) (known .end) ⌝ }
+    ensures { λ r. ⌜ Free (now (attributes .entry)) (now (source .entry)) (range .first) r ⌝ }
+    ensures { λ _. ⌜ now (own .exit) ≡ zeros (length (now (own .entry))) ⌝ }
+{
+    if is_within(known, range) {
+        return range.end;
+    }
+    free_to(attributes, source, range.first, range.end, own)
+}
+
 // The element whose record has room.
 fn read_record(
     kind: u32,
@@ -115,6 +97,7 @@ fn read_record(
     source: &[u8],
     range: Range,
     known: Range,
+    clear: usize,
     fill: usize,
     own: &mut [u32],
     text: &mut [u8],
@@ -129,19 +112,11 @@ fn read_record(
     requires { ⌜ drop fill (now text) ≡ zeros (length (now text) - fill) ⌝ }
     requires { ⌜ Free (now attributes) (now source) (known .first) (known .end) ⌝ }
     requires { ⌜ 32 ≤ length (now own) ⌝ }
+    requires { ⌜ Free (now attributes) (now source) (range .first) clear ⌝ }
     ensures { λ r. ⌜ ((rooms : Rooms) (p : Place) (before : List (List ℕ)) → p .attribute ≡ nowhere → Roomy rooms (length before) (length (now (own .entry))) (length (now (text .entry))) → Becomes p before (now (own .exit)) (now (text .exit)) (now (attributes .entry)) (now (source .entry)) (readElement rooms p kind (range .first) (attributesFrom (now (attributes .entry)) (now (source .entry)) (range .end - range .first) (range .first)) before (take fill (now (text .entry)))) r) ⌝ }
 {
     put_field(own, 0, kind);
-    let read = read_attributes(
-        kind,
-        attributes,
-        source,
-        range,
-        is_within(known, range),
-        fill,
-        own,
-        text,
-    );
+    let read = read_all(kind, attributes, source, range, clear, fill, own, text);
     let given = match read {
         Step::To(given) => given,
         Step::Not(fault) => return Element::Not(fault),
@@ -184,5 +159,16 @@ pub fn read_element(
     if own.len() < 32 {
         return refused(Cause::RecordsSpent, 0);
     }
-    read_record(kind, attributes, source, range, known, fill, own, text)
+    let clear = clear_to(attributes, source, range, known, own);
+    read_record(
+        kind,
+        attributes,
+        source,
+        range,
+        known,
+        clear,
+        fill,
+        own,
+        text,
+    )
 }

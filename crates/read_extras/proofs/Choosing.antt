@@ -19,10 +19,11 @@ use Rattle.tree_record.specs.Record.{textAt}
 use Rattle.read_element.specs.Attributes.{Given, placeOf, oldExtra, newExtra, readExtra}
 use Rattle.utf8.specs.Characters.{joined}
 use Rattle.read_element.specs.inside.Held.{placeAt, putExtra, Keyed, Held, Meets, stops}
+use Rattle.read_extras.specs.inside.Hinted.{Hinted}
 use Rattle.refusal.specs.declared.Cause.{Cause}
 
 -- a stored key in the area is that of the texts
-text-in : (texts z r t : List ℕ) → length r ≡ 32 → getD r 2 0 + getD r 3 0 ≤ length texts → textAt (texts ++ z) (r ++ t) 2 ≡ textAt texts r 2
+pub text-in : (texts z r t : List ℕ) → length r ≡ 32 → getD r 2 0 + getD r 3 0 ≤ length texts → textAt (texts ++ z) (r ++ t) 2 ≡ textAt texts r 2
 text-in texts z r t e h =
     let d : length (drop (getD r 2 0) texts) ≡ _ = length-drop (getD r 2 0) texts in
     ap (λ (n : ℕ). take n (drop (getD (r ++ t) 2 0) (texts ++ z))) (List·getD-append r t 0 3 (omega arith))
@@ -61,6 +62,13 @@ place-held {own} {text} {extras} {fill} {g} hd key =
     ∙ ap (λ (n : ℕ). placeAt own (g .texts ++ zeros (hd .left)) key n 0) (hd .count)
     ∙ place-from own (g .texts) (zeros (hd .left)) key (g .extras) 0 (zeros (hd .room)) (ap (drop 32) (hd .records) ∙ drop-at (g .main) (joined (g .extras) ++ zeros (hd .room)) 32 (hd .main-words)) (hd .keyed)
     ∙ omega arith
+
+-- a hint, in the areas
+pub hint-held : {own text : List ℕ} {extras fill : ℕ} {g : Given} → Held own text extras fill g → (key : List ℕ) {hint : ℕ} → Hinted hint g key → hint ≤ extras → placeAt own text key extras 0 ≡ hint
+hint-held hd key k h = place-held hd key ∙ k (let c = hd .count in omega arith)
+
+pub hint-keyed : {hint : ℕ} (g : Given) {a b : List ℕ} → a ≡ b → Hinted hint g (valueText a) → Hinted hint g (valueText b)
+hint-keyed {hint} g e k h = ap (λ (l : List ℕ). placeOf (g .texts) (valueText l) (g .extras)) (sym e) ∙ k h
 
 module _ {own text : List ℕ} {extras fill : ℕ} {g : Given} (hd : Held own text extras fill g) (rooms : Rooms) (p : Place) (used kind : ℕ) (key value : List ℕ) {own′ text′ : List ℕ} {a : Answer (ℕ × ℕ)} {i : ℕ} (e : i ≡ placeAt own text key extras 0) where
   choose : (b : Bool) → leb (length (g .extras)) i ≡ b → Meets p own′ text′ (cond b (newExtra rooms p used kind key value g) (oldExtra rooms p value i g)) a → Meets p own′ text′ (putExtra rooms p used kind key value g) a

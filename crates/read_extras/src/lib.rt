@@ -24,6 +24,7 @@ ghost use Rattle.read_element.specs.Attributes.{readExtra};
 ghost use Rattle.read_element.specs.Attributes.{Given as Said};
 ghost use Rattle.read_element.specs.inside.Held.{placeAt, putExtra, Held, Roomy, Meets};
 ghost use Rattle.read_extra_record.specs.inside.Answers.{gaveAnswer};
+ghost use Rattle.read_extras.specs.inside.Hinted.{Hinted};
 
 // Whether `stored` is the text, of n bytes, that would be stored for `key`: lengths are compared before bytes.
 fn is_stored(stored: &[u8], key: &[u8], n: usize) -> bool
@@ -62,10 +63,22 @@ fn place_of(own: &[u32], text: &[u8], extras: usize, key: &[u8]) -> usize
     i
 }
 
+// The same, where a hint that isn't larger than their number is believed.
+fn place_for(own: &[u32], text: &[u8], extras: usize, key: &[u8], hint: usize) -> usize
+    requires { ⌜ extras * 32 + 32 ≤ length (now own) ⌝ }
+    ensures { λ r. ⌜ ((hint ≤ extras → placeAt (now (own .entry)) (now (text .entry)) (valueText (now (key .entry))) extras 0 ≡ hint) → r ≡ placeAt (now (own .entry)) (now (text .entry)) (valueText (now (key .entry))) extras 0) ⌝ }
+{
+    if hint <= extras {
+        return hint;
+    }
+    place_of(own, text, extras, key)
+}
+
 fn put_extra(
     kind: u32,
     key: &[u8],
     value: &[u8],
+    hint: usize,
     given: Given,
     own: &mut [u32],
     text: &mut [u8],
@@ -76,10 +89,10 @@ fn put_extra(
     requires { ⌜ given .fill ≤ length (now text) ⌝ }
     requires { ⌜ length (now text) ≤ 16777216 ⌝ }
     requires { ⌜ given .extras * 32 + 32 ≤ length (now own) ⌝ }
-    ensures { λ r. ⌜ ((g : Said) (rooms : Rooms) (p : Place) (used : ℕ) → Held (now (own .entry)) (now (text .entry)) (given .extras) (given .fill) g → Roomy rooms used (length (now (own .entry))) (length (now (text .entry))) → Meets p (now (own .exit)) (now (text .exit)) (putExtra rooms p used kind (valueText (now (key .entry))) (valueText (now (value .entry))) g) (gaveAnswer r)) ⌝ }
+    ensures { λ r. ⌜ ((g : Said) (rooms : Rooms) (p : Place) (used : ℕ) → Held (now (own .entry)) (now (text .entry)) (given .extras) (given .fill) g → Roomy rooms used (length (now (own .entry))) (length (now (text .entry))) → Hinted hint g (valueText (now (key .entry))) → Meets p (now (own .exit)) (now (text .exit)) (putExtra rooms p used kind (valueText (now (key .entry))) (valueText (now (value .entry))) g) (gaveAnswer r)) ⌝ }
 {
     let extras = given.extras;
-    let i = place_of(own, text, extras, key);
+    let i = place_for(own, text, extras, key, hint);
     if i < extras {
         return old_extra(value, i, given, own, text);
     }
@@ -87,10 +100,12 @@ fn put_extra(
 }
 
 // "An extra is checked as key (2, 10), value (2, 10), if new record (12) and storing of key (13), then storing of value (13)."
+// Where it stands among the extras is looked for only without a hint.
 pub fn read_extra(
     kind: u32,
     key: &[u8],
     value: &[u8],
+    hint: usize,
     given: Given,
     own: &mut [u32],
     text: &mut [u8],
@@ -99,7 +114,7 @@ pub fn read_extra(
     requires { ⌜ given .fill ≤ length (now text) ⌝ }
     requires { ⌜ length (now text) ≤ 16777216 ⌝ }
     requires { ⌜ given .extras * 32 + 32 ≤ length (now own) ⌝ }
-    ensures { λ r. ⌜ ((x : Attribute) (g : Said) (rooms : Rooms) (p : Place) (used : ℕ) → x .key ≡ now (key .entry) → x .value ≡ now (value .entry) → Held (now (own .entry)) (now (text .entry)) (given .extras) (given .fill) g → Roomy rooms used (length (now (own .entry))) (length (now (text .entry))) → Meets p (now (own .exit)) (now (text .exit)) (readExtra rooms p used kind x g) (gaveAnswer r)) ⌝ }
+    ensures { λ r. ⌜ ((x : Attribute) (g : Said) (rooms : Rooms) (p : Place) (used : ℕ) → x .key ≡ now (key .entry) → x .value ≡ now (value .entry) → Held (now (own .entry)) (now (text .entry)) (given .extras) (given .fill) g → Roomy rooms used (length (now (own .entry))) (length (now (text .entry))) → Hinted hint g (valueText (x .key)) → Meets p (now (own .exit)) (now (text .exit)) (readExtra rooms p used kind x g) (gaveAnswer r)) ⌝ }
 {
     let named = check_value(key);
     match named {
@@ -111,6 +126,6 @@ pub fn read_extra(
     match valued {
         Checked::NotUtf8 => Gave::Not(Cause::NotUtf8),
         Checked::BadReference => Gave::Not(Cause::BadReference),
-        Checked::Good => put_extra(kind, key, value, given, own, text),
+        Checked::Good => put_extra(kind, key, value, hint, given, own, text),
     }
 }

@@ -66,12 +66,12 @@ same-length-2 : tie.Need-same-length-2
 same-length-2 c = search needs
 
 returns : tie.Need-returns
-returns c = λ g rooms p used hd ro.
+returns c = λ g rooms p used hd ro k.
     let s = c .before .before .before .before .before .before .before .before .before .before .before .before .before .before .before .before .before .before .before .before .before .before .before .before .before .before .args .source .now in
     let ek = part-told s (c .before .before .before .before .before .before .before .before .before .before .before .before .before .before .before .before .before .bytes-of .ensures) (c .before .before .before .before .before .before .before .before .before .before .before .before .before .before .before .before .before .before .before .before .wide .ensures) (c .before .before .before .before .before .before .before .before .before .before .before .before .before .before .before .before .before .before .wide2 .ensures) in
     let ev = part-told s (c .before .before .before .before .before .before .before .before .before .before .before .before .bytes-of2 .ensures) (c .before .before .before .before .before .before .before .before .before .before .before .before .before .before .before .wide3 .ensures) (c .before .before .before .before .before .before .before .before .before .before .before .before .before .wide4 .ensures) in
     let x = attributeIn (c .before .before .before .before .before .before .before .before .before .before .before .before .before .before .before .before .before .before .before .before .before .before .before .before .before .before .args .words .now) s in
-    extra-step (c .before .before .before .before .before .before .before .before .before .before .before .before .before .before .before .before .before .before .before .before .before .before .before .before .before .before .args .kind) (c .before .before .before .before .before .before .before .before .before .before .before .before .before .before .before .before .before .before .before .before .before .before .before .before .before .before .args .j) x g rooms p used (c .before .before .before .before .before .before .before .before .before .before .before .key-of .ensures ∙ ap keyOf (sym ek)) (c .before .before .before .before .before .before .before .before .before .before .role-of .ensures) (c .before .before .before .before .before .read-extra .result) (c .before .before .before .before .before .before .before .before .enum-told .given .1) (c .before .before .before .before .before .read-extra .ensures x g rooms (numbered p (c .before .before .before .before .before .before .before .before .before .before .before .before .before .before .before .before .before .before .before .before .before .before .before .before .before .before .args .j)) used ek ev hd ro) (c .gave .ensures)
+    extra-step (c .before .before .before .before .before .before .before .before .before .before .before .before .before .before .before .before .before .before .before .before .before .before .before .before .before .before .args .kind) (c .before .before .before .before .before .before .before .before .before .before .before .before .before .before .before .before .before .before .before .before .before .before .before .before .before .before .args .j) x g rooms p used (c .before .before .before .before .before .before .before .before .before .before .before .key-of .ensures ∙ ap keyOf (sym ek)) (c .before .before .before .before .before .before .before .before .before .before .role-of .ensures) (c .before .before .before .before .before .read-extra .result) (c .before .before .before .before .before .before .before .before .enum-told .given .1) (c .before .before .before .before .before .read-extra .ensures x g rooms (numbered p (c .before .before .before .before .before .before .before .before .before .before .before .before .before .before .before .before .before .before .before .before .before .before .before .before .before .before .args .j)) used ek ev hd ro k) (c .gave .ensures)
 
 read-value-requires : tie.Need-read-value-requires
 read-value-requires c κs = let q = c .before .before .before .before .before .before .before .before .before .before .before .before .before .before .before .before .before .before .before .pre .1 .1 .1 in (q .0, (q .1 .0, subst roleFits (sym (c .before .before .before .role-of .ensures)) (role-fits (c .before .before .before .before .before .before .before .before .before .before .before .before .before .before .before .before .before .before .before .args .kind) (c .before .before .before .before .key-of .result))))
@@ -89,7 +89,7 @@ same-length-4 : tie.Need-same-length-4
 same-length-4 c = search needs
 
 returns-2 : tie.Need-returns-2
-returns-2 c = λ g rooms p used hd ro.
+returns-2 c = λ g rooms p used hd ro k.
     let s = c .before .before .before .before .before .before .before .before .before .before .before .before .before .before .before .before .before .before .before .before .before .before .before .before .before .args .source .now in
     let ek = part-told s (c .before .before .before .before .before .before .before .before .before .before .before .before .before .before .before .before .bytes-of .ensures) (c .before .before .before .before .before .before .before .before .before .before .before .before .before .before .before .before .before .before .before .wide .ensures) (c .before .before .before .before .before .before .before .before .before .before .before .before .before .before .before .before .before .wide2 .ensures) in
     let ev = part-told s (c .before .before .before .before .before .before .before .before .before .before .before .bytes-of2 .ensures) (c .before .before .before .before .before .before .before .before .before .before .before .before .before .before .wide3 .ensures) (c .before .before .before .before .before .before .before .before .before .before .before .before .wide4 .ensures) in

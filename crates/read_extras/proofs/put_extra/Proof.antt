@@ -1,12 +1,12 @@
 use Rattle.text.specs.Value.{valueText}
-use Rattle.read_extras.proofs.Choosing.{choose-old, choose-new}
+use Rattle.read_extras.proofs.Choosing.{choose-old, choose-new, hint-held}
 use native.Mathlib.Omega.{arith}
 use borrow.Author.Needs.{needs}
 use Rattle.read_extras.proofs.put_extra.Statement.{statement}
 use Rattle.read_extras.proofs.put_extra.Tie as tie
 
-place-of-requires : tie.Need-place-of-requires
-place-of-requires c κs = search needs
+place-for-requires : tie.Need-place-for-requires
+place-for-requires c κs = search needs
 
 old-extra-requires : tie.Need-old-extra-requires
 old-extra-requires c κs = search needs
@@ -18,7 +18,7 @@ same-length-2 : tie.Need-same-length-2
 same-length-2 c = search needs
 
 returns : tie.Need-returns
-returns c = λ g rooms p used hd ro. choose-old hd rooms p used (c .before .before .before .before .before .before .before .before .before .before .before .before .before .before .before .args .kind) (valueText (c .before .before .before .before .before .before .before .before .before .before .before .before .before .before .before .args .key .now)) (valueText (c .before .before .before .before .before .before .before .before .before .before .before .before .before .before .before .args .value .now)) (c .before .before .before .before .before .before .before .before .place-of .ensures) (omega arith) (c .before .before .before .before .old-extra .ensures g rooms p used hd ro)
+returns c = λ g rooms p used hd ro k. choose-old hd rooms p used (c .before .before .before .before .before .before .before .before .before .before .before .before .before .before .before .args .kind) (valueText (c .before .before .before .before .before .before .before .before .before .before .before .before .before .before .before .args .key .now)) (valueText (c .before .before .before .before .before .before .before .before .before .before .before .before .before .before .before .args .value .now)) (c .before .before .before .before .before .before .before .before .place-for .ensures (hint-held hd (valueText (c .before .before .before .before .before .before .before .before .before .before .before .before .before .before .before .args .key .now)) k)) (omega arith) (c .before .before .before .before .old-extra .ensures g rooms p used hd ro)
 
 new-extra-requires : tie.Need-new-extra-requires
 new-extra-requires c κs = search needs
@@ -30,13 +30,13 @@ same-length-4 : tie.Need-same-length-4
 same-length-4 c = search needs
 
 returns-2 : tie.Need-returns-2
-returns-2 c = λ g rooms p used hd ro. choose-new hd rooms p used (c .before .before .before .before .before .before .before .before .before .before .before .before .before .before .before .args .kind) (valueText (c .before .before .before .before .before .before .before .before .before .before .before .before .before .before .before .args .key .now)) (valueText (c .before .before .before .before .before .before .before .before .before .before .before .before .before .before .before .args .value .now)) (c .before .before .before .before .before .before .before .before .place-of .ensures) (omega arith) (c .before .before .before .before .new-extra .ensures g rooms p used hd ro)
+returns-2 c = λ g rooms p used hd ro k. choose-new hd rooms p used (c .before .before .before .before .before .before .before .before .before .before .before .before .before .before .before .args .kind) (valueText (c .before .before .before .before .before .before .before .before .before .before .before .before .before .before .before .args .key .now)) (valueText (c .before .before .before .before .before .before .before .before .before .before .before .before .before .before .before .args .value .now)) (c .before .before .before .before .before .before .before .before .place-for .ensures (hint-held hd (valueText (c .before .before .before .before .before .before .before .before .before .before .before .before .before .before .before .args .key .now)) k)) (omega arith) (c .before .before .before .before .new-extra .ensures g rooms p used hd ro)
 
 pub put-extra-spec : {M : Type 1} → statement M
 put-extra-spec =
     tie.close
     (tie.spec
-    place-of-requires
+    place-for-requires
     old-extra-requires
     same-length
     same-length-2

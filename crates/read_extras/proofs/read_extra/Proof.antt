@@ -1,4 +1,4 @@
-use Rattle.read_extras.proofs.Choosing.{read-key, read-value, read-put}
+use Rattle.read_extras.proofs.Choosing.{read-key, read-value, read-put, hint-keyed}
 use Rattle.text.specs.Value.{checkedAnswer}
 use mathlib.Core.Path.{sym, ap, _∙_}
 use borrow.Author.Needs.{needs}
@@ -12,13 +12,13 @@ enum-told : tie.Need-enum-told
 enum-told c = search needs
 
 returns : tie.Need-returns
-returns c = λ x g rooms p used ek ev hd ro. read-key rooms p used (c .before .before .before .before .before .before .before .args .kind) x g ek ev (sym (ap checkedAnswer (c .enum-told .given .1)) ∙ c .before .before .check-value .ensures)
+returns c = λ x g rooms p used ek ev hd ro k. read-key rooms p used (c .before .before .before .before .before .before .before .args .kind) x g ek ev (sym (ap checkedAnswer (c .enum-told .given .1)) ∙ c .before .before .check-value .ensures)
 
 enum-told-2 : tie.Need-enum-told-2
 enum-told-2 c = search needs
 
 returns-2 : tie.Need-returns-2
-returns-2 c = λ x g rooms p used ek ev hd ro. read-key rooms p used (c .before .before .before .before .before .before .before .args .kind) x g ek ev (sym (ap checkedAnswer (c .enum-told2 .given .1)) ∙ c .before .before .check-value .ensures)
+returns-2 c = λ x g rooms p used ek ev hd ro k. read-key rooms p used (c .before .before .before .before .before .before .before .args .kind) x g ek ev (sym (ap checkedAnswer (c .enum-told2 .given .1)) ∙ c .before .before .check-value .ensures)
 
 enum-told-3 : tie.Need-enum-told-3
 enum-told-3 c = search needs
@@ -39,10 +39,10 @@ put-extra-requires : tie.Need-put-extra-requires
 put-extra-requires c κs = let q = c .before .before .before .before .before .before .before .before .before .before .before .before .pre in (q .0, ((sym (ap checkedAnswer (c .before .before .before .before .before .enum-told3 .given .1)) ∙ c .before .before .before .before .before .before .before .check-value .ensures), ((sym (ap checkedAnswer (c .before .before .enum-told6 .given .1)) ∙ c .before .before .before .before .check-value2 .ensures), q .1)))
 
 returns-3 : tie.Need-returns-3
-returns-3 c = λ x g rooms p used ek ev hd ro. read-value rooms p used (c .before .before .before .before .before .before .before .before .before .before .args .kind) x g ek ev (sym (ap checkedAnswer (c .before .before .before .enum-told3 .given .1)) ∙ c .before .before .before .before .before .check-value .ensures) (sym (ap checkedAnswer (c .enum-told4 .given .1)) ∙ c .before .before .check-value2 .ensures)
+returns-3 c = λ x g rooms p used ek ev hd ro k. read-value rooms p used (c .before .before .before .before .before .before .before .before .before .before .args .kind) x g ek ev (sym (ap checkedAnswer (c .before .before .before .enum-told3 .given .1)) ∙ c .before .before .before .before .before .check-value .ensures) (sym (ap checkedAnswer (c .enum-told4 .given .1)) ∙ c .before .before .check-value2 .ensures)
 
 returns-4 : tie.Need-returns-4
-returns-4 c = λ x g rooms p used ek ev hd ro. read-value rooms p used (c .before .before .before .before .before .before .before .before .before .before .args .kind) x g ek ev (sym (ap checkedAnswer (c .before .before .before .enum-told3 .given .1)) ∙ c .before .before .before .before .before .check-value .ensures) (sym (ap checkedAnswer (c .enum-told5 .given .1)) ∙ c .before .before .check-value2 .ensures)
+returns-4 c = λ x g rooms p used ek ev hd ro k. read-value rooms p used (c .before .before .before .before .before .before .before .before .before .before .args .kind) x g ek ev (sym (ap checkedAnswer (c .before .before .before .enum-told3 .given .1)) ∙ c .before .before .before .before .before .check-value .ensures) (sym (ap checkedAnswer (c .enum-told5 .given .1)) ∙ c .before .before .check-value2 .ensures)
 
 same-length : tie.Need-same-length
 same-length c = search needs
@@ -51,7 +51,7 @@ same-length-2 : tie.Need-same-length-2
 same-length-2 c = search needs
 
 returns-5 : tie.Need-returns-5
-returns-5 c = λ x g rooms p used ek ev hd ro. read-put rooms p used (c .before .before .before .before .before .before .before .before .before .before .before .before .before .before .before .before .before .args .kind) x g ek ev (sym (ap checkedAnswer (c .before .before .before .before .before .before .before .before .before .before .enum-told3 .given .1)) ∙ c .before .before .before .before .before .before .before .before .before .before .before .before .check-value .ensures) (sym (ap checkedAnswer (c .before .before .before .before .before .before .before .enum-told6 .given .1)) ∙ c .before .before .before .before .before .before .before .before .before .check-value2 .ensures) (c .before .before .before .before .put-extra .ensures g rooms p used hd ro)
+returns-5 c = λ x g rooms p used ek ev hd ro k. read-put rooms p used (c .before .before .before .before .before .before .before .before .before .before .before .before .before .before .before .before .before .args .kind) x g ek ev (sym (ap checkedAnswer (c .before .before .before .before .before .before .before .before .before .before .enum-told3 .given .1)) ∙ c .before .before .before .before .before .before .before .before .before .before .before .before .check-value .ensures) (sym (ap checkedAnswer (c .before .before .before .before .before .before .before .enum-told6 .given .1)) ∙ c .before .before .before .before .before .before .before .before .before .check-value2 .ensures) (c .before .before .before .before .put-extra .ensures g rooms p used hd ro (hint-keyed g ek k))
 
 pub read-extra-spec : {M : Type 1} → statement M
 read-extra-spec =

@@ -5,9 +5,9 @@ use mathlib.Core.Bool.{Bool, true, false, not}
 use mathlib.Core.List.{List, [], _∷_, _++_}
 use mathlib.Core.Option.{none, some}
 use native.Mathlib.Omega.{arith}
-use borrow.Author.Tests.{le-leb, lt-leb, leb-true, leb-false}
+use borrow.Author.Tests.{le-leb, lt-leb, leb-true, leb-false, ltb-true}
 use lib.ListN.{length}
-use lib.Dec.{leb}
+use lib.Dec.{leb, ltb}
 use Rattle.names.specs.Keys.{keyOf}
 use Rattle.refusal.specs.Refusal.{Outcome, accepted, refused}
 use Rattle.read_keys.specs.Roles.{roleOf}
@@ -17,13 +17,15 @@ use Rattle.read_element.specs.Outcome.{_>>=_, Place, Rooms, need, fits}
 use Rattle.read_element.specs.Attributes.{Given, byRole, among, numbered, readAttributes}
 use Rattle.read_element.specs.inside.Held.{keysOf, Held, Roomy}
 use Rattle.read_attribute.specs.inside.Steps.{faultAt, Matches, went, stopped}
-use Rattle.read_attributes.specs.inside.Elements.{Free}
+use Rattle.read_free.specs.inside.Unrepeated.{Unrepeated}
+use Rattle.text.specs.Value.{valueText}
+use Rattle.read_extras.specs.inside.Hinted.{Hinted}
 use Rattle.read_extra_record.specs.declared.Given.{Given as Counted}
 use Rattle.read_attribute.specs.declared.Fault.{Fault}
 use Rattle.read_attribute.specs.declared.Step.{Step}
 use Rattle.read_attribute.specs.declared.Step.the-variants as step
-use Rattle.read_attributes.proofs.HeldBounds.{held-fill, held-extras}
-use Rattle.read_attributes.proofs.FreeKeys.{keys-next, free-key}
+use Rattle.read_each.proofs.HeldBounds.{held-fill, held-extras}
+use Rattle.read_each.proofs.KeysBefore.{keys-next, free-key}
 use Rattle.refusal.specs.declared.Cause.the-variants as cause
 
 -- areas of any lengths have rooms
@@ -54,17 +56,18 @@ pub halted : {p : Place} {own text : List ℕ} {m : Outcome Given} {f : Fault} �
 halted stopped = refl
 
 -- the definition's attribute j
-abbrev attributeStep : List ℕ → List ℕ → ℕ → ℕ → Rooms → Place → ℕ → ℕ → Given → Outcome Given
+abbrev pub attributeStep : List ℕ → List ℕ → ℕ → ℕ → Rooms → Place → ℕ → ℕ → Given → Outcome Given
 attributeStep attributes source kind first rooms p used j g =
     need (markAt attributes j) (numbered p j) cause.FaultyAttribute
     (need (not (among (keyAt attributes source j) (keysOf (attributesFrom attributes source (j - first) first)))) (numbered p j) cause.RepeatedKey
     (byRole rooms (numbered p j) used kind (keyOf (keyAt attributes source j)) (roleOf kind (keyOf (keyAt attributes source j))) (attributeAt attributes source j) g))
 
 -- what `step_attribute` says of attribute j
-abbrev Stepped : List ℕ → List ℕ → ℕ → ℕ → Bool → ℕ → Counted → List ℕ → List ℕ → List ℕ → List ℕ → Step → Type 0
-Stepped attributes source kind first free j given own text own′ text′ r =
+abbrev pub Stepped : List ℕ → List ℕ → ℕ → ℕ → Bool → ℕ → ℕ → Counted → List ℕ → List ℕ → List ℕ → List ℕ → Step → Type 0
+Stepped attributes source kind first free hint j given own text own′ text′ r =
     (g : Given) (rooms : Rooms) (p : Place) (used : ℕ) → Held own text (given .extras) (given .fill) g → Roomy rooms used (length own) (length text)
     → (free ≡ true → among (keyAt attributes source j) (keysOf (attributesFrom attributes source (j - first) first)) ≡ false)
+    → Hinted hint g (valueText (keyAt attributes source j))
     → Matches p own′ text′ (attributeStep attributes source kind first rooms p used j g) r
 
 -- the definition from attribute j on, behind what was given, is the definition from the first
@@ -121,7 +124,7 @@ module _ {kind : ℕ} {attributes source : List ℕ} {first end : ℕ} {own₀ t
       let a = x .along rooms p used ro in
       a .same ∙ ap (λ (xs : List Attribute). readAttributes rooms p used kind (keysOf (attributesFrom attributes source (j - first) first)) j xs (a .said)) (attributes-next attributes source end j h)
 
-  module _ (h : j < end) {free : Bool} (f : free ≡ true → Free attributes source first end) {own′ text′ : List ℕ} {r : Step} (s : Stepped attributes source kind first free j given own text own′ text′ r) where
+  module _ (h : j < end) {clear : ℕ} (f : Unrepeated attributes source first clear) {own′ text′ : List ℕ} {r : Step} (s : Stepped attributes source kind first (ltb j clear) (given .extras + 1) j given own text own′ text′ r) where
     -- attribute j at a place and in rooms
     taking : {t : Step} → r ≡ t → (rooms : Rooms) (p : Place) (used : ℕ) (ro : Roomy rooms used (length own₀) (length text₀))
         → Matches p own′ text′ (attributeStep attributes source kind first rooms p used j (x .along rooms p used ro .said)) t
@@ -130,7 +133,8 @@ module _ {kind : ℕ} {attributes source : List ℕ} {first end : ℕ} {own₀ t
         subst (λ (t : Step). Matches p own′ text′ (attributeStep attributes source kind first rooms p used j (a .said)) t) q
         (s (a .said) rooms p used (a .holds)
         (subst (λ (n : ℕ). Roomy rooms used n (length text)) (sym (x .own-same)) (subst (λ (n : ℕ). Roomy rooms used (length own₀) n) (sym (x .text-same)) ro))
-        (λ e. free-key attributes source first end j (f e) (x .low) h))
+        (λ e. free-key attributes source first clear j f (x .low) (ltb-true j clear e))
+        (λ l. absurd (let c = a .holds .count in omega arith)))
 
     pub going-stopped : {fault : Fault} → r ≡ step.Not fault → (rooms : Rooms) (p : Place) (used : ℕ) → Roomy rooms used (length own₀) (length text₀)
         → Matches p own′ text′ (readAttributes rooms p used kind [] first (attributesFrom attributes source (end - first) first) g₀) (step.Not fault)

@@ -1,0 +1,100 @@
+// An element's attributes, one after the other: with chains of its extras' keys where there is room for them behind the records.
+use area::clear_words;
+use read_attribute::Range;
+use read_attribute::Step;
+use read_each::read_each;
+use read_indexed::read_chained;
+use tree_record::kind::CASE;
+use tree_record::kind::SUITE;
+ghost use mathlib.Core.Path.{_≡_};
+ghost use mathlib.Core.List.{[]};
+ghost use Prim.Native.Nat.{ℕ, _+_, _-_, _*_, _≤_, _<_};
+ghost use lib.ListN.{length, take};
+ghost use Rattle.table.specs.Event.{attributesFrom};
+ghost use Rattle.read_element.specs.Outcome.{Place, Rooms};
+ghost use Rattle.read_element.specs.Attributes.{readAttributes};
+ghost use Rattle.read_element.specs.inside.Held.{Held, Roomy};
+ghost use Rattle.read_attribute.specs.inside.Steps.{Matches};
+ghost use Rattle.read_free.specs.inside.Unrepeated.{Unrepeated};
+ghost use Rattle.read_each.specs.inside.Fresh.{fresh};
+
+const FEW: usize = 8;
+
+// The words that the chains took are zero again afterwards.
+fn read_cleared(
+    kind: u32,
+    attributes: &[u32],
+    source: &[u8],
+    range: Range,
+    clear: usize,
+    fill: usize,
+    own: &mut [u32],
+    text: &mut [u8],
+) -> Step
+    requires { ⌜ kind ≤ 12 ⌝ }
+    requires { ⌜ range .first ≤ range .end ⌝ }
+    requires { ⌜ range .end * 5 ≤ length (now attributes) ⌝ }
+    requires { ⌜ range .end ≤ 65536 ⌝ }
+    requires { ⌜ length (now text) ≤ 16777216 ⌝ }
+    requires { ⌜ Held (now own) (now text) 0 fill (fresh kind (take fill (now text))) ⌝ }
+    requires { ⌜ Unrepeated (now attributes) (now source) (range .first) clear ⌝ }
+    requires { ⌜ range .first < range .end ⌝ }
+    requires { ⌜ (range .end - range .first) * 34 + 32 ≤ length (now own) ⌝ }
+    ensures { λ r. ⌜ ((rooms : Rooms) (p : Place) (used whole : ℕ) → length (now (own .entry)) ≤ whole → Roomy rooms used whole (length (now (text .entry))) → Matches p (now (own .exit)) (now (text .exit)) (readAttributes rooms p used kind [] (range .first) (attributesFrom (now (attributes .entry)) (now (source .entry)) (range .end - range .first) (range .first)) (fresh kind (take fill (now (text .entry))))) r) ⌝ }
+{
+    let m = range.end - range.first;
+    let k = m * 32 + 32;
+    let step = read_chained(
+        kind,
+        attributes,
+        source,
+        range,
+        clear,
+        fill,
+        k,
+        m,
+        own,
+        text,
+    );
+    clear_words(&mut own[k..]);
+    step
+}
+
+// No two attributes of the range before number `clear` have the same key. Chains take two words for each attribute, behind room for
+// an extra from each; where there are fewer words, or few attributes, each extra is looked for among those before it. Only a suite and
+// a case have extras.
+pub fn read_all(
+    kind: u32,
+    attributes: &[u32],
+    source: &[u8],
+    range: Range,
+    clear: usize,
+    fill: usize,
+    own: &mut [u32],
+    text: &mut [u8],
+) -> Step
+    requires { ⌜ kind ≤ 12 ⌝ }
+    requires { ⌜ range .first ≤ range .end ⌝ }
+    requires { ⌜ range .end * 5 ≤ length (now attributes) ⌝ }
+    requires { ⌜ range .end ≤ 65536 ⌝ }
+    requires { ⌜ length (now text) ≤ 16777216 ⌝ }
+    requires { ⌜ Held (now own) (now text) 0 fill (fresh kind (take fill (now text))) ⌝ }
+    requires { ⌜ Unrepeated (now attributes) (now source) (range .first) clear ⌝ }
+    ensures { λ r. ⌜ ((rooms : Rooms) (p : Place) (used : ℕ) → Roomy rooms used (length (now (own .entry))) (length (now (text .entry))) → Matches p (now (own .exit)) (now (text .exit)) (readAttributes rooms p used kind [] (range .first) (attributesFrom (now (attributes .entry)) (now (source .entry)) (range .end - range .first) (range .first)) (fresh kind (take fill (now (text .entry))))) r) ⌝ }
+{
+    let n = range.end - range.first;
+    let e = n * 34 + 32;
+    if (n <= FEW) | ((own.len() < e) | ((kind < SUITE) | (CASE < kind))) {
+        return read_each(kind, attributes, source, range, clear, fill, own, text);
+    }
+    read_cleared(
+        kind,
+        attributes,
+        source,
+        range,
+        clear,
+        fill,
+        &mut own[..e],
+        text,
+    )
+}

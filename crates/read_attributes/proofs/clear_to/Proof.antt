@@ -1,0 +1,24 @@
+use Rattle.read_attributes.proofs.FreeKeys.{free-within}
+use mathlib.Core.Path.{sym, _∙_}
+use borrow.Author.Needs.{needs}
+use Rattle.read_attributes.proofs.clear_to.Statement.{statement}
+use Rattle.read_attributes.proofs.clear_to.Tie as tie
+
+is-within-requires : tie.Need-is-within-requires
+is-within-requires c κs = search needs
+
+returns : tie.Need-returns
+returns c = (free-within (c .before .before .before .before .before .args .attributes .now) (c .before .before .before .before .before .args .source .now) (c .before .before .before .before .before .args .known) (c .before .before .before .before .before .args .range) (c .before .before .before .before .before .pre .1 .1 .1) (sym (c .before .is-within .ensures) ∙ c .if1 .taken), c .before .before .before .before .before .pre .1 .1 .0)
+
+free-to-requires : tie.Need-free-to-requires
+free-to-requires c κs = search needs
+
+same-length : tie.Need-same-length
+same-length c = search needs
+
+returns-2 : tie.Need-returns-2
+returns-2 c = search needs
+
+pub clear-to-spec : {M : Type 1} → statement M
+clear-to-spec =
+    tie.close (tie.spec is-within-requires returns free-to-requires same-length returns-2)

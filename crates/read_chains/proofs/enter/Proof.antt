@@ -1,0 +1,56 @@
+use Prim.Native.Nat.{ℕ, _+_, _-_}
+use Rattle.read_chains.proofs.Chaining.{bucket-fits, entered, never}
+use Rattle.chains.specs.Chains.{bucketOf, Chained}
+use Rattle.read_chains.specs.inside.Falls.{falls}
+use Rattle.read_element.specs.Attributes.{among}
+use Rattle.read_chains.specs.inside.Falls.{keysIn}
+use mathlib.Core.List.{List}
+use mathlib.Core.Path.{sym, ap, subst, _∙_}
+use borrow.Author.Needs.{needs}
+use Rattle.read_chains.proofs.enter.Statement.{statement}
+use Rattle.read_chains.proofs.enter.Tie as tie
+
+key-at-requires : tie.Need-key-at-requires
+key-at-requires c κs = search needs
+
+bucket-requires : tie.Need-bucket-requires
+bucket-requires c κs = search needs
+
+is-chained-requires : tie.Need-is-chained-requires
+is-chained-requires c κs = search needs
+
+same-length : tie.Need-same-length
+same-length c = search needs
+
+returns : tie.Need-returns
+returns c = (sym (c .if1 .taken) ∙ c .before .is-chained .ensures ∙ ap (λ (k : List ℕ). among k (keysIn (c .before .before .before .before .before .before .before .before .args .attributes .now) (c .before .before .before .before .before .before .before .before .args .source .now) (c .before .before .before .before .before .before .before .before .args .first) (c .before .before .before .before .before .before .before .before .args .j))) (c .before .before .before .before .key-at .ensures), λ e. absurd (never e))
+
+sub-link : tie.Need-sub-link
+sub-link c = search needs
+
+link-requires : tie.Need-link-requires
+link-requires c κs = (bucket-fits (c .before .before .before .before .before .before .before .before .before .pre .1 .1 .1 .1) (c .before .before .before .before .before .key-at .result .now) (c .before .before .before .before .bucket .ensures), (c .before .before .before .before .before .before .before .before .before .pre .1 .1 .1 .0, c .before .before .before .before .before .before .before .before .before .pre .1 .1 .0))
+
+same-length-2 : tie.Need-same-length-2
+same-length-2 c = search needs
+
+returns-2 : tie.Need-returns-2
+returns-2 c = let s = c .before .before .before .before .before .before .before .before .before .before .before .before .args in (
+  sym (c .before .before .before .before .if1 .left) ∙ c .before .before .before .before .before .is-chained .ensures ∙ ap (λ (k : List ℕ). among k (keysIn (s .attributes .now) (s .source .now) (s .first) (s .j))) (c .before .before .before .before .before .before .before .before .key-at .ensures),
+  λ _. subst (λ (w : List ℕ). Chained (falls (s .attributes .now) (s .source .now) (s .first) (s .m)) (s .j + 1 - s .first) (s .m) w) (sym (c .before .before .link .ensures))
+      (entered (s .attributes .now) (s .source .now) (s .first) (s .j) (s .m) (c .before .before .before .before .before .before .before .before .before .before .before .before .pre .0) (c .before .before .before .before .before .before .before .before .before .before .before .before .pre .1 .1 .1 .1) (c .before .before .before .before .before .before .before .before .before .before .before .before .pre .1 .1 .1 .0) (c .before .before .before .before .before .before .before .bucket .ensures ∙ ap (bucketOf (s .m)) (c .before .before .before .before .before .before .before .before .key-at .ensures))),
+)
+
+pub enter-spec : {M : Type 1} → statement M
+enter-spec =
+    tie.close
+    (tie.spec
+    key-at-requires
+    bucket-requires
+    is-chained-requires
+    same-length
+    returns
+    sub-link
+    link-requires
+    same-length-2
+    returns-2)

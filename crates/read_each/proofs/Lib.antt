@@ -1,0 +1,3 @@
+pub mod HeldBounds
+pub mod KeysBefore
+pub mod Going

@@ -1,0 +1,78 @@
+use mathlib.Core.Path.{_∙_}
+use lib.ListN.{take}
+use Prim.Native.Nat.{_-_}
+use borrow.Author.Needs.{needs}
+use native.Mathlib.Omega.{arith}
+use Rattle.read_each.specs.inside.Fresh.{fresh}
+use Rattle.read_each.proofs.Going.{Going, going-start, going-fill, going-extras, going-on, going-stopped, going-done}
+use Rattle.read_each.proofs.read_each.Statement.{statement}
+use Rattle.read_each.proofs.read_each.Tie as tie
+
+abbrev Inv-loop : tie.InvT-loop
+Inv-loop kind attributes source range clear fill own₀ text₀ end j₀ given₀ own text j given = Going kind attributes source (range .first) end own₀ text₀ (fresh kind (take fill text₀)) own text j given
+
+abbrev μ-loop : tie.MeasureT-loop
+μ-loop kind attributes source range clear fill own₀ text₀ end j₀ given₀ own text j given = end - j
+
+loop-holds : tie.Need-loop-holds Inv-loop μ-loop
+loop-holds c = going-start (c .before .before .before .before .args .kind) (c .before .before .before .before .args .attributes .now) (c .before .before .before .before .args .source .now) (c .before .before .before .before .args .range .first) (c .before .before .before .before .args .range .end) (c .before .before .before .before .args .own .now) (c .before .before .before .before .args .text .now) (fresh (c .before .before .before .before .args .kind) (take (c .before .before .before .before .args .fill) (c .before .before .before .before .args .text .now))) (c .before .before .before .before .pre .1 .0) (c .before .before .before .before .pre .1 .1 .1 .1 .1 .0)
+
+add-none : tie.Need-add-none Inv-loop μ-loop
+add-none c = let b = going-extras (c .before .before .loop .inv) in omega (arith, c .before .before .before .before .before .before .before .good)
+
+step-attribute-requires : tie.Need-step-attribute-requires Inv-loop μ-loop
+step-attribute-requires c κs = let x = c .before .before .before .before .loop .inv in let a = going-fill x in let b = going-extras x in let q = x .text-same in let l = x .low in let p = c .before .before .before .before .before .before .before .before .before .pre in (omega arith, (omega arith, (omega arith, (p .0, (a, (omega arith, b))))))
+
+add-j : tie.Need-add-j Inv-loop μ-loop
+add-j c = let x = c .before .before .before .before .before .before .before .before .before .loop .inv in omega arith
+
+enum-known-step : tie.Need-enum-known-step Inv-loop μ-loop
+enum-known-step c = search needs
+
+loop-less : tie.Need-loop-less Inv-loop μ-loop
+loop-less c = let x = c .before .before .before .before .before .before .before .before .before .before .before .before .loop .inv in let h = c .before .before .before .before .before .before .before .before .before .before .before .loop-test .taken in omega arith
+
+loop-again : tie.Need-loop-again Inv-loop μ-loop
+loop-again c = going-on (c .before .before .before .before .before .before .before .before .before .before .before .before .loop .inv) (c .before .before .before .before .before .before .before .before .before .before .before .loop-test .taken) (c .before .before .before .before .before .before .before .before .before .before .before .before .before .before .before .before .before .pre .1 .1 .1 .1 .1 .1) (c .before .before .before .before .before .before .before .step-attribute .ensures) (c .before .step .given .1) (c .before .before .before .before .before .before .before .step-attribute .kept .1 .1 .1 .1 .1 .1 .1 .1 .0) (c .before .before .before .before .before .before .before .step-attribute .kept .1 .1 .1 .1 .1 .1 .1 .1 .1 .0)
+
+enum-known-step-2 : tie.Need-enum-known-step-2 Inv-loop μ-loop
+enum-known-step-2 c = search needs
+
+same-length : tie.Need-same-length Inv-loop μ-loop
+same-length c = c .before .before .before .before .before .before .before .step-attribute .kept .1 .1 .1 .1 .1 .1 .1 .1 .0 ∙ c .before .before .before .before .before .before .before .before .before .before .before .before .loop .inv .own-same
+
+same-length-2 : tie.Need-same-length-2 Inv-loop μ-loop
+same-length-2 c = c .before .before .before .before .before .before .before .step-attribute .kept .1 .1 .1 .1 .1 .1 .1 .1 .1 .0 ∙ c .before .before .before .before .before .before .before .before .before .before .before .before .loop .inv .text-same
+
+returns : tie.Need-returns Inv-loop μ-loop
+returns c = going-stopped (c .before .before .before .before .before .before .before .before .before .before .before .before .loop .inv) (c .before .before .before .before .before .before .before .before .before .before .before .loop-test .taken) (c .before .before .before .before .before .before .before .before .before .before .before .before .before .before .before .before .before .pre .1 .1 .1 .1 .1 .1) (c .before .before .before .before .before .before .before .step-attribute .ensures) (c .before .step2 .given .1)
+
+same-length-3 : tie.Need-same-length-3 Inv-loop μ-loop
+same-length-3 c = c .before .loop .inv .own-same
+
+same-length-4 : tie.Need-same-length-4 Inv-loop μ-loop
+same-length-4 c = c .before .loop .inv .text-same
+
+returns-2 : tie.Need-returns-2 Inv-loop μ-loop
+returns-2 c = going-done (c .before .loop .inv) (c .loop-test .left)
+
+pub read-each-spec : {M : Type 1} → statement M
+read-each-spec =
+    tie.close
+    (tie.spec
+    Inv-loop
+    μ-loop
+    loop-holds
+    add-none
+    step-attribute-requires
+    add-j
+    enum-known-step
+    loop-less
+    loop-again
+    enum-known-step-2
+    same-length
+    same-length-2
+    returns
+    same-length-3
+    same-length-4
+    returns-2)

@@ -1,0 +1,63 @@
+use Rattle.read_free.proofs.Going.{Going, going-start, going-room, going-more}
+use Prim.Native.Nat.{_-_}
+use mathlib.Core.Path.{refl, _∙_}
+use native.Mathlib.Omega.{arith}
+use Rattle.read_free.proofs.free_chained.Statement.{statement}
+use Rattle.read_free.proofs.free_chained.Tie as tie
+
+abbrev Inv-loop : tie.InvT-loop
+Inv-loop attributes source first end work₀ m j₀ work j = Going attributes source first end m work₀ work j
+
+abbrev μ-loop : tie.MeasureT-loop
+μ-loop attributes source first end work₀ m j₀ work j = end - j
+
+sub-m : tie.Need-sub-m Inv-loop μ-loop
+sub-m c = omega arith
+
+sub-m-2 : tie.Need-sub-m-2 Inv-loop μ-loop
+sub-m-2 c = omega (arith, c .before .before .before .pre)
+
+loop-holds : tie.Need-loop-holds Inv-loop μ-loop
+loop-holds c = going-start _ _ _ _ _ _ (c .before .before .before .pre .0) (c .before .before .before .pre .1 .1 .1 .0) refl (c .before .before .before .pre .1 .1 .1 .1)
+
+enter-requires : tie.Need-enter-requires Inv-loop μ-loop
+enter-requires c κs = (c .before .before .loop .inv .begun, (omega (arith, c .before .before .before .before .before .before .pre .1 .0), (omega (arith, c .before .before .before .before .before .before .pre .1 .1 .0), (going-room (c .before .before .loop .inv) (c .before .loop-test .taken), c .before .before .loop .inv .chains))))
+
+same-length : tie.Need-same-length Inv-loop μ-loop
+same-length c = c .before .before .before .enter .kept .1 .1 .1 .1 .1 .0 ∙ c .before .before .before .before .before .before .loop .inv .kept
+
+returns : tie.Need-returns Inv-loop μ-loop
+returns c = c .before .before .before .before .before .before .loop .inv .none
+
+add-j : tie.Need-add-j Inv-loop μ-loop
+add-j c = omega (arith, c .before .before .before .before .before .before .before .before .before .before .pre .1 .0, c .before .before .before .before .before .before .before .before .before .before .good, c .before .before .before .before .before .loop-test .taken)
+
+loop-less : tie.Need-loop-less Inv-loop μ-loop
+loop-less c = omega (arith, c .before .before .before .before .before .loop-test .taken)
+
+loop-again : tie.Need-loop-again Inv-loop μ-loop
+loop-again c = going-more (c .before .before .before .before .before .before .loop .inv) (c .before .before .before .before .before .loop-test .taken) (c .before .before .before .enter .kept .1 .1 .1 .1 .1 .0) (c .before .before .before .enter .ensures) (c .if1 .left)
+
+same-length-2 : tie.Need-same-length-2 Inv-loop μ-loop
+same-length-2 c = c .before .loop .inv .kept
+
+returns-2 : tie.Need-returns-2 Inv-loop μ-loop
+returns-2 c = c .before .loop .inv .none
+
+pub free-chained-spec : {M : Type 1} → statement M
+free-chained-spec =
+    tie.close
+    (tie.spec
+    Inv-loop
+    μ-loop
+    sub-m
+    sub-m-2
+    loop-holds
+    enter-requires
+    same-length
+    returns
+    add-j
+    loop-less
+    loop-again
+    same-length-2
+    returns-2)

@@ -1,0 +1,51 @@
+use Rattle.read_free.proofs.Rooms.{roomy, front-zero, whole-zero}
+use Rattle.read_free.proofs.MoreKeys.{unrepeated-none}
+use lib.Seq.{length-take-le}
+use lib.ListN.{length}
+use Prim.Native.Nat.{_-_}
+use mathlib.Core.Path.{sym}
+use native.Mathlib.Omega.{arith}
+use borrow.Author.Needs.{needs}
+use Rattle.read_free.proofs.free_to.Statement.{statement}
+use Rattle.read_free.proofs.free_to.Tie as tie
+
+sub-room-of : tie.Need-sub-room-of
+sub-room-of c = search needs
+
+room-of-requires : tie.Need-room-of-requires
+room-of-requires c κs = search needs
+
+returns : tie.Need-returns
+returns c = (unrepeated-none (c .before .before .before .before .before .args .attributes .now) (c .before .before .before .before .before .args .source .now) (c .before .before .before .before .before .args .first), c .before .before .before .before .before .pre .1 .1)
+
+slice-relend-prefix-free-by-chains : tie.Need-slice-relend-prefix-free-by-chains
+slice-relend-prefix-free-by-chains c = roomy (c .before .before .before .before .before .args .end - c .before .before .before .before .before .args .first) (length (c .before .before .before .before .before .args .work .now)) (c .before .room-of .ensures) (c .if1 .left) .within
+
+slice-aggregate-free-by-chains : tie.Need-slice-aggregate-free-by-chains
+slice-aggregate-free-by-chains c = sym (length-take-le (c .before .before .room-of .result) (c .before .before .before .before .before .before .args .work .now) (roomy (c .before .before .before .before .before .before .args .end - c .before .before .before .before .before .before .args .first) (length (c .before .before .before .before .before .before .args .work .now)) (c .before .before .room-of .ensures) (c .before .if1 .left) .within))
+
+free-by-chains-requires : tie.Need-free-by-chains-requires
+free-by-chains-requires c κs = let y = roomy (c .before .before .before .before .before .before .args .end - c .before .before .before .before .before .before .args .first) (length (c .before .before .before .before .before .before .args .work .now)) (c .before .before .room-of .ensures) (c .before .if1 .left) in
+    let w = c .before .before .before .before .before .before .args .work .now in
+    let l = length-take-le (c .before .before .room-of .result) w (y .within) in
+    (c .before .before .before .before .before .before .pre .0, (c .before .before .before .before .before .before .pre .1 .0, (y .most, (omega arith, front-zero w (y .within) (c .before .before .before .before .before .before .pre .1 .1)))))
+
+same-length : tie.Need-same-length
+same-length c = search needs
+
+returns-2 : tie.Need-returns-2
+returns-2 c = let y = roomy (c .before .before .before .before .before .before .before .before .before .args .end - c .before .before .before .before .before .before .before .before .before .args .first) (length (c .before .before .before .before .before .before .before .before .before .args .work .now)) (c .before .before .before .before .before .room-of .ensures) (c .before .before .before .before .if1 .left) in
+    (c .before .before .free-by-chains .ensures .0, whole-zero (c .before .before .before .before .before .before .before .before .before .args .work .now) (y .within) (c .before .before .before .before .before .before .before .before .before .pre .1 .1) (c .before .before .free-by-chains .ensures .1))
+
+pub free-to-spec : {M : Type 1} → statement M
+free-to-spec =
+    tie.close
+    (tie.spec
+    sub-room-of
+    room-of-requires
+    returns
+    slice-relend-prefix-free-by-chains
+    slice-aggregate-free-by-chains
+    free-by-chains-requires
+    same-length
+    returns-2)

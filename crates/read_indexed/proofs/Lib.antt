@@ -1,0 +1,5 @@
+mod Kept
+mod StoredKeys
+mod Narrow
+mod Noting
+mod Indexing

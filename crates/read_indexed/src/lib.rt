@@ -1,0 +1,120 @@
+// An element's attributes, one after the other. Where there is room behind the records, an extra is found by chains of the stored
+// keys, not by comparing with each.
+use chains::link;
+use read_attribute::Range;
+use read_attribute::Step;
+use read_attribute::step_attribute;
+use read_chains::key::key_at;
+use read_extra_record::Given;
+use read_places::extra_bucket;
+use read_places::place_in;
+ghost use mathlib.Core.Path.{_≡_};
+ghost use mathlib.Core.List.{[]};
+ghost use Prim.Native.Nat.{ℕ, _+_, _-_, _*_, _≤_, _<_};
+ghost use lib.ListN.{length, take, drop};
+ghost use Rattle.area.specs.Area.{zeros};
+ghost use Rattle.text.specs.Value.{valueText};
+ghost use Rattle.table.specs.Event.{keyAt, attributesFrom};
+ghost use Rattle.read_element.specs.Outcome.{Place, Rooms};
+ghost use Rattle.read_element.specs.Attributes.{readAttributes};
+ghost use Rattle.read_element.specs.inside.Held.{placeAt, Held, Roomy};
+ghost use Rattle.read_attribute.specs.inside.Steps.{Matches};
+ghost use Rattle.read_free.specs.inside.Unrepeated.{Unrepeated};
+ghost use Rattle.read_each.specs.inside.Fresh.{fresh};
+ghost use Rattle.read_indexed.specs.inside.Indexed.{Indexed};
+
+// The place of the extra with the key of attribute j among the extras, or their number.
+fn hint_for(
+    attributes: &[u32],
+    source: &[u8],
+    j: usize,
+    extras: usize,
+    k: usize,
+    m: usize,
+    own: &[u32],
+    text: &[u8],
+) -> usize
+    requires { ⌜ j * 5 + 5 ≤ length (now attributes) ⌝ }
+    requires { ⌜ extras ≤ 65536 ⌝ }
+    requires { ⌜ k ≤ length (now own) ⌝ }
+    requires { ⌜ Indexed k m extras (now own) (now text) ⌝ }
+    ensures { λ r. ⌜ r ≡ placeAt (take k (now (own .entry))) (now (text .entry)) (valueText (keyAt (now (attributes .entry)) (now (source .entry)) j)) extras 0 ⌝ }
+{
+    let key = key_at(attributes, source, j);
+    place_in(&own[..k], text, extras, m, key, &own[k..])
+}
+
+// An extra that was put behind the others is entered.
+fn note_extra(extras: usize, next: usize, k: usize, m: usize, own: &mut [u32], text: &[u8])
+    requires { ⌜ extras ≤ next ⌝ }
+    requires { ⌜ next ≤ extras + 1 ⌝ }
+    requires { ⌜ extras < 65536 ⌝ }
+    requires { ⌜ k ≤ length (now own) ⌝ }
+    requires { ⌜ k + m + extras < length (now own) ⌝ }
+    requires { ⌜ Indexed k m extras (now own) (now text) ⌝ }
+    ensures { λ _. ⌜ take k (now (own .exit)) ≡ take k (now (own .entry)) ⌝ }
+    ensures { λ _. ⌜ Indexed k m next (now (own .exit)) (now (text .entry)) ⌝ }
+{
+    if next <= extras {
+        return;
+    }
+    let b = extra_bucket(&own[..k], text, extras, m);
+    link(&mut own[k..], m, b, extras);
+}
+
+// The records stand in the first k words, which have room for an extra from each attribute; the words behind are zero.
+pub fn read_chained(
+    kind: u32,
+    attributes: &[u32],
+    source: &[u8],
+    range: Range,
+    clear: usize,
+    fill: usize,
+    k: usize,
+    m: usize,
+    own: &mut [u32],
+    text: &mut [u8],
+) -> Step
+    requires { ⌜ kind ≤ 12 ⌝ }
+    requires { ⌜ range .first ≤ range .end ⌝ }
+    requires { ⌜ range .end * 5 ≤ length (now attributes) ⌝ }
+    requires { ⌜ range .end ≤ 65536 ⌝ }
+    requires { ⌜ length (now text) ≤ 16777216 ⌝ }
+    requires { ⌜ (range .end - range .first) * 32 + 32 ≤ k ⌝ }
+    requires { ⌜ k + m + (range .end - range .first) ≤ length (now own) ⌝ }
+    requires { ⌜ 0 < m ⌝ }
+    requires { ⌜ Held (take k (now own)) (now text) 0 fill (fresh kind (take fill (now text))) ⌝ }
+    requires { ⌜ drop k (now own) ≡ zeros (length (now own) - k) ⌝ }
+    requires { ⌜ Unrepeated (now attributes) (now source) (range .first) clear ⌝ }
+    ensures { λ r. ⌜ ((rooms : Rooms) (p : Place) (used whole : ℕ) → length (now (own .entry)) ≤ whole → Roomy rooms used whole (length (now (text .entry))) → Matches p (take k (now (own .exit))) (now (text .exit)) (readAttributes rooms p used kind [] (range .first) (attributesFrom (now (attributes .entry)) (now (source .entry)) (range .end - range .first) (range .first)) (fresh kind (take fill (now (text .entry))))) r) ⌝ }
+{
+    let end = range.end;
+    let mut j = range.first;
+    let mut given = Given { extras: 0, fill };
+    while j < end {
+        let free = j < clear;
+        let extras = given.extras;
+        let hint = hint_for(attributes, source, j, extras, k, m, own, text);
+        let step = step_attribute(
+            kind,
+            attributes,
+            source,
+            range,
+            free,
+            hint,
+            j,
+            given,
+            &mut own[..k],
+            text,
+        );
+        j += 1;
+        match step {
+            Step::To(next) => {
+                note_extra(extras, next.extras, k, m, own, text);
+                given = next;
+            }
+            Step::Not(fault) => return Step::Not(fault),
+        }
+    }
+    Step::To(given)
+}

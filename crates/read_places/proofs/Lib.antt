@@ -1,0 +1,2 @@
+mod Placing
+pub mod Unchanged
