@@ -125,7 +125,7 @@ module _ (secs nanos : ℕ) (S : secs < 8388608) (N : nanos < 1000000000) where
       (closest-near (G secs nanos * 1000) (2 ^ 1074) (mod-lt (G secs nanos * 1000) (pow-pos 1074)))
 
   -- twice the written time and twice the stored one, in nanoseconds, differ by less than 1000002
-  over : W * 2000000 < secs * 2000000000 + nanos * 2 + 1000002
+  pub over : W * 2000000 < secs * 2000000000 + nanos * 2 + 1000002
   over =
       cancel (2 ^ 1021) W secs nanos
       (written-over (2 ^ 1021) (W * 2 ^ 1021) (G secs nanos) (Q nanos) (secs * 2 ^ 1021) (nanos * 2 ^ 1021) (pow-pos 1021)
@@ -139,7 +139,7 @@ module _ (secs nanos : ℕ) (S : secs < 8388608) (N : nanos < 1000000000) where
           (lt-of-lt-of-le a (le-of-eq (ap (λ (z : ℕ). z + n * h * 2 + h * 1000002) (mul-right-comm s h 2000000000) ∙ ap (λ (z : ℕ). s * 2000000000 * h + z + h * 1000002) (mul-right-comm n h 2) ∙ ap (λ (z : ℕ). s * 2000000000 * h + n * 2 * h + z) (mul-comm h 1000002)
           ∙ ap (λ (z : ℕ). z + 1000002 * h) (sym (add-mul (s * 2000000000) (n * 2) h)) ∙ sym (add-mul (s * 2000000000 + n * 2) 1000002 h)))))
 
-  under : secs * 2000000000 + nanos * 2 < W * 2000000 + 1000002
+  pub under : secs * 2000000000 + nanos * 2 < W * 2000000 + 1000002
   under =
       cancel (2 ^ 1021) W secs nanos
       (written-under (2 ^ 1021) (W * 2 ^ 1021) (G secs nanos) (Q nanos) (secs * 2 ^ 1021) (nanos * 2 ^ 1021) (pow-pos 1021)
