@@ -1,5 +1,5 @@
 -- The 32 words of a record, docs/TREE.md. A record is the list of its words, or words that begin with it. Definitions only.
-use Prim.Native.Nat.{ℕ, _+_, _*_, _/_, _%_, _^_, min}
+use Prim.Native.Nat.{ℕ, _+_, _-_, _*_, _/_, _%_, _^_, min}
 use mathlib.Core.List.{List}
 use mathlib.Core.Bool.{Bool, cond}
 use lib.ListN.{getD, set, take, drop}
@@ -25,6 +25,10 @@ hasBit k r = eqb (getD r word.bits 0 / maskOf k % 2) 1
 -- the record with the presence bit k set
 unfoldable pub marked : ℕ → List ℕ → List ℕ
 marked k r = cond (hasBit k r) r (set r word.bits (getD r word.bits 0 + maskOf k))
+
+-- the record without it
+unfoldable pub unmarked : ℕ → List ℕ → List ℕ
+unmarked k r = cond (hasBit k r) (set r word.bits (getD r word.bits 0 - maskOf k)) r
 
 -- A text is its start and its length in the text area, at words o and o + 1
 abbrev pub textAt : List ℕ → List ℕ → ℕ → List ℕ

@@ -7,6 +7,7 @@ use native.Mathlib.Omega.{arith}
 use borrow.Author.Tests.{eqb-true, not-true}
 use lib.Dec.{eqb}
 use lib.ListN.{length, length-append}
+pub use Rattle.tree_report.specs.inside.Each.{Each, done, more}
 use Rattle.tree_report.specs.Fields.{kindOf}
 use Rattle.tree_report.specs.ReportOf.{only, until, branches}
 use Rattle.tree_report.specs.Encode.{Cell, stored, storedIn, Row, cellsOf, cellsIn, recordAt, recordsAt, rowsOfEach, every}
@@ -22,10 +23,6 @@ pub and-right : (a b : Bool) → (a && b) ≡ true → b ≡ true
 and-right a b e = and-eq-true-iff a b .0 e .1
 
 -- ---- P of each
-pub data Each {A : Type 0} (P : A → Type 0) : List A → Type 0 where
-  done : Each P []
-  more : {x : A} {xs : List A} → P x → Each P xs → Each P (x ∷ xs)
-
 module _ {A : Type 0} {P : A → Type 0} where
   pub each-append : {xs ys : List A} → Each P xs → Each P ys → Each P (xs ++ ys)
   each-append done q = q
@@ -125,7 +122,7 @@ pub kinds-more : (j : ℕ) (ks : List ℕ) {rows : List Row} → Kinds ks rows �
 kinds-more j ks h = each-on (λ r e. among-more (eqb (r .kind) j) (among ks (r .kind)) e) h
 
 -- a test that fails at all of them
-missed-one : (q : ℕ → Bool) (ks : List ℕ) (k : ℕ) → every (λ j. not (q j)) ks ≡ true → among ks k ≡ true → q k ≡ false
+pub missed-one : (q : ℕ → Bool) (ks : List ℕ) (k : ℕ) → every (λ j. not (q j)) ks ≡ true → among ks k ≡ true → q k ≡ false
 missed-one q [] k e h = absurd (false≢true h)
 missed-one q (j ∷ js) k e h = go (missed-one q js k (and-right (not (q j)) (every (λ i. not (q i)) js) e)) (eqb k j) refl h
   where

@@ -21,7 +21,7 @@ standing-left : {texts : List ℕ} {fill : ℕ} (a b : List Row) (ss : List Cell
 standing-left {texts} {fill} a b ss h =
     subst (λ (l : List Cell). Standing texts fill l) (ap (λ (l : List Cell). l ++ ss) (cells-append a b) ∙ append-assoc (cellsIn a) (cellsIn b) ss) h
 
-run-family : (family : FlakyOrRerun) (k : NonSuccessKind) → cond (leb (kindOfRun family k) 10) flaky rerun ≡ family
+pub run-family : (family : FlakyOrRerun) (k : NonSuccessKind) → cond (leb (kindOfRun family k) 10) flaky rerun ≡ family
 run-family flaky failure = refl
 run-family flaky error = refl
 run-family rerun failure = refl
@@ -42,7 +42,7 @@ all-runs family runs g = only-all isRun (each-record (λ r. isRun r ≡ true) (e
     one : (k : NonSuccessKind) → (leb 9 (kindOfRun family k) && leb (kindOfRun family k) 12) ≡ true
     one k = let b = run-bounds family k in both (le-leb 9 (kindOfRun family k) (b .0)) (le-leb (kindOfRun family k) 12 (b .1))
 
-main-test : (kind : NonSuccessKind) → ((leb 6 (kindOfMain kind) && leb (kindOfMain kind) 8) ≡ true) × ((leb 9 (kindOfMain kind) && leb (kindOfMain kind) 12) ≡ false)
+pub main-test : (kind : NonSuccessKind) → ((leb 6 (kindOfMain kind) && leb (kindOfMain kind) 8) ≡ true) × ((leb 9 (kindOfMain kind) && leb (kindOfMain kind) 12) ≡ false)
 main-test failure = (refl, refl)
 main-test error = (refl, refl)
 
@@ -58,10 +58,10 @@ all-live : (r : Report) (g : ℕ) → Each (λ w. live w ≡ true) (recordsAt g 
 all-live r g = each-on (λ w e. not-false (live w) e) (missed (λ k. not (ltb k 16)) (1 ∷ 2 ∷ suiteKinds) refl (report-kinds r) g)
 
 -- ---- what stands below an element
-abbrev underCase : TestCase → List Row
+abbrev pub underCase : TestCase → List Row
 underCase c = map (pairRow 14) (c .extra) ++ (map (pairRow 5) (c .properties) ++ statusRows (c .status))
 
-abbrev underSuite : TestSuite → List Row
+abbrev pub underSuite : TestSuite → List Row
 underSuite s = map (pairRow 13) (s .extra) ++ (map (pairRow 4) (s .properties) ++ rowsOfEach caseRows (s .cases))
 
 module _ (texts z : List ℕ) where
@@ -165,7 +165,7 @@ module _ (texts z : List ℕ) where
   family-back kind reason rerun (e ∷ runs) fill g = run-family rerun (e .kind)
 
   -- a main of kind 6 or 7
-  nonSuccess-read : (kind : NonSuccessKind) (m : List ℕ) (ms runs : List (List ℕ)) → kindOf m ≡ kindOfMain kind → statusOf (texts ++ z) (m ∷ ms) runs ≡ nonSuccess kind (reasonOf (texts ++ z) m) (kindOfRuns (texts ++ z) m runs) (map (runOf (texts ++ z)) runs)
+  pub nonSuccess-read : (kind : NonSuccessKind) (m : List ℕ) (ms runs : List (List ℕ)) → kindOf m ≡ kindOfMain kind → statusOf (texts ++ z) (m ∷ ms) runs ≡ nonSuccess kind (reasonOf (texts ++ z) m) (kindOfRuns (texts ++ z) m runs) (map (runOf (texts ++ z)) runs)
   nonSuccess-read failure m ms runs e = rw e refl
   nonSuccess-read error m ms runs e = rw e refl
 

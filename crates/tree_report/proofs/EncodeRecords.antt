@@ -26,7 +26,7 @@ pub record Common (texts r : List ℕ) (t : Option Text) (m : Option Moment) (d 
   pub moment : MomentBack r m
   pub time : TimeBack r d
 
-good-common : {texts r : List ℕ} {t : Option Text} {m : Option Moment} {d : Option Duration} → Common texts r t m d → fitsMoment m ≡ true → fitsTime d ≡ true → goodCommon texts r ≡ true
+pub good-common : {texts r : List ℕ} {t : Option Text} {m : Option Moment} {d : Option Duration} → Common texts r t m d → fitsMoment m ≡ true → fitsTime d ≡ true → goodCommon texts r ≡ true
 unfolding goodCommon
 good-common c f g = both (c .text .good) (both (c .moment .good f) (c .time .good g))
 
@@ -80,13 +80,13 @@ module _ (kind : ℕ) (isFlaky : Bool) (e : TestRerun) where
 abbrev pub GoodRow : Row → Type 0
 GoodRow row = (texts : List ℕ) (fill : ℕ) (ss : List Cell) → Standing texts fill (cellsOf row ++ ss) → fitsRow row ≡ true → goodRecord texts (recordAt fill row) ≡ true
 
-fits-times : (row : Row) → fitsRow row ≡ true → (fitsMoment (row .timestamp) ≡ true) × (fitsTime (row .time) ≡ true)
+pub fits-times : (row : Row) → fitsRow row ≡ true → (fitsMoment (row .timestamp) ≡ true) × (fitsTime (row .time) ≡ true)
 unfolding fitsRow
 fits-times row f =
     let g = and-right (every fitsCell (row .first ∷ row .out ∷ row .err ∷ row .second ∷ row .third ∷ row .fourth ∷ row .fifth ∷ row .sixth ∷ [])) (fitsMoment (row .timestamp) && fitsTime (row .time)) f in
     (and-left (fitsMoment (row .timestamp)) (fitsTime (row .time)) g, and-right (fitsMoment (row .timestamp)) (fitsTime (row .time)) g)
 
-other-record : (texts r : List ℕ) → 4 ≤ kindOf r → kindOf r ≤ 14 → goodOther texts r ≡ true → goodRecord texts r ≡ true
+pub other-record : (texts r : List ℕ) → 4 ≤ kindOf r → kindOf r ≤ 14 → goodOther texts r ≡ true → goodRecord texts r ≡ true
 unfolding goodRecord
 other-record texts r l h g =
     let k : ℕ = kindOf r in
@@ -111,7 +111,7 @@ module _ (kind : ℕ) (isFlaky : Bool) (e : TestRerun) where
       (both (both (t .out .good) (t .err .good)) (both (t .type .good) (both (t .description .good) (both (t .stackTrace .good) refl)))))))
 
 -- a property or extra
-abbrev ofPair : Pair → TestRerun
+abbrev pub ofPair : Pair → TestRerun
 ofPair p = record {
   kind = failure;
   timestamp = none;
@@ -135,7 +135,7 @@ pair-back kind p {ss = ss} h z =
     λ i. record { key = key i; value = value i }
 
 -- a main status element
-abbrev ofReason : Reason → TestRerun
+abbrev pub ofReason : Reason → TestRerun
 ofReason r = record {
   kind = failure;
   timestamp = none;
@@ -163,7 +163,7 @@ reason-back kind isFlaky r h z =
     λ i. record { message = t .common .text .back z i; type = t .type .back z i; description = t .description .back z i }
 
 -- a run
-run-kind : (family : FlakyOrRerun) (k : NonSuccessKind) → cond (eqb (kindOfRun family k) 9) failure (cond (eqb (kindOfRun family k) 11) failure error) ≡ k
+pub run-kind : (family : FlakyOrRerun) (k : NonSuccessKind) → cond (eqb (kindOfRun family k) 9) failure (cond (eqb (kindOfRun family k) 11) failure error) ≡ k
 run-kind flaky failure = refl
 run-kind flaky error = refl
 run-kind rerun failure = refl
@@ -175,7 +175,7 @@ run-bounds flaky error = (lit≤ tt, lit≤ tt)
 run-bounds rerun failure = (lit≤ tt, lit≤ tt)
 run-bounds rerun error = (lit≤ tt, lit≤ tt)
 
-run-bits : (kind : ℕ) → 9 ≤ kind → kind ≤ 12 → bitsFor kind ≡ 0 ∷ 1 ∷ 2 ∷ 3 ∷ 4 ∷ 5 ∷ 6 ∷ 7 ∷ []
+pub run-bits : (kind : ℕ) → 9 ≤ kind → kind ≤ 12 → bitsFor kind ≡ 0 ∷ 1 ∷ 2 ∷ 3 ∷ 4 ∷ 5 ∷ 6 ∷ 7 ∷ []
 unfolding bitsFor
 run-bits kind l m = rw (lt-leb kind 5 (omega arith), lt-leb 13 kind (omega arith), lt-leb kind 7 (omega arith), lt-leb kind 8 (omega arith)) refl
 
@@ -248,7 +248,7 @@ pub record CountsBack (r : List ℕ) (c : Counts) : Type 0 where
   pub good : goodCounts r ≡ true
   pub back : counts r ≡ c
 
-counts-back : (r : List ℕ) (c : Counts) → numberAt r 18 ≡ c .tests → numberAt r 20 ≡ c .failures → numberAt r 22 ≡ c .errors → numberAt r 24 ≡ c .skipped → NumberBack r 8 26 (c .disabled) → zeroAt r 28 4 ≡ true → CountsBack r c
+pub counts-back : (r : List ℕ) (c : Counts) → numberAt r 18 ≡ c .tests → numberAt r 20 ≡ c .failures → numberAt r 22 ≡ c .errors → numberAt r 24 ≡ c .skipped → NumberBack r 8 26 (c .disabled) → zeroAt r 28 4 ≡ true → CountsBack r c
 unfolding goodCounts
 counts-back r c t f e s d z = record {
   good = both (d .good) z;
@@ -302,12 +302,12 @@ pub record UuidBack (r : List ℕ) (u : Option Words) : Type 0 where
   pub good : slot (hasBit 1 r) true (zeroAt r 4 4) ≡ true
   pub back : uuid r ≡ u
 
-uuid-back : (r : List ℕ) (fill : ℕ) (fill′ : ℕ) (u : Option Words) → hasBit 1 r ≡ isGiven (uuidFront u) → take 4 (drop 4 r) ≡ firstWord fill (uuidFront u) ∷ secondWord (uuidFront u) ∷ firstWord fill′ (uuidBack u) ∷ secondWord (uuidBack u) ∷ []
+pub uuid-back : (r : List ℕ) (fill : ℕ) (fill′ : ℕ) (u : Option Words) → hasBit 1 r ≡ isGiven (uuidFront u) → take 4 (drop 4 r) ≡ firstWord fill (uuidFront u) ∷ secondWord (uuidFront u) ∷ firstWord fill′ (uuidBack u) ∷ secondWord (uuidBack u) ∷ []
     → Pairing r 4 (firstWord fill (uuidFront u)) (secondWord (uuidFront u)) → Pairing r 6 (firstWord fill′ (uuidBack u)) (secondWord (uuidBack u)) → UuidBack r u
 uuid-back r fill fill′ none b w v v′ = record { good = rw (b, w) refl; back = rw b refl }
 uuid-back r fill fill′ (some u) b w v v′ = record { good = rw b refl; back = rw (b, v .0, v .1, v′ .0, v′ .1) refl }
 
-back-hidden : (u : Option Words) → isGiven (uuidBack u) ≡ false
+pub back-hidden : (u : Option Words) → isGiven (uuidBack u) ≡ false
 back-hidden none = refl
 back-hidden (some u) = refl
 

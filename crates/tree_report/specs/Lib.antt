@@ -3,3 +3,4 @@ pub mod Report
 pub mod Layout
 pub mod ReportOf
 pub mod Encode
+pub mod inside

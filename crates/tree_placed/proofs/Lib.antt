@@ -1,0 +1,11 @@
+pub mod Flags
+pub mod Putting
+pub mod Fronts
+pub mod Growing
+pub mod Changing
+pub mod Records
+pub mod Lists
+pub mod Order
+pub mod Reading
+pub mod Whole
+pub mod Examples

@@ -1,0 +1,1 @@
+// A report's records and texts, wherever the texts stand.
