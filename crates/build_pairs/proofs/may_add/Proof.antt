@@ -1,0 +1,36 @@
+use Rattle.build_pairs.proofs.Places.{may-be-added}
+use mathlib.Core.Logic.{⊎-elim}
+use native.Mathlib.Omega.{arith}
+use mathlib.Core.Path.{_∙_}
+use borrow.Author.Needs.{needs}
+use Rattle.build_pairs.proofs.may_add.Statement.{statement}
+use Rattle.build_pairs.proofs.may_add.Tie as tie
+
+sub-before : tie.Need-sub-before
+sub-before c = search needs
+
+last-of-requires : tie.Need-last-of-requires
+last-of-requires c κs = search needs
+
+is-record-requires : tie.Need-is-record-requires
+is-record-requires c κs = search needs
+
+kind-at-requires : tie.Need-kind-at-requires
+kind-at-requires c κs = search needs
+
+may-stand-behind-requires : tie.Need-may-stand-behind-requires
+may-stand-behind-requires c κs = search needs
+
+returns : tie.Need-returns
+returns c = may-be-added (c .before .before .before .before .before .before .args .b) (c .before .before .before .before .before .before .args .records .now) (c .before .before .before .before .before .before .args .k) (c .before .before .before .before .before .before .args .place) (⊎-elim (λ w. w .1 ∙ (let z = w .0 .taken in omega arith)) (λ w. w .1) (c .before .before .before .before .if1 .came)) (c .before .before .before .last-of .ensures) (c .before .before .is-record .ensures) (c .before .kind-at .ensures) (c .may-stand-behind .ensures)
+
+pub may-add-spec : {M : Type 1} → statement M
+may-add-spec =
+    tie.close
+    (tie.spec
+    sub-before
+    last-of-requires
+    is-record-requires
+    kind-at-requires
+    may-stand-behind-requires
+    returns)

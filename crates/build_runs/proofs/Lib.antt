@@ -1,0 +1,4 @@
+pub mod Flaky
+pub mod Families
+pub mod Turning
+pub mod Settings
