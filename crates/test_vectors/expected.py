@@ -107,7 +107,7 @@ def uuid(s):
 
 
 def entity(s):
-    if utf8(s) not in FIVE: raise Refused(8)
+    if utf8(s) not in FIVE: raise Refused(21)
     return bytes([FIVE[s]]).hex()
 
 

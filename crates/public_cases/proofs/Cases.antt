@@ -1,4 +1,4 @@
--- The proved cases of document 01. Assumes nothing.
+-- The proved cases of document 01 and of request 5. Assumes nothing.
 use mathlib.Core.Path.{_≡_, refl}
 use lib.Ieee.{add, sum, div, ofInt, round, units, odd, size, span, climb}
 use lib.Count.{trailingZeros}
@@ -72,5 +72,6 @@ unfolding utf8.need utf8.low utf8.high codeFrom sameBytes keys tags
     answer.eventsOf
 proved-cases =
     one-case refl (one-case refl (one-case refl (one-case refl (one-case refl (one-case refl (one-case refl
+    (one-case refl (one-case refl (one-case refl (one-case refl (one-case refl (one-case refl (one-case refl
     (one-case refl (one-case refl (one-case refl (one-case refl (one-case refl (one-case refl (one-case refl (one-case {c = agreeing} (refl, refl, refl)
-    (one-case refl (one-case refl (one-case refl (one-case refl no-case))))))))))))))))))
+    (one-case refl (one-case refl (one-case refl (one-case refl no-case)))))))))))))))))))))))))

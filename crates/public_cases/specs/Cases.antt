@@ -1,5 +1,5 @@
 -- Document 01: "Proved cases: the listing above; the nine examples of rows 2–10; `+5` is 5; `8388607.999999999` read exactly; flaky
--- alone is success; an output U+0001, space, `a` keeps its space"; and cases of writing. What is expected is written down, not computed.
+-- alone is success; an output U+0001, space, `a` keeps its space"; cases of request 5; and cases of writing. What is expected is written down, not computed.
 -- Definitions only.
 use Prim.Native.Nat.{ℕ}
 use Prim.Native.String.{String}
@@ -84,6 +84,9 @@ testsuite i e = record { kind = 2; index = i; event = e }
 
 abbrev pub testcase : ℕ → ℕ → PathElement
 testcase i e = record { kind = 3; index = i; event = e }
+
+abbrev pub system-out : PathElement
+system-out = record { kind = 14; index = nowhere; event = nowhere }
 
 abbrev pub attribute : ℕ → PathElement
 attribute k = record { kind = 16; index = k; event = nowhere }
@@ -249,6 +252,62 @@ output =
     ∷ [])
     (reads (ofSuites (spaceKept ∷ [])))
 
+-- ---- request 5: "Keep 8 for a missing report and for Eof inside an element. 20 when the status rule refuses; 21 where a Ref event gave 8"
+-- a case with these status elements
+abbrev pub withStatuses : List Markup → List Markup
+withStatuses ms =
+    start "testsuites" []
+    ∷ start "testsuite" ("name" ≔ "s" ∷ [])
+    ∷ start "testcase" ("name" ≔ "t" ∷ [])
+    ∷ (ms ++ (end "testcase" ∷ end "testsuite" ∷ end "testsuites" ∷ []))
+
+-- testsuites/testsuite[0]("s")/testcase[0]("t"), told at the case's End
+abbrev pub muddled : ℕ → Expected
+muddled e = refuses 20 cause.StatusRule (testsuites ∷ testsuite 0 1 ∷ testcase 0 2 ∷ []) e nowhere
+
+-- "two of the mains"
+abbrev pub twoMains : Case
+twoMains = document (withStatuses (empty "failure" [] ∷ empty "error" [] ∷ [])) (muddled 5)
+
+-- "reruns alone"
+abbrev pub rerunsAlone : Case
+rerunsAlone = document (withStatuses (empty "rerunFailure" [] ∷ [])) (muddled 4)
+
+-- "`skipped` with a flaky or rerun"
+abbrev pub skippedFlaky : Case
+skippedFlaky = document (withStatuses (empty "skipped" [] ∷ empty "flakyError" [] ∷ [])) (muddled 5)
+
+-- "flaky and rerun together"
+abbrev pub flakyAndRerun : Case
+flakyAndRerun = document (withStatuses (empty "failure" [] ∷ empty "flakyFailure" [] ∷ empty "rerunFailure" [] ∷ [])) (muddled 6)
+
+-- testsuites/testsuite[0]("s")/system-out
+abbrev pub unknownName : Case
+unknownName =
+    document (start "testsuites" []
+    ∷ start "testsuite" ("name" ≔ "s" ∷ [])
+    ∷ start "system-out" []
+    ∷ ref "nbsp"
+    ∷ end "system-out"
+    ∷ end "testsuite"
+    ∷ end "testsuites"
+    ∷ [])
+    (refuses 21 cause.UnknownEntity (testsuites ∷ testsuite 0 1 ∷ system-out ∷ []) 3 nowhere)
+
+-- a suite without a report is passed over
+abbrev pub noReport : Case
+noReport = document (empty "testsuite" ("name" ≔ "s" ∷ []) ∷ []) (refuses 8 cause.MissingReport [] 1 nowhere)
+
+-- cut off before the case's End, where the status rule would refuse: testsuites/testsuite[0]("s")/testcase[0]("t")
+abbrev pub cutOff : Case
+cutOff =
+    document (start "testsuites" []
+    ∷ start "testsuite" ("name" ≔ "s" ∷ [])
+    ∷ start "testcase" ("name" ≔ "t" ∷ [])
+    ∷ empty "rerunFailure" []
+    ∷ [])
+    (refuses 8 cause.EofInElement (testsuites ∷ testsuite 0 1 ∷ testcase 0 2 ∷ []) 4 nowhere)
+
 -- ---- "Two tables agree if, after the removals, they have equally many events, with the same kinds, tag names and attributes in order"
 -- the other table has Text, CData, Ref, Other and Indent, another message, and all else at other places of its source
 abbrev pub agreeing : Case
@@ -299,6 +358,13 @@ cases =
     ∷ exact
     ∷ flakyAlone
     ∷ output
+    ∷ twoMains
+    ∷ rerunsAlone
+    ∷ skippedFlaky
+    ∷ flakyAndRerun
+    ∷ unknownName
+    ∷ noReport
+    ∷ cutOff
     ∷ agreeing
     ∷ document workedDocument (writes workedEvents)
     ∷ report full fullEvents

@@ -1,5 +1,5 @@
 -- Demand 3, whole: each of its claims holds. Assumes nothing.
-use Prim.Native.Nat.{ℕ, _≤_, _<_}
+use Prim.Native.Nat.{ℕ, _<_}
 use mathlib.Core.Path.{_≡_, refl, sym, ap, subst, _∙_}
 use mathlib.Core.List.{List, []}
 use mathlib.Core.Bool.{Bool, true, false, cond, true≢false}
@@ -9,7 +9,7 @@ use native.Mathlib.Omega.{arith}
 use borrow.Author.Tests.{leb-false, lt-leb}
 use lib.Dec.{leb}
 use lib.ListN.{length, getD}
-use Rattle.refusal.specs.Refusal.{Refused, Outcome, accepted, refused, number}
+use Rattle.refusal.specs.Refusal.{number, OfRules, Refused, Outcome, accepted, refused}
 use Rattle.refusal.specs.declared.Cause.the-variants.{BadTable}
 use Rattle.tree_report.specs.Report.{Report}
 use Rattle.read_element.specs.Outcome.{roomsOf}
@@ -95,7 +95,7 @@ module _ (t : Table) (a : Areas) where
   refuses-alike : (r : Refused) → answerTo t a ≡ refused r → RefusesTable t r ⊎ (RefusesEvents t r ⊎ LacksRoom r)
   refuses-alike r e = go (reading-refuses (t .events) (t .attributes) (t .source) (a .words) (a .text) (a .scratch) r e)
     where
-      go : (RefusesTable t r × (r .cause ≡ BadTable)) ⊎ (LacksRoom r ⊎ (RefusesEvents t r × (number (r .cause) ≤ 10))) → RefusesTable t r ⊎ (RefusesEvents t r ⊎ LacksRoom r)
+      go : (RefusesTable t r × (r .cause ≡ BadTable)) ⊎ (LacksRoom r ⊎ (RefusesEvents t r × OfRules (number (r .cause)))) → RefusesTable t r ⊎ (RefusesEvents t r ⊎ LacksRoom r)
       go (inl h) = inl (h .0)
       go (inr (inl h)) = inr (inr h)
       go (inr (inr h)) = inr (inl (h .0))

@@ -162,7 +162,7 @@ module _ (p : Place) (k : Control) (m : Marks) (rooms : Rooms) (j : ℕ) (xs : L
   unfolding turn marksAfter perform need
   closed-case e hd li = rw e (came hd (li .0 .0, li .1))
 
-  -- the status rule (8)
+  -- the status rule (20)
   pub closed-not : {r : Performed} → ruled (k .tally) ≡ false → p .attribute ≡ nowhere → r ≡ Not (faultOf StatusRule)
       → Performs (turn (closing case) k .mode) (marksAfter (closing case) (length (s .records)) m) p words text scratch attributes source (perform rooms p (closing case) j xs k m s) r
   unfolding perform need

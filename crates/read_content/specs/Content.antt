@@ -82,7 +82,7 @@ kept true f r = f r
 kept false f r = r
 
 -- ---- pieces of text
--- "pieces decoded one by one (2, 10, 14; CData has no references)", "A Ref event takes the five names only, else 8"
+-- "pieces decoded one by one (2, 10, 14; CData has no references)", "A Ref event takes the five names only, else 8", by request 5 21
 unfoldable pub pieceOf : PieceKind → List ℕ → Answer (List ℕ)
 pieceOf Text s = cond (utf8 s) (cond (refsOk s 0) (gives (decoded s 0)) (refuses cause.BadReference)) (refuses cause.NotUtf8)
 pieceOf CData s = cond (utf8 s) (gives s) (refuses cause.NotUtf8)
@@ -152,7 +152,7 @@ perform rooms p (openSuite e) j xs k m c = adding rooms p kind.suite j xs c
 perform rooms p (openCase e) j xs k m c = adding rooms p kind.case j xs c
 perform rooms p (openStatus s e) j xs k m c = adding rooms p s j xs c
 perform rooms p closeSuite j xs k m c = accepted c
--- the status rule (8)
+-- the status rule (20)
 perform rooms p closeCase j xs k m c = need (ruled (k .tally)) p cause.StatusRule (accepted c)
 perform rooms p closeStatus j xs k m c = describing rooms p m c
 perform rooms p (openText l o) j xs k m c = accepted c

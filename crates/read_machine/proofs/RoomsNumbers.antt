@@ -1,6 +1,6 @@
--- Where areas have no limit, reading refuses with numbers up to 10 only. Assumes nothing.
+-- Where areas have no limit, reading refuses with numbers of the rules only. Assumes nothing.
 use Prim.Native.Nat.{ℕ, _≤_}
-use mathlib.Core.Path.{_≡_, ap}
+use mathlib.Core.Path.{_≡_, refl, ap}
 use mathlib.Core.List.{List, [], _∷_}
 use mathlib.Core.Bool.{Bool, true, false, cond, _&&_}
 use mathlib.Core.Logic.{inl, inr}
@@ -10,11 +10,11 @@ use Rattle.utf8.specs.Utf8.{utf8}
 use Rattle.trim.specs.Trim.{trimmed}
 use Rattle.names.specs.Tags.{tagOf, testsuites, testsuite, testcase, properties, property, stackTrace, system-out, system-err}
 use Rattle.reference.specs.Reference.{refsOk, decoded, isEntity, entityChar}
-use Rattle.refusal.specs.Refusal.{number, Refused, refused}
+use Rattle.refusal.specs.Refusal.{number, OfRules, Refused, refused}
 use Rattle.table.specs.Event.{Attribute, TagKind, Start, Empty, End, PieceKind, Text, CData, Ref, Other, Indent, Event, Tag, Piece, Eof, Fault}
 use Rattle.read_element.specs.Outcome.{Place, there, unlimited}
 use Rattle.read_element.proofs.Rooms.{IsShort, Short, short-refusal}
-use Rattle.read_element.proofs.RoomsNumbers.{UpToTen, fine, low, low-number, low-bind, low-need, low-cond, low-room, low-leaf, low-element}
+use Rattle.read_element.proofs.RoomsNumbers.{ByRules, fine, low, low-number, low-bind, low-need, low-cond, low-room, low-leaf, low-element}
 use Rattle.read_state.specs.Control.{Level, top, suite, case, status, Output, Mode, at, gathering, listing, skipping, finished, Control}
 use Rattle.read_state.specs.Control.{Act, pass, openReport, openSuite, openCase, openStatus, closeSuite, closeCase, closeStatus, openText, closeText, openList, readProperty, stop, missing, broken}
 use Rattle.read_state.specs.Control.{isStatus, orSkip, gathers}
@@ -133,35 +133,35 @@ low-fault (skipping l skipped depth) = lowAct (lit≤ tt)
 low-fault finished = lowAct (lit≤ tt)
 
 -- ---- actions
-low-piece : (p : Place) (k : PieceKind) (s : List ℕ) → UpToTen (there p (pieceOf k s))
+low-piece : (p : Place) (k : PieceKind) (s : List ℕ) → ByRules (there p (pieceOf k s))
 unfolding pieceOf there
-low-piece p Text s = low-leaf p (utf8 s) (refsOk s 0) (decoded s 0) cause.BadReference (lit≤ tt)
-low-piece p CData s = low-leaf p (utf8 s) true s cause.NotUtf8 (lit≤ tt)
-low-piece p Ref s = low-leaf p (utf8 s) (isEntity s) (entityChar s ∷ []) cause.UnknownEntity (lit≤ tt)
+low-piece p Text s = low-leaf p (utf8 s) (refsOk s 0) (decoded s 0) cause.BadReference (inl (lit≤ tt))
+low-piece p CData s = low-leaf p (utf8 s) true s cause.NotUtf8 (inl (lit≤ tt))
+low-piece p Ref s = low-leaf p (utf8 s) (isEntity s) (entityChar s ∷ []) cause.UnknownEntity (inr (inr refl))
 low-piece p Indent s = fine
 low-piece p Other s = fine
 
-low-gather : (p : Place) (mode : Mode) (k : PieceKind) (s : List ℕ) (c : Content) → UpToTen (gather unlimited p mode k s c)
+low-gather : (p : Place) (mode : Mode) (k : PieceKind) (s : List ℕ) (c : Content) → ByRules (gather unlimited p mode k s c)
 unfolding gather
 low-gather p mode k s c = low-bind (low-piece p k s) λ v. low-room _ p cause.ScratchFull fine
 
-low-adding : (p : Place) (kind j : ℕ) (xs : List Attribute) (c : Content) → UpToTen (adding unlimited p kind j xs c)
+low-adding : (p : Place) (kind j : ℕ) (xs : List Attribute) (c : Content) → ByRules (adding unlimited p kind j xs c)
 unfolding adding
 low-adding p kind j xs c = low-bind (low-element p kind j xs (c .records) (c .texts)) λ g. fine
 
-low-keeping : (p : Place) (taken : Bool) (i o k : ℕ) (v : List ℕ) (c : Content) → UpToTen (keeping unlimited p taken i o k v c)
+low-keeping : (p : Place) (taken : Bool) (i o k : ℕ) (v : List ℕ) (c : Content) → ByRules (keeping unlimited p taken i o k v c)
 unfolding keeping
 low-keeping p taken i o k v c = low-room _ p cause.TextFull fine
 
-low-describing : (p : Place) (m : Marks) (c : Content) → UpToTen (describing unlimited p m c)
+low-describing : (p : Place) (m : Marks) (c : Content) → ByRules (describing unlimited p m c)
 unfolding describing
 low-describing p m c = low-cond (isEmpty (trimmed (c .description))) fine (low-bind (low-keeping p true (m .statusAt) 20 6 (c .description) c) λ d. fine)
 
-low-outputting : (p : Place) (l : Level) (o : Output) (m : Marks) (c : Content) → UpToTen (outputting unlimited p l o m c)
+low-outputting : (p : Place) (l : Level) (o : Output) (m : Marks) (c : Content) → ByRules (outputting unlimited p l o m c)
 unfolding outputting
 low-outputting p l o m c = low-bind (low-keeping p _ _ _ _ (c .gathered) c) λ d. fine
 
-low-perform : (p : Place) (a : Act) (j : ℕ) (xs : List Attribute) (k : Control) (m : Marks) (c : Content) → breaking a ≤ 10 → UpToTen (perform unlimited p a j xs k m c)
+low-perform : (p : Place) (a : Act) (j : ℕ) (xs : List Attribute) (k : Control) (m : Marks) (c : Content) → breaking a ≤ 10 → ByRules (perform unlimited p a j xs k m c)
 unfolding perform
 low-perform p (pass n) j xs k m c h = fine
 low-perform p (openReport e) j xs k m c h = low-adding p 1 j xs (withRecords c (killAll (c .records)))
@@ -169,40 +169,45 @@ low-perform p (openSuite e) j xs k m c h = low-adding p 2 j xs c
 low-perform p (openCase e) j xs k m c h = low-adding p 3 j xs c
 low-perform p (openStatus s e) j xs k m c h = low-adding p s j xs c
 low-perform p closeSuite j xs k m c h = fine
-low-perform p closeCase j xs k m c h = low-need _ p cause.StatusRule (lit≤ tt) fine
+low-perform p closeCase j xs k m c h = low-need _ p cause.StatusRule (inr (inl refl)) fine
 low-perform p closeStatus j xs k m c h = low-describing p m c
 low-perform p (openText l o) j xs k m c h = fine
 low-perform p (closeText l o) j xs k m c h = low-outputting p l o m c
 low-perform p (openList l) j xs k m c h = fine
 low-perform p (readProperty l) j xs k m c h = low-adding p (propertyKind l) j xs c
 low-perform p stop j xs k m c h = fine
-low-perform p missing j xs k m c h = low (lit≤ tt)
-low-perform p (broken n) j xs k m c h = low h
+low-perform p missing j xs k m c h = low (inl (lit≤ tt))
+low-perform p (broken n) j xs k m c h = low (inl h)
 
-low-act : (a : Act) (j : ℕ) (xs : List Attribute) (s : Machine) → LowAct a → UpToTen (act unlimited a j xs s)
+low-act : (a : Act) (j : ℕ) (xs : List Attribute) (s : Machine) → LowAct a → ByRules (act unlimited a j xs s)
 unfolding act
 low-act a j xs s (lowAct h) = low-bind (low-perform (actPlace a (s .control .mode) (s .marks)) a j xs (s .control) (s .marks) (s .content) h) λ c. fine
 
-low-step : (e : Event) (s : Machine) → UpToTen (step unlimited e s)
+low-step : (e : Event) (s : Machine) → ByRules (step unlimited e s)
 unfolding step
 low-step (Tag k name j xs) s = low-act _ j xs s (low-plan (s .control .mode) (s .control .seen) k name)
 low-step (Piece k bytes) s = low-bind (low-cond (gathers (s .control .mode)) (low-gather _ (s .control .mode) k bytes (s .content)) fine) λ c. fine
 low-step Eof s = low-act _ 0 [] s (low-eof (s .control .mode) (s .control .seen) (s .control .closed))
 low-step Fault s = low-act _ 0 [] s (low-fault (s .control .mode))
 
-low-run : (es : List Event) (s : Machine) → UpToTen (run unlimited es s)
+low-run : (es : List Event) (s : Machine) → ByRules (run unlimited es s)
 unfolding run
 low-run [] s = low-step Eof s
 low-run (e ∷ es) s = low-bind (low-step e s) λ t. low-run es t
 
-pub run-number : (es : List Event) (s : Machine) (r : Refused) → run unlimited es s ≡ refused r → number (r .cause) ≤ 10
+pub run-number : (es : List Event) (s : Machine) (r : Refused) → run unlimited es s ≡ refused r → OfRules (number (r .cause))
 run-number es s r e = low-number r (low-run es s) e
 
 -- so 12, 13 and 14 always say that room is lacking
+not-room : {n : ℕ} → OfRules n → 12 ≤ n → ¬ (n ≤ 14)
+not-room (inl h) l m = omega arith
+not-room (inr (inl e)) l m = omega arith
+not-room (inr (inr e)) l m = omega arith
+
+pub rules-not-short : (why : Cause) → OfRules (number why) → ¬ IsShort why
+rules-not-short why h (inl e) = let z : number why ≡ 12 = ap number e in not-room h (omega arith) (omega arith)
+rules-not-short why h (inr (inl e)) = let z : number why ≡ 13 = ap number e in not-room h (omega arith) (omega arith)
+rules-not-short why h (inr (inr e)) = let z : number why ≡ 14 = ap number e in not-room h (omega arith) (omega arith)
+
 pub never-short : (es : List Event) (s : Machine) → ¬ Short (run unlimited es s)
-never-short es s h = let q = short-refusal h in high (q .0 .cause) (run-number es s (q .0) (q .1)) (q .2)
-  where
-    high : (why : Cause) → number why ≤ 10 → ¬ IsShort why
-    high why l (inl e) = let z : number why ≡ 12 = ap number e in omega arith
-    high why l (inr (inl e)) = let z : number why ≡ 13 = ap number e in omega arith
-    high why l (inr (inr e)) = let z : number why ≡ 14 = ap number e in omega arith
+never-short es s h = let q = short-refusal h in rules-not-short (q .0 .cause) (run-number es s (q .0) (q .1)) (q .2)

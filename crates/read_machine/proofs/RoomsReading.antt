@@ -5,7 +5,7 @@ use mathlib.Core.List.{List, []}
 use mathlib.Core.Option.{Option}
 use mathlib.Core.Logic.{_⊎_, inl, inr}
 use native.Mathlib.Omega.{arith}
-use Rattle.refusal.specs.Refusal.{number, Refused, Outcome, accepted, refused}
+use Rattle.refusal.specs.Refusal.{number, OfRules, Refused, Outcome, accepted, refused}
 use Rattle.table.specs.Event.{Event, resolve}
 use Rattle.table.specs.Table.{checkOf, checkedAnswer, tableOf}
 use Rattle.table.specs.declared.Checked.{Checked}
@@ -101,22 +101,22 @@ module _ (events attributes source : List ℕ) (words text scratch : ℕ) where
 
   -- if reading refuses, the table is refused, or room is lacking, or deserializing refuses alike; the cause tells which
   pub reading-refuses : (r : Refused) → answer ≡ refused r →
-      ((table ≡ refused r) × (r .cause ≡ cause.BadTable)) ⊎ (IsShort (r .cause) ⊎ ((deserialize es ≡ refused r) × (number (r .cause) ≤ 10)))
+      ((table ≡ refused r) × (r .cause ≡ cause.BadTable)) ⊎ (IsShort (r .cause) ⊎ ((deserialize es ≡ refused r) × OfRules (number (r .cause))))
   unfolding reading _>>=_
   reading-refuses r e = go (both-refuse words text scratch table lent r e)
     where
-      free : IsShort (r .cause) ⊎ (run unlimited es begin ≡ refused r) → IsShort (r .cause) ⊎ ((deserialize es ≡ refused r) × (number (r .cause) ≤ 10))
+      free : IsShort (r .cause) ⊎ (run unlimited es begin ≡ refused r) → IsShort (r .cause) ⊎ ((deserialize es ≡ refused r) × OfRules (number (r .cause)))
       free (inl h) = inl h
       free (inr q) = inr (deserialize-of es (refused r) q, run-number es begin r q)
 
-      go : (table ≡ refused r) ⊎ (lent ≡ refused r) → ((table ≡ refused r) × (r .cause ≡ cause.BadTable)) ⊎ (IsShort (r .cause) ⊎ ((deserialize es ≡ refused r) × (number (r .cause) ≤ 10)))
+      go : (table ≡ refused r) ⊎ (lent ≡ refused r) → ((table ≡ refused r) × (r .cause ≡ cause.BadTable)) ⊎ (IsShort (r .cause) ⊎ ((deserialize es ≡ refused r) × OfRules (number (r .cause))))
       go (inl q) = inl (q, table-refuses events attributes source r q)
       go (inr q) = inr (free (refuses-so r agree q))
 
   pub reading-refuses-so : (r : Refused) → answer ≡ refused r → ¬ (r .cause ≡ cause.BadTable) → ¬ IsShort (r .cause) → deserialize es ≡ refused r
   reading-refuses-so r e n k = go (reading-refuses r e)
     where
-      go : ((table ≡ refused r) × (r .cause ≡ cause.BadTable)) ⊎ (IsShort (r .cause) ⊎ ((deserialize es ≡ refused r) × (number (r .cause) ≤ 10))) → deserialize es ≡ refused r
+      go : ((table ≡ refused r) × (r .cause ≡ cause.BadTable)) ⊎ (IsShort (r .cause) ⊎ ((deserialize es ≡ refused r) × OfRules (number (r .cause)))) → deserialize es ≡ refused r
       go (inl q) = absurd (n (q .1))
       go (inr (inl h)) = absurd (k h)
       go (inr (inr q)) = q .0

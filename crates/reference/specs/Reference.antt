@@ -41,7 +41,7 @@ abbrev pub entityAnswer : Entity → Answer ℕ
 entityAnswer (of-entity.Is c) = gives c
 entityAnswer of-entity.Unknown = refuses cause.UnknownEntity
 
--- "A Ref event takes the five names only, else 8"
+-- "A Ref event takes the five names only, else 8", by request 5 21
 abbrev pub entityOf : List ℕ → Answer ℕ
 entityOf name = cond (isEntity name) (gives (entityChar name)) (refuses cause.UnknownEntity)
 

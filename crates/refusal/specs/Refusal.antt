@@ -1,7 +1,10 @@
--- Document 01, "Seventeen refusals": the number of each cause, the path, event and attribute that a refusal carries. Definitions only.
-use Prim.Native.Nat.{ℕ, _+_, _-_}
+-- Document 01, "Seventeen refusals", and request 5: the number of each cause, the path, event and attribute that a refusal carries.
+-- Definitions only.
+use Prim.Native.Nat.{ℕ, _+_, _-_, _≤_}
+use mathlib.Core.Path.{_≡_}
 use mathlib.Core.List.{List, [], _++_}
 use mathlib.Core.Bool.{cond}
+use mathlib.Core.Logic.{_⊎_}
 use lib.ListN.{length, set, replicate}
 use lib.Dec.{ltb}
 use Rattle.refusal.specs.declared.Cause.{Cause}
@@ -27,8 +30,8 @@ number BadUuid = 6
 number MissingAttribute = 7
 number MissingReport = 8
 number EofInElement = 8
-number StatusRule = 8
-number UnknownEntity = 8
+number StatusRule = 20
+number UnknownEntity = 21
 number FaultyAttribute = 9
 number RepeatedKey = 9
 number BadReference = 10
@@ -39,6 +42,10 @@ number ScratchFull = 14
 number NotLayout = 15
 number OutputFull = 16
 number CountLimit = 17
+
+-- the numbers that the rules of reading give: 1 to 10 and, by request 5, "20 when the status rule refuses; 21 where a Ref event gave 8"
+abbrev pub OfRules : ℕ → Type 0
+OfRules n = (n ≤ 10) ⊎ ((n ≡ 20) ⊎ (n ≡ 21))
 
 -- "a path of at most six elements": behind them stand fillers
 abbrev pub filler : PathElement
@@ -69,7 +76,7 @@ pub data Outcome (A : Type 0) : Type 0 where
 abbrev pub refusalFrom : Refused → Refusal
 refusalFrom r = record { cause = r .cause; path = pathFrom (r .path); event = r .event; attribute = r .attribute }
 
--- "4294967295 stands where none is concerned, for both from 15 on", with an empty path
+-- "4294967295 stands where none is concerned, for both from 15 on", with an empty path; 20 and 21 "keep 8's path, numbers"
 abbrev pub late : Cause → Refused
 late cause = record { cause = cause; path = []; event = nowhere; attribute = nowhere }
 

@@ -45,8 +45,8 @@ pub fn number_of(cause: Cause) -> u32
         Cause::MissingAttribute => 7,
         Cause::MissingReport => 8,
         Cause::EofInElement => 8,
-        Cause::StatusRule => 8,
-        Cause::UnknownEntity => 8,
+        Cause::StatusRule => 20,
+        Cause::UnknownEntity => 21,
         Cause::FaultyAttribute => 9,
         Cause::RepeatedKey => 9,
         Cause::BadReference => 10,
@@ -114,7 +114,7 @@ impl Path {
     }
 }
 
-// A refusal that concerns no event and no attribute: all from 15 on.
+// A refusal that concerns no event and no attribute: 15 to 17.
 pub fn refuse_late(cause: Cause) -> Refusal
     ensures { λ r. ⌜ r ≡ refusalFrom (late cause) ⌝ }
 {

@@ -10,7 +10,7 @@ use borrow.Author.Tests.{le-leb}
 use lib.ListN.{length}
 use Rattle.area.specs.Limits.{mostRecords}
 use Rattle.area.specs.Answer.{Answer}
-use Rattle.refusal.specs.Refusal.{number, Refused, Outcome, accepted, refused}
+use Rattle.refusal.specs.Refusal.{number, OfRules, Refused, Outcome, accepted, refused}
 use Rattle.refusal.specs.declared.Cause.the-variants.{BadTable}
 use Rattle.table.specs.Table.{tableOf}
 use Rattle.tree_report.specs.Report.{Report}
@@ -21,7 +21,7 @@ use Rattle.read_element.specs.Outcome.{_>>=_, roomsOf, unlimited}
 use Rattle.read_element.proofs.Rooms.{short-refusal}
 use Rattle.read_machine.specs.Machine.{Machine, run, begin}
 use Rattle.read_machine.specs.Reading.{Read, readAs, reading, deserialize}
-use Rattle.read_machine.proofs.RoomsNumbers.{run-number}
+use Rattle.read_machine.proofs.RoomsNumbers.{run-number, rules-not-short}
 use Rattle.read_machine.proofs.RoomsReading.{table-refuses, reading-accepts, reading-refuses, deserialize-refuses, areas-suffice}
 use Rattle.read_machine.proofs.TreeReading.{reading-layout, reading-report, reading-some, resolve-fair}
 use Rattle.write_report.specs.Written.{written}
@@ -91,13 +91,13 @@ module _ (t : Table) (a : Areas) where
         };
       }
 
-  refuses-for : (why : Refused) → answerTo t a ≡ refused why → (RefusesTable t why × (why .cause ≡ BadTable)) ⊎ (LacksRoom why ⊎ (RefusesEvents t why × (number (why .cause) ≤ 10)))
+  refuses-for : (why : Refused) → answerTo t a ≡ refused why → (RefusesTable t why × (why .cause ≡ BadTable)) ⊎ (LacksRoom why ⊎ (RefusesEvents t why × OfRules (number (why .cause))))
   refuses-for = reading-refuses (t .events) (t .attributes) (t .source) (a .words) (a .text) (a .scratch)
 
   accepts-all : (r : Report) → Passes t → IsReport t r → (answerTo t a ≡ accepted tt) ⊎ Short t a
   accepts-all r p d = go (either (answerTo t a))
     where
-      short : (why : Refused) → answerTo t a ≡ refused why → (RefusesTable t why × (why .cause ≡ BadTable)) ⊎ (LacksRoom why ⊎ (RefusesEvents t why × (number (why .cause) ≤ 10))) → Short t a
+      short : (why : Refused) → answerTo t a ≡ refused why → (RefusesTable t why × (why .cause ≡ BadTable)) ⊎ (LacksRoom why ⊎ (RefusesEvents t why × OfRules (number (why .cause)))) → Short t a
       short why e (inl h) = both-answers p (h .0)
       short why e (inr (inl h)) = record { why = why; refuses = e; lacks = h }
       short why e (inr (inr h)) = both-answers d (h .0)
@@ -107,11 +107,11 @@ module _ (t : Table) (a : Areas) where
       go (inr h) = inr (short (h .0) (h .1) (refuses-for (h .0) (h .1)))
 
   -- ---- B
-  refuses-only : (why : Refused) → answerTo t a ≡ refused why → (RefusesTable t why × (number (why .cause) ≡ 11)) ⊎ ((RefusesEvents t why × (number (why .cause) ≤ 10)) ⊎ LacksRoom why)
+  refuses-only : (why : Refused) → answerTo t a ≡ refused why → (RefusesTable t why × (number (why .cause) ≡ 11)) ⊎ ((RefusesEvents t why × OfRules (number (why .cause))) ⊎ LacksRoom why)
   refuses-only why e = go (refuses-for why e)
     where
-      go : (RefusesTable t why × (why .cause ≡ BadTable)) ⊎ (LacksRoom why ⊎ (RefusesEvents t why × (number (why .cause) ≤ 10)))
-          → (RefusesTable t why × (number (why .cause) ≡ 11)) ⊎ ((RefusesEvents t why × (number (why .cause) ≤ 10)) ⊎ LacksRoom why)
+      go : (RefusesTable t why × (why .cause ≡ BadTable)) ⊎ (LacksRoom why ⊎ (RefusesEvents t why × OfRules (number (why .cause))))
+          → (RefusesTable t why × (number (why .cause) ≡ 11)) ⊎ ((RefusesEvents t why × OfRules (number (why .cause))) ⊎ LacksRoom why)
       go (inl h) = inl (h .0, ap number (h .1))
       go (inr (inl h)) = inr (inr h)
       go (inr (inr h)) = inr (inl h)
@@ -148,8 +148,7 @@ module _ (t : Table) (a : Areas) where
       go : Passes t ⊎ ((why : Refused) × RefusesTable t why) → ⊥
       go (inl p) =
           let e : answerTo t a ≡ readAs (a .words) (a .text) (a .scratch) free .outcome = spared ∙ ap (λ (o : Outcome (Unit {0})). readAs (a .words) (a .text) (a .scratch) (o >>= λ _. free) .outcome) p in
-          let q = run-number (eventsOf t) begin (s .why) (run-refuses free (s .why) (sym e ∙ s .refuses)) in
-          omega (arith, q, short-number (s .why) (s .lacks))
+          rules-not-short (s .why .cause) (run-number (eventsOf t) begin (s .why) (run-refuses free (s .why) (sym e ∙ s .refuses))) (s .lacks)
       go (inr q) =
           let z : q .0 ≡ s .why = same-refusal (refuses-table (q .0) (q .1)) (s .refuses) in
           let e : number (s .why .cause) ≡ 11 = ap (λ (w : Refused). number (w .cause)) (sym z) ∙ ap number (table-refuses (t .events) (t .attributes) (t .source) (q .0) (q .1)) in

@@ -28,7 +28,7 @@ use mathlib.Core.Option.{some}
 use mathlib.Core.Logic.{_⊎_}
 use lib.ListN.{length, take}
 use Rattle.area.specs.Limits.{mostEntries, mostRecords, mostWords, mostBytes}
-use Rattle.refusal.specs.Refusal.{number, Refused, Outcome, accepted, refused}
+use Rattle.refusal.specs.Refusal.{number, OfRules, Refused, Outcome, accepted, refused}
 use Rattle.table.specs.Table.{tableOf}
 use Rattle.tree_report.specs.Report.{Report}
 use Rattle.tree_report.specs.Layout.{layout}
@@ -144,9 +144,9 @@ pub record Demand2 : Type 0 where
   pub acceptsOnly : (t : Table) (a : Areas) → answerTo t a ≡ accepted tt → Accepted t a
   -- A. What the rules of reading accept, reading accepts, unless 11 refuses the table or room is short.
   pub acceptsAll : (t : Table) (a : Areas) (r : Report) → Passes t → IsReport t r → (answerTo t a ≡ accepted tt) ⊎ Short t a
-  -- B. A refusal is 11, or what the rules of reading refuse with, 1 to 10, or room is short, 12 to 14.
+  -- B. A refusal is 11, or what the rules of reading refuse with, 1 to 10, 20 or 21, or room is short, 12 to 14.
   pub refusesOnly : (t : Table) (a : Areas) (why : Refused) → answerTo t a ≡ refused why →
-      (RefusesTable t why × (number (why .cause) ≡ 11)) ⊎ ((RefusesEvents t why × (number (why .cause) ≤ 10)) ⊎ LacksRoom why)
+      (RefusesTable t why × (number (why .cause) ≡ 11)) ⊎ ((RefusesEvents t why × OfRules (number (why .cause))) ⊎ LacksRoom why)
   -- B. 11 comes first.
   pub refusesTable : (t : Table) (a : Areas) (why : Refused) → RefusesTable t why → answerTo t a ≡ refused why
   -- B. What the rules of reading refuse, reading refuses alike, unless room is short.

@@ -37,7 +37,7 @@ pub fn show_kept(kept: Kept, full: u64, room: &[u8; 64]) {
         Kept::Full => show_refusal(full),
         Kept::NotUtf8 => show_refusal(2),
         Kept::BadReference => show_refusal(10),
-        Kept::UnknownName => show_refusal(8),
+        Kept::UnknownName => show_refusal(21),
     }
 }
 

@@ -18,7 +18,7 @@ numbered : referenceOf 9 (0x23 ∷ 0x36 ∷ 0x35 ∷ []) ≡ refuses cause.Unkno
 unfolding need low high isEntity entities sameBytes codeFrom
 numbered = refl
 
--- FF as the name of a Ref event: 2 comes before 8
+-- FF as the name of a Ref event: 2 comes before 21
 two-before-eight : referenceOf 9 (0xFF ∷ []) ≡ refuses cause.NotUtf8
 unfolding need low high
 two-before-eight = refl

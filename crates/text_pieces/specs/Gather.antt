@@ -23,7 +23,7 @@ cdataOf n s = cond (utf8 s) (placing cause.ScratchFull n s) (refuses cause.NotUt
 abbrev pub cdataLaid : List ℕ → List ℕ → List ℕ
 cdataLaid out s = cond (utf8 s) (laid out s) out
 
--- "A Ref event takes the five names only, else 8"
+-- "A Ref event takes the five names only, else 8", by request 5 21
 abbrev pub referenceText : List ℕ → List ℕ
 referenceText name = entityChar name ∷ []
 

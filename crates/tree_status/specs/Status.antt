@@ -15,7 +15,7 @@ tallied t k =
     (cond (leb k kind.flakyError) (record { mains = t .mains; main = t .main; flaky = suc (t .flaky); reruns = t .reruns })
     (record { mains = t .mains; main = t .main; flaky = t .flaky; reruns = suc (t .reruns) }))
 
--- "Refused (8): two of the mains [..]; reruns [..] alone; `skipped` with a flaky [..] or rerun; flaky and rerun together"
+-- "Refused (8)", by request 5 20: "two of the mains [..]; reruns [..] alone; `skipped` with a flaky [..] or rerun; flaky and rerun together"
 unfoldable pub ruled : Tally → Bool
 ruled t =
     leb (t .mains) 1
