@@ -107,7 +107,8 @@ def uuid(s):
 
 
 def entity(s):
-    if utf8(s) not in FIVE: raise Refused(21)
+    if utf8(s)[:1] == b"#": return named(s).hex()
+    if s not in FIVE: raise Refused(21)
     return bytes([FIVE[s]]).hex()
 
 

@@ -3,6 +3,7 @@ use mathlib.Core.Path.{_≡_, refl}
 use lib.Ieee.{add, sum, div, ofInt, round, units, odd, size, span, climb}
 use lib.Count.{trailingZeros}
 use Rattle.utf8.specs.Utf8 as utf8
+use Rattle.utf8.specs.Characters as chars
 use Rattle.names.specs.Bytes.{bytes}
 use Rattle.names.specs.Names.{codeFrom, sameBytes}
 use Rattle.names.specs.Keys.{keys}
@@ -52,7 +53,8 @@ unfolding utf8.need utf8.low utf8.high codeFrom sameBytes keys tags
     digits.digit digits.isNumber digits.places digits.decimal unsigned makeTime
     timeText thousandthsOf floatSum add sum div ofInt round units odd size span climb trailingZeros
     isLeap monthLength stamp.isTimestamp stamp.timestampOf isUuid uuidOf
-    reference.entities reference.entityChars reference.isEntity reference.entityChar reference.isCharRef reference.refAt letter listed
+    reference.entities reference.entityChars reference.isEntity reference.entityChar reference.isCharRef reference.refAt
+    reference.base reference.digitsIn reference.number reference.xmlChar chars.encode letter listed
     table.goodAttribute table.goodShape table.badFrom table.checkEvent table.checkFrom table.goodSizes table.checkOf
     event.attributesFrom event.eventOf event.eventAt event.resolveFrom event.resolve tallied ruled
     layout.goodText layout.goodTextAt layout.goodCommon layout.goodOutputs layout.goodCounts layout.goodReport layout.goodSuite layout.goodCase
@@ -74,4 +76,5 @@ proved-cases =
     one-case refl (one-case refl (one-case refl (one-case refl (one-case refl (one-case refl (one-case refl
     (one-case refl (one-case refl (one-case refl (one-case refl (one-case refl (one-case refl (one-case refl
     (one-case refl (one-case refl (one-case refl (one-case refl (one-case refl (one-case refl (one-case refl (one-case {c = agreeing} (refl, refl, refl)
-    (one-case refl (one-case refl (one-case refl (one-case refl no-case)))))))))))))))))))))))))
+    (one-case refl (one-case refl (one-case refl (one-case refl
+    (one-case refl (one-case refl (one-case refl no-case))))))))))))))))))))))))))))

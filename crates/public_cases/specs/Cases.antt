@@ -1,5 +1,6 @@
 -- Document 01: "Proved cases: the listing above; the nine examples of rows 2–10; `+5` is 5; `8388607.999999999` read exactly; flaky
--- alone is success; an output U+0001, space, `a` keeps its space"; cases of request 5; and cases of writing. What is expected is written down, not computed.
+-- alone is success; an output U+0001, space, `a` keeps its space"; cases of requests 3 and 5; and cases of writing. What is expected is written down, not
+-- computed.
 -- Definitions only.
 use Prim.Native.Nat.{ℕ}
 use Prim.Native.String.{String}
@@ -308,6 +309,39 @@ cutOff =
     ∷ [])
     (refuses 8 cause.EofInElement (testsuites ∷ testsuite 0 1 ∷ testcase 0 2 ∷ []) 4 nowhere)
 
+-- ---- request 3: "a Ref event whose name begins with `#` is read as in an attribute value"
+abbrev pub numbered : List Markup → Expected → Case
+numbered ms e =
+    document (start "testsuites" []
+    ∷ start "testsuite" ("name" ≔ "s" ∷ [])
+    ∷ start "system-out" []
+    ∷ ms
+    ++ (end "system-out" ∷ end "testsuite" ∷ end "testsuites" ∷ []))
+    e
+
+-- U+00E9 twice
+abbrev pub twoAccents : TestSuite
+twoAccents =
+    record {
+      name = bytes "s";
+      counts = noCounts;
+      timestamp = none;
+      time = none;
+      cases = [];
+      properties = [];
+      systemOut = some (0xC3 ∷ 0xA9 ∷ 0xC3 ∷ 0xA9 ∷ []);
+      systemErr = none;
+      extra = [];
+    }
+
+-- "A bad number is 10 instead of 8"
+abbrev pub references : List Case
+references =
+    numbered (ref "#233" ∷ ref "#xe9" ∷ []) (reads (ofSuites (twoAccents ∷ [])))
+    ∷ numbered (ref "#0" ∷ []) (refuses 10 cause.BadReference (testsuites ∷ testsuite 0 1 ∷ system-out ∷ []) 3 nowhere)
+    ∷ numbered (ref "#" ∷ []) (refuses 10 cause.BadReference (testsuites ∷ testsuite 0 1 ∷ system-out ∷ []) 3 nowhere)
+    ∷ []
+
 -- ---- "Two tables agree if, after the removals, they have equally many events, with the same kinds, tag names and attributes in order"
 -- the other table has Text, CData, Ref, Other and Indent, another message, and all else at other places of its source
 abbrev pub agreeing : Case
@@ -370,4 +404,4 @@ cases =
     ∷ report full fullEvents
     ∷ report oneFlaky oneFlakyEvents
     ∷ report emptyOutput emptyOutputEvents
-    ∷ []
+    ∷ references

@@ -6,9 +6,10 @@ use lib.ListN.{length, set}
 use lib.Dec.{leb, eqb}
 use Rattle.area.specs.Answer.{Answer, gives, refuses}
 use Rattle.utf8.specs.Utf8.{utf8}
+use Rattle.utf8.specs.Characters.{encode}
 use Rattle.trim.specs.Trim.{trimmed}
 use Rattle.text.specs.Filter.{filtered}
-use Rattle.reference.specs.Reference.{refsOk, decoded, isEntity, entityChar}
+use Rattle.reference.specs.Reference.{refsOk, decoded, isNamed, charOf, unnamed}
 use Rattle.refusal.specs.Refusal.{Outcome, accepted}
 use Rattle.table.specs.Event.{Attribute, PieceKind, Text, CData, Ref, Other, Indent}
 use Rattle.tree_record.specs.Words as word
@@ -82,11 +83,12 @@ kept true f r = f r
 kept false f r = r
 
 -- ---- pieces of text
--- "pieces decoded one by one (2, 10, 14; CData has no references)", "A Ref event takes the five names only, else 8", by request 5 21
+-- "pieces decoded one by one (2, 10, 14; CData has no references)", a Ref event's name stands for what it does in a value, else 21 (request 5),
+-- or 10 for a number (request 3)
 unfoldable pub pieceOf : PieceKind → List ℕ → Answer (List ℕ)
 pieceOf Text s = cond (utf8 s) (cond (refsOk s 0) (gives (decoded s 0)) (refuses cause.BadReference)) (refuses cause.NotUtf8)
 pieceOf CData s = cond (utf8 s) (gives s) (refuses cause.NotUtf8)
-pieceOf Ref s = cond (utf8 s) (cond (isEntity s) (gives (entityChar s ∷ [])) (refuses cause.UnknownEntity)) (refuses cause.NotUtf8)
+pieceOf Ref s = cond (utf8 s) (cond (isNamed s) (gives (encode (charOf s))) (refuses (unnamed s))) (refuses cause.NotUtf8)
 pieceOf Indent s = gives s
 pieceOf Other s = gives []
 

@@ -7,9 +7,10 @@ use mathlib.Core.Logic.{inl, inr}
 use native.Mathlib.Omega.{arith}
 use lib.Dec.{eqb, lit≤}
 use Rattle.utf8.specs.Utf8.{utf8}
+use Rattle.utf8.specs.Characters.{encode}
 use Rattle.trim.specs.Trim.{trimmed}
 use Rattle.names.specs.Tags.{tagOf, testsuites, testsuite, testcase, properties, property, stackTrace, system-out, system-err}
-use Rattle.reference.specs.Reference.{refsOk, decoded, isEntity, entityChar}
+use Rattle.reference.specs.Reference.{refsOk, decoded, isNumeric, isNamed, charOf, unnamed}
 use Rattle.refusal.specs.Refusal.{number, OfRules, Refused, refused}
 use Rattle.table.specs.Event.{Attribute, TagKind, Start, Empty, End, PieceKind, Text, CData, Ref, Other, Indent, Event, Tag, Piece, Eof, Fault}
 use Rattle.read_element.specs.Outcome.{Place, there, unlimited}
@@ -133,11 +134,18 @@ low-fault (skipping l skipped depth) = lowAct (lit≤ tt)
 low-fault finished = lowAct (lit≤ tt)
 
 -- ---- actions
+rules-unnamed : (name : List ℕ) → OfRules (number (unnamed name))
+rules-unnamed name = go (isNumeric name)
+  where
+    go : (t : Bool) → OfRules (number (cond t cause.BadReference cause.UnknownEntity))
+    go true = inl (lit≤ tt)
+    go false = inr (inr refl)
+
 low-piece : (p : Place) (k : PieceKind) (s : List ℕ) → ByRules (there p (pieceOf k s))
 unfolding pieceOf there
 low-piece p Text s = low-leaf p (utf8 s) (refsOk s 0) (decoded s 0) cause.BadReference (inl (lit≤ tt))
 low-piece p CData s = low-leaf p (utf8 s) true s cause.NotUtf8 (inl (lit≤ tt))
-low-piece p Ref s = low-leaf p (utf8 s) (isEntity s) (entityChar s ∷ []) cause.UnknownEntity (inr (inr refl))
+low-piece p Ref s = low-leaf p (utf8 s) (isNamed s) (encode (charOf s)) (unnamed s) (rules-unnamed s)
 low-piece p Indent s = fine
 low-piece p Other s = fine
 

@@ -7,13 +7,14 @@ use native.Mathlib.Omega.{arith}
 use lib.Dec.{leb, lit≤}
 use lib.ListN.{length}
 use Rattle.area.specs.Answer.{gives, refuses}
+use Rattle.utf8.specs.Characters.{encode}
 use Rattle.utf8.specs.Utf8.{utf8}
 use Rattle.utf8.proofs.Rules.{utf8-append}
 use Rattle.trim.specs.Trim.{trimmed}
 use Rattle.trim.proofs.Ends.{utf8-trimmed}
 use Rattle.text.proofs.Filtering.{utf8-filtered, unfiltered-filtered}
 use Rattle.text_pieces.proofs.Gathering.{utf8-reference}
-use Rattle.reference.specs.Reference.{refsOk, decoded, isEntity, entityChar}
+use Rattle.reference.specs.Reference.{refsOk, decoded, isNamed, charOf, unnamed}
 use Rattle.reference.proofs.Keeping.{utf8-decoded}
 use Rattle.table.specs.Event.{Attribute, PieceKind, Text, CData, Ref, Other, Indent}
 use Rattle.tree_report.proofs.EncodeLists.{Each, done, more, each-append, each-on}
@@ -218,7 +219,7 @@ piece-utf8 : (k : PieceKind) (s v : List ℕ) → Fair k s → pieceOf k s ≡ g
 unfolding pieceOf
 piece-utf8 Text s v f e = both-utf8 (utf8 s) (refsOk s 0) (decoded s 0) v cause.BadReference cause.NotUtf8 (λ u t. utf8-decoded s u) e
 piece-utf8 CData s v f e = given-utf8 (utf8 s) s v cause.NotUtf8 (λ u. u) e
-piece-utf8 Ref s v f e = both-utf8 (utf8 s) (isEntity s) (entityChar s ∷ []) v cause.UnknownEntity cause.NotUtf8 (λ u t. utf8-reference s t) e
+piece-utf8 Ref s v f e = both-utf8 (utf8 s) (isNamed s) (encode (charOf s)) v (unnamed s) cause.NotUtf8 (λ u t. utf8-reference s) e
 piece-utf8 Other s v f e = given-utf8 true [] v cause.NotUtf8 (λ u. refl) e
 piece-utf8 Indent s v f e = given-utf8 true s v cause.NotUtf8 (λ u. f) e
 

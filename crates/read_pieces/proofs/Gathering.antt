@@ -2,7 +2,7 @@
 use Prim.Native.Nat.{ℕ, _+_, _-_, _≤_, _<_}
 use mathlib.Core.Path.{_≡_, refl, sym, ap, _∙_}
 use mathlib.Core.Bool.{Bool, true, false, cond}
-use mathlib.Core.List.{List, [], _∷_, _++_, append-assoc, append-nil}
+use mathlib.Core.List.{List, [], _++_, append-assoc, append-nil}
 use native.Mathlib.Omega.{arith}
 use lib.Dec.{leb}
 use lib.ListN.{length, take, drop, length-append, length-drop}
@@ -14,7 +14,8 @@ use Rattle.area.specs.Area.{placing, laid}
 use Rattle.area.proofs.Laying.{laid-fits, put-fits}
 use Rattle.area.proofs.Parts.{rest-part, rest-back}
 use Rattle.utf8.specs.Utf8.{utf8}
-use Rattle.reference.specs.Reference.{refsOk, decoded, isEntity, entityChar}
+use Rattle.utf8.specs.Characters.{encode}
+use Rattle.reference.specs.Reference.{refsOk, decoded, isNamed, charOf, unnamed}
 use Rattle.refusal.specs.Refusal.{nowhere}
 use Rattle.refusal.specs.declared.Cause.{Cause}
 use Rattle.table.specs.Event.{PieceKind, Text, CData, Ref, Other, Indent}
@@ -57,9 +58,9 @@ piece-answer CData n s = go (utf8 s)
     go : (a : Bool) → cond a (placing cause.ScratchFull n s) (refuses cause.NotUtf8) ≡ placed n (cond a (gives s) (refuses cause.NotUtf8))
     go true = refl
     go false = refl
-piece-answer Ref n s = go (utf8 s) (isEntity s)
+piece-answer Ref n s = go (utf8 s) (isNamed s)
   where
-    go : (a b : Bool) → cond a (cond b (placing cause.ScratchFull n (entityChar s ∷ [])) (refuses cause.UnknownEntity)) (refuses cause.NotUtf8) ≡ placed n (cond a (cond b (gives (entityChar s ∷ [])) (refuses cause.UnknownEntity)) (refuses cause.NotUtf8))
+    go : (a b : Bool) → cond a (cond b (placing cause.ScratchFull n (encode (charOf s))) (refuses (unnamed s))) (refuses cause.NotUtf8) ≡ placed n (cond a (cond b (gives (encode (charOf s))) (refuses (unnamed s))) (refuses cause.NotUtf8))
     go true true = refl
     go true false = refl
     go false b = refl
@@ -80,9 +81,9 @@ piece-laid CData out s = go (utf8 s)
     go : (a : Bool) → cond a (laid out s) out ≡ laidBy out (cond a (gives s) (refuses cause.NotUtf8))
     go true = refl
     go false = refl
-piece-laid Ref out s = go (utf8 s) (isEntity s)
+piece-laid Ref out s = go (utf8 s) (isNamed s)
   where
-    go : (a b : Bool) → cond (mathlib.Core.Bool._&&_ a b) (laid out (entityChar s ∷ [])) out ≡ laidBy out (cond a (cond b (gives (entityChar s ∷ [])) (refuses cause.UnknownEntity)) (refuses cause.NotUtf8))
+    go : (a b : Bool) → cond (mathlib.Core.Bool._&&_ a b) (laid out (encode (charOf s))) out ≡ laidBy out (cond a (cond b (gives (encode (charOf s))) (refuses (unnamed s))) (refuses cause.NotUtf8))
     go true true = refl
     go true false = refl
     go false true = refl

@@ -7,7 +7,7 @@ use Rattle.utf8.specs.Characters.{encode}
 use Rattle.digits.specs.Digits.{digit, isNumber}
 use Rattle.names.specs.Bytes.{bytes}
 use Rattle.names.specs.Names.{sameBytes, codeFrom}
-use Rattle.reference.specs.Reference.{xmlChar, entities, entityChars, isEntity, entityChar, entityOf, base, digitsIn, number, isCharRef, refAt, goodRefs, decodes}
+use Rattle.reference.specs.Reference.{xmlChar, entities, entityChars, isEntity, entityChar, entityOf, base, digitsIn, number, isCharRef, unnamed, refAt, goodRefs, decodes}
 use Rattle.refusal.specs.declared.Cause.the-variants as cause
 
 -- a&#x20AC;&lt;
@@ -30,10 +30,9 @@ surrogate : goodRefs (0x26 ∷ 0x23 ∷ 0x78 ∷ 0x44 ∷ 0x38 ∷ 0x30 ∷ 0x30
 unfolding refAt isEntity entities sameBytes codeFrom isCharRef number base digitsIn isNumber digit xmlChar
 surrogate = refl
 
--- a Ref event named #65
-numeric : entityOf (0x23 ∷ 0x36 ∷ 0x35 ∷ []) ≡ refuses cause.UnknownEntity
-unfolding isEntity entities sameBytes codeFrom
-numeric = refl
+-- why a Ref event's name is refused: a number, no number, no name at all
+refused-names : (unnamed (bytes "#0") ≡ cause.BadReference) × (unnamed (bytes "x#0") ≡ cause.UnknownEntity) × (unnamed [] ≡ cause.UnknownEntity)
+refused-names = (refl, refl, refl)
 
 -- the five, and what is none of them
 five-names : (entityOf (bytes "amp") ≡ gives 0x26)

@@ -1,5 +1,6 @@
 mod Naming
 pub mod Letters
+pub mod Sizes
 pub mod Behind
 pub mod Decoding
 mod Checking

@@ -1,4 +1,4 @@
--- References (XML 1.0, fifth edition, sections 2.2, 4.1 and 4.6), what a value with references stands for, and a Ref event's name. Definitions only.
+-- References (XML 1.0, fifth edition, sections 2.2, 4.1 and 4.6), what a value with references stands for, and what refuses a Ref event's name. Definitions only.
 use Prim.Native.Nat.{ℕ, zero, suc, _-_}
 use mathlib.Core.List.{List, [], _∷_, _++_}
 use mathlib.Core.Bool.{Bool, true, false, cond, _&&_, _||_, not}
@@ -16,6 +16,7 @@ use Rattle.reference.specs.declared.Named.{Named}
 use Rattle.reference.specs.declared.Named.the-variants as of-name
 use Rattle.reference.specs.declared.Ref.{Ref}
 use Rattle.reference.specs.declared.Ref.the-variants.{Is, Not}
+use Rattle.refusal.specs.declared.Cause.{Cause}
 use Rattle.refusal.specs.declared.Cause.the-variants as cause
 
 -- section 2.2: Char ::= #x9 | #xA | #xD | [#x20-#xD7FF] | [#xE000-#xFFFD] | [#x10000-#x10FFFF]
@@ -41,7 +42,7 @@ abbrev pub entityAnswer : Entity → Answer ℕ
 entityAnswer (of-entity.Is c) = gives c
 entityAnswer of-entity.Unknown = refuses cause.UnknownEntity
 
--- "A Ref event takes the five names only, else 8", by request 5 21
+-- one of the five names
 abbrev pub entityOf : List ℕ → Answer ℕ
 entityOf name = cond (isEntity name) (gives (entityChar name)) (refuses cause.UnknownEntity)
 
@@ -55,9 +56,13 @@ digitsIn name = cond (eqb (getD name 1 0) 0x78) (drop 2 name) (drop 1 name)
 unfoldable pub number : List ℕ → ℕ
 number name = value (base name) (digitsIn name)
 
+-- a name that begins with #
+abbrev pub isNumeric : List ℕ → Bool
+isNumeric name = eqb (getD name 0 0) 0x23
+
 -- a character reference names a Char (section 4.1, its well-formedness constraint), of which U+10FFFF is the last
 unfoldable pub isCharRef : List ℕ → Bool
-isCharRef name = eqb (getD name 0 0) 0x23 && (isNumber (base name) 0x10FFFF (digitsIn name) && xmlChar (number name))
+isCharRef name = isNumeric name && (isNumber (base name) 0x10FFFF (digitsIn name) && xmlChar (number name))
 
 -- a name between & and ; stands for a character
 abbrev pub isNamed : List ℕ → Bool
@@ -74,6 +79,11 @@ namedAnswer of-name.Not = refuses cause.BadReference
 -- "References are the five predefined ones, decimal and `#x` hexadecimal naming an XML Char", else 10
 abbrev pub named : List ℕ → Answer ℕ
 named name = cond (isNamed name) (gives (charOf name)) (refuses cause.BadReference)
+
+-- why a Ref event's name that stands for no character is refused: "a Ref event whose name begins with `#` is read as in an
+-- attribute value. A bad number is 10 instead of 8" (request 3)
+abbrev pub unnamed : List ℕ → Cause
+unnamed name = cond (isNumeric name) cause.BadReference cause.UnknownEntity
 
 -- the place of the first semicolon, or the length
 abbrev pub semicolon : List ℕ → ℕ

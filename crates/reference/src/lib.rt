@@ -1,4 +1,4 @@
-// References of values, and the name of a Ref event.
+// References of values, and the names of Ref events.
 use digits::Number;
 ghost use mathlib.Core.Path.{_≡_};
 ghost use mathlib.Core.Bool.{cond};
@@ -9,7 +9,7 @@ ghost use Rattle.digits.specs.Digits.{numberIn};
 ghost use Rattle.reference.specs.Reference.{xmlChar, entityAnswer, entityOf, base, digitsIn, number, isCharRef, namedAnswer, named, refAt, refsOk};
 ghost use Rattle.refusal.specs.declared.Cause.the-variants as cause;
 
-// The character of a Ref event.
+// The character of one of the five names.
 pub enum Entity {
     Is(u8),
     Unknown,
@@ -38,8 +38,8 @@ fn is_xml_char(c: u64) -> bool
         | ((0x10000 <= c) & (c <= 0x10ffff))
 }
 
-// The name of a Ref event.
-pub fn entity_of(name: &[u8]) -> Entity
+// One of the five names.
+fn entity_of(name: &[u8]) -> Entity
     ensures { λ r. ⌜ entityAnswer r ≡ entityOf (now (name .entry)) ⌝ }
 {
     let chars: [u8; 5] = [0x26, 0x3c, 0x3e, 0x27, 0x22];
@@ -86,7 +86,7 @@ fn wide(x: u8) -> u32
     x as u32
 }
 
-// A name between & and ; in a value.
+// A name between & and ; in a value, or of a Ref event.
 pub fn named_by(name: &[u8]) -> Named
     ensures { λ r. ⌜ namedAnswer r ≡ named (now (name .entry)) ⌝ }
 {

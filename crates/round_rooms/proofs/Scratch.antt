@@ -1,15 +1,16 @@
 -- A description and the text behind it are never longer than the pieces that were read. Assumes nothing.
 use Prim.Native.Nat.{ℕ, _+_, _≤_}
 use mathlib.Core.Path.{_≡_, refl, ap, subst}
-use mathlib.Core.List.{List, [], _∷_}
+use mathlib.Core.List.{List, []}
 use mathlib.Core.Bool.{Bool, true, false, cond}
 use native.Mathlib.Omega.{arith}
 use lib.ListN.{length, length-append}
 use Rattle.area.specs.Answer.{gives, refuses}
 use Rattle.utf8.specs.Utf8.{utf8}
-use Rattle.names.specs.Names.{sameBytes, codeFrom}
-use Rattle.reference.specs.Reference.{entities, refsOk, decoded, isEntity, entityChar}
+use Rattle.utf8.specs.Characters.{encode}
+use Rattle.reference.specs.Reference.{refsOk, decoded, isNamed, charOf, unnamed}
 use Rattle.reference.proofs.Decoding.{decoded-length}
+use Rattle.reference.proofs.Sizes.{char-size}
 use Rattle.refusal.specs.Refusal.{Outcome, accepted, refused}
 use Rattle.table.specs.Event.{Attribute, PieceKind, Text, CData, Ref, Other, Indent, Event, Tag, Piece, Eof, Fault}
 use Rattle.trim.specs.Trim.{trimmed}
@@ -36,17 +37,11 @@ both-size : (b t : Bool) (x v : List ℕ) (why why′ : Cause) (n : ℕ) → (t 
 both-size true t x v why why′ n h e = given-size t x v why n h e
 both-size false t x v why why′ n h e = let z : _≡_ {A = ℕ} 0 1 = cc in absurd (omega arith)
 
--- no entity's name is empty
-entity-named : (s : List ℕ) → isEntity s ≡ true → 1 ≤ length s
-unfolding isEntity entities codeFrom sameBytes
-entity-named [] e = let z : _≡_ {A = ℕ} 0 1 = cc in absurd (omega arith)
-entity-named (b ∷ s) e = omega arith
-
 pub piece-size : (k : PieceKind) (s v : List ℕ) → pieceOf k s ≡ gives v → length v ≤ pieceSize k s
 unfolding pieceOf
 piece-size Text s v e = both-size (utf8 s) (refsOk s 0) (decoded s 0) v cause.BadReference cause.NotUtf8 (length s) (λ t. decoded-length s) e
 piece-size CData s v e = given-size (utf8 s) s v cause.NotUtf8 (length s) (λ t. omega arith) e
-piece-size Ref s v e = both-size (utf8 s) (isEntity s) (entityChar s ∷ []) v cause.UnknownEntity cause.NotUtf8 (length s) (entity-named s) e
+piece-size Ref s v e = both-size (utf8 s) (isNamed s) (encode (charOf s)) v (unnamed s) cause.NotUtf8 (length s) (char-size s) e
 piece-size Other s v e = given-size true [] v cause.NotUtf8 0 (λ t. omega arith) e
 piece-size Indent s v e = given-size true s v cause.NotUtf8 (length s) (λ t. omega arith) e
 

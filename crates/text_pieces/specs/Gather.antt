@@ -5,7 +5,8 @@ use mathlib.Core.Bool.{false, cond, _&&_}
 use Rattle.area.specs.Answer.{Answer, refuses}
 use Rattle.area.specs.Area.{placing, laid}
 use Rattle.utf8.specs.Utf8.{utf8}
-use Rattle.reference.specs.Reference.{isEntity, entityChar}
+use Rattle.utf8.specs.Characters.{encode}
+use Rattle.reference.specs.Reference.{isNamed, charOf, unnamed}
 use Rattle.text.specs.Decode.{decodedOf, decodedLaid}
 use Rattle.refusal.specs.declared.Cause.the-variants as cause
 
@@ -23,15 +24,15 @@ cdataOf n s = cond (utf8 s) (placing cause.ScratchFull n s) (refuses cause.NotUt
 abbrev pub cdataLaid : List ℕ → List ℕ → List ℕ
 cdataLaid out s = cond (utf8 s) (laid out s) out
 
--- "A Ref event takes the five names only, else 8", by request 5 21
+-- a Ref's name: what it stands for in a value, else 21 (request 5), or 10 for a number (request 3)
 abbrev pub referenceText : List ℕ → List ℕ
-referenceText name = entityChar name ∷ []
+referenceText name = encode (charOf name)
 
 abbrev pub referenceOf : ℕ → List ℕ → Answer ℕ
-referenceOf n name = cond (utf8 name) (cond (isEntity name) (placing cause.ScratchFull n (referenceText name)) (refuses cause.UnknownEntity)) (refuses cause.NotUtf8)
+referenceOf n name = cond (utf8 name) (cond (isNamed name) (placing cause.ScratchFull n (referenceText name)) (refuses (unnamed name))) (refuses cause.NotUtf8)
 
 abbrev pub referenceLaid : List ℕ → List ℕ → List ℕ
-referenceLaid out name = cond (utf8 name && isEntity name) (laid out (referenceText name)) out
+referenceLaid out name = cond (utf8 name && isNamed name) (laid out (referenceText name)) out
 
 -- "9 Indent (read as a Text of one newline; its own bytes are never read)"
 abbrev pub newline : List ℕ

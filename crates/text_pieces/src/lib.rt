@@ -1,13 +1,16 @@
 // Pieces of gathered text, into scratch from its mark on.
 use area::copy_into;
-use reference::Entity;
-use reference::entity_of;
+use reference::Named;
+use reference::named_by;
 use text::decode::put_decoded;
 use text::kept::Kept;
 use text::kept::kept_of;
 use utf8::is_utf8;
+use utf8_chars::encode_of;
 ghost use mathlib.Core.Path.{_≡_};
 ghost use lib.ListN.{length};
+ghost use Rattle.area.specs.Answer.{refuses};
+ghost use Rattle.reference.specs.Reference.{unnamed};
 ghost use Rattle.text.specs.Kept.{keptAnswer};
 ghost use Rattle.text_pieces.specs.Gather.{textOf, textLaid, cdataOf, cdataLaid, referenceOf, referenceLaid, indentOf, indentLaid};
 ghost use Rattle.refusal.specs.declared.Cause.the-variants as cause;
@@ -29,6 +32,19 @@ pub fn gather_cdata(out: &mut [u8], s: &[u8]) -> Kept
     Kept::NotUtf8
 }
 
+// Why a name that stands for no character is refused.
+fn unnamed_by(name: &[u8]) -> Kept
+    ensures { λ r. ⌜ keptAnswer cause.ScratchFull r ≡ refuses (unnamed (now (name .entry))) ⌝ }
+{
+    if name.len() == 0 {
+        return Kept::UnknownName;
+    }
+    if name[0] == 0x23 {
+        return Kept::BadReference;
+    }
+    Kept::UnknownName
+}
+
 // The name of a Ref event.
 pub fn gather_reference(out: &mut [u8], name: &[u8]) -> Kept
     ensures { λ r. ⌜ keptAnswer cause.ScratchFull r ≡ referenceOf (length (now (out .entry))) (now (name .entry)) ⌝ }
@@ -37,12 +53,14 @@ pub fn gather_reference(out: &mut [u8], name: &[u8]) -> Kept
     if !is_utf8(name) {
         return Kept::NotUtf8;
     }
-    let entity = entity_of(name);
-    let Entity::Is(c) = entity else {
-        return Kept::UnknownName;
+    let named = named_by(name);
+    let Named::Is(c) = named else {
+        return unnamed_by(name);
     };
-    let bytes = [c];
-    kept_of(copy_into(out, &bytes))
+    let e = encode_of(c);
+    let bytes = e.bytes;
+    let n = e.n;
+    kept_of(copy_into(out, &bytes[..n]))
 }
 
 pub fn gather_indent(out: &mut [u8]) -> Kept
