@@ -1,0 +1,3 @@
+pub mod Showing
+pub mod Hunting
+pub mod Naming

@@ -1,0 +1,28 @@
+-- The places of the sentences in the code's table. Definitions only.
+use Prim.Native.Nat.{ℕ}
+use Rattle.refusal.specs.declared.Cause.{Cause}
+use Rattle.refusal.specs.declared.Cause.the-variants.{XmlFault, EofInSkip, NotUtf8, BadInteger, BadTimestamp, BadTime, BadUuid, MissingAttribute, MissingReport, EofInElement, StatusRule, UnknownEntity, FaultyAttribute, RepeatedKey, BadReference, BadTable, RecordsSpent, TextFull, ScratchFull, NotLayout, OutputFull, CountLimit}
+
+abbrev pub placeOf : Cause → ℕ
+placeOf XmlFault = 0
+placeOf EofInSkip = 1
+placeOf NotUtf8 = 2
+placeOf BadInteger = 3
+placeOf BadTimestamp = 4
+placeOf BadTime = 5
+placeOf BadUuid = 6
+placeOf MissingAttribute = 7
+placeOf MissingReport = 8
+placeOf EofInElement = 9
+placeOf StatusRule = 10
+placeOf UnknownEntity = 11
+placeOf FaultyAttribute = 12
+placeOf RepeatedKey = 13
+placeOf BadReference = 14
+placeOf BadTable = 15
+placeOf RecordsSpent = 16
+placeOf TextFull = 17
+placeOf ScratchFull = 18
+placeOf NotLayout = 19
+placeOf OutputFull = 20
+placeOf CountLimit = 21

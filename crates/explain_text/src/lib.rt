@@ -1,0 +1,1 @@
+// The line that explains a refusal: definitions only.
