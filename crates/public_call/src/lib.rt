@@ -61,23 +61,3 @@ pub fn public_listing(
         Verdict::Refused => refuse(out),
     }
 }
-
-// The same for programs in other languages.
-#[no_mangle]
-pub extern "C" fn kerzhoma_public_listing(
-    events: &[u32],
-    attributes: &[u32],
-    source: &[u8],
-    records: &mut [u32],
-    text: &mut [u8],
-    scratch: &mut [u8],
-    out: &mut [u8],
-) -> usize
-    ensures out { λ _. ⌜ now (out .exit) ≡ laid (zeros (length (now (out .entry)))) (listingInto (now (events .entry)) (now (attributes .entry)) (now (source .entry)) (now (records .entry)) (now (text .entry)) (now (scratch .entry)) (now (out .entry))) ⌝ }
-    ensures count { λ r. ⌜ r ≡ min (length (now (out .entry))) (length (listingInto (now (events .entry)) (now (attributes .entry)) (now (source .entry)) (now (records .entry)) (now (text .entry)) (now (scratch .entry)) (now (out .entry)))) ⌝ }
-    ensures records { λ _. ⌜ now (records .exit) ≡ readInto (now (events .entry)) (now (attributes .entry)) (now (source .entry)) (now (records .entry)) (now (text .entry)) (now (scratch .entry)) .words ⌝ }
-    ensures text { λ _. ⌜ now (text .exit) ≡ readInto (now (events .entry)) (now (attributes .entry)) (now (source .entry)) (now (records .entry)) (now (text .entry)) (now (scratch .entry)) .text ⌝ }
-    ensures scratch { λ _. ⌜ now (scratch .exit) ≡ readInto (now (events .entry)) (now (attributes .entry)) (now (source .entry)) (now (records .entry)) (now (text .entry)) (now (scratch .entry)) .scratch ⌝ }
-{
-    public_listing(events, attributes, source, records, text, scratch, out)
-}

@@ -68,17 +68,3 @@ pub fn write_time(out: &mut [u8], secs: u32, nanos: u32) -> Stored
     };
     Stored::Put(from + n)
 }
-
-// The same for a caller in Rust or C: the number of bytes put; 0 where out is too short, which is then cleared.
-#[no_mangle]
-pub extern "C" fn kerzhoma_time_text(out: &mut [u8], secs: u32, nanos: u32) -> usize
-    ensures { λ r. ⌜ r ≡ count (placing cause.OutputFull (length (now (out .entry))) (writtenTime secs nanos)) ⌝ }
-    ensures { λ r. ⌜ now (out .exit) ≡ whole (now (out .entry)) (writtenTime secs nanos) ⌝ }
-{
-    let stored = write_time(out, secs, nanos);
-    let Stored::Put(n) = stored else {
-        area::clear(out);
-        return 0;
-    };
-    n
-}

@@ -73,11 +73,3 @@ pub fn is_layout(records: &[u32], text: &[u8]) -> bool
     let limit = least(records.len(), limit::WORDS);
     texts::is_good(used, fill) & good_records(&used[..fill], records, limit)
 }
-
-// The same for programs in other languages.
-#[no_mangle]
-pub extern "C" fn kerzhoma_is_layout(records: &[u32], text: &[u8]) -> bool
-    ensures { λ r. ⌜ r ≡ layout (now (records .entry)) (now (text .entry)) ⌝ }
-{
-    is_layout(records, text)
-}

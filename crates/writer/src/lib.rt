@@ -19,7 +19,7 @@ ghost use Rattle.write_table.specs.Laid.{itemsOf};
 ghost use Rattle.write_table.specs.inside.Putting.{Wrote};
 ghost use Rattle.write_marks.specs.inside.Kept.{empty, kept};
 ghost use Rattle.write_answer.specs.Answer.{eventsOf, wrote, eventsLeft, attributesLeft, bytesLeft};
-ghost use Rattle.writer.specs.Answer.{sizesOf, writingFrom};
+ghost use Rattle.writer.specs.Answer.{writingFrom};
 
 // How many events, attributes and bytes the table has, or why there is none.
 pub struct Writing {
@@ -109,22 +109,4 @@ pub fn write(
         bytes: n,
         refusal: no_refusal(),
     }
-}
-
-// The same for programs in other languages: how many events were put, which is 0 only at a refusal.
-#[no_mangle]
-pub extern "C" fn kerzhoma_write(
-    records: &[u32],
-    text: &[u8],
-    events: &mut [u32],
-    attributes: &mut [u32],
-    bytes: &mut [u8],
-) -> usize
-    ensures { λ r. ⌜ r ≡ sizesOf (wrote (now (records .entry)) (now (text .entry)) (length (now (events .entry))) (length (now (attributes .entry))) (length (now (bytes .entry)))) .events ⌝ }
-    ensures { λ r. ⌜ now (events .exit) ≡ eventsLeft (now (records .entry)) (now (text .entry)) (length (now (events .entry))) (length (now (attributes .entry))) (length (now (bytes .entry))) ⌝ }
-    ensures { λ r. ⌜ now (attributes .exit) ≡ attributesLeft (now (records .entry)) (now (text .entry)) (length (now (events .entry))) (length (now (attributes .entry))) (length (now (bytes .entry))) ⌝ }
-    ensures { λ r. ⌜ now (bytes .exit) ≡ bytesLeft (now (records .entry)) (now (text .entry)) (length (now (events .entry))) (length (now (attributes .entry))) (length (now (bytes .entry))) ⌝ }
-{
-    let answer = write(records, text, events, attributes, bytes);
-    answer.events
 }

@@ -38,12 +38,12 @@ unnamed-by-requires : tie.Need-unnamed-by-requires
 unnamed-by-requires c κs = search needs
 
 returns-2 : tie.Need-returns-2
-returns-2 c = 
-        let a = c .before .before .before .before .before .before .before .before .args in
-        let n = a .name .now in
-        let e = refused (isNamed n) (charOf n) cause.BadReference cause.BadReference (sym (ap namedAnswer (c .before .enum-told .given .1)) ∙ c .before .before .before .named-by .ensures) in
-        let f = second-fails (utf8 n) (isNamed n) (placing cause.ScratchFull (length (a .out .now)) (referenceText n)) (refuses (unnamed n)) (refuses cause.NotUtf8) (a .out .now) (laid (a .out .now) (referenceText n)) (sym (c .before .before .before .before .before .is-utf8 .ensures) ∙ not-false _ (c .before .before .before .before .if1 .left)) e in
-        (c .unnamed-by .ensures ∙ f .0, f .1)
+returns-2 c =
+    let a = c .before .before .before .before .before .before .before .before .args in
+    let n = a .name .now in
+    let e = refused (isNamed n) (charOf n) cause.BadReference cause.BadReference (sym (ap namedAnswer (c .before .enum-told .given .1)) ∙ c .before .before .before .named-by .ensures) in
+    let f = second-fails (utf8 n) (isNamed n) (placing cause.ScratchFull (length (a .out .now)) (referenceText n)) (refuses (unnamed n)) (refuses cause.NotUtf8) (a .out .now) (laid (a .out .now) (referenceText n)) (sym (c .before .before .before .before .before .is-utf8 .ensures) ∙ not-false _ (c .before .before .before .before .if1 .left)) e in
+    (c .unnamed-by .ensures ∙ f .0, f .1)
 
 encode-of-requires : tie.Need-encode-of-requires
 encode-of-requires c κs = search needs
@@ -64,16 +64,16 @@ same-length : tie.Need-same-length
 same-length c = search needs
 
 returns-3 : tie.Need-returns-3
-returns-3 c = 
-        let a = c .before .before .before .before .before .before .before .before .before .before .before .before .before .before .before .before .args in
-        let n = a .name .now in
-        let p = c .before .before .before .copy-into in
-        let k = c .kept-of in
-        let g = c .before .before .before .before .before .before .before .before .before .named .given in
-        let d = coded-front (g .0 .0) (c .before .before .before .before .before .before .before .encode-of .ensures) in
-        let e = given (isNamed n) (charOf n) cause.BadReference (g .0 .0) (sym (ap namedAnswer (g .1)) ∙ c .before .before .before .before .before .before .before .before .before .before .before .named-by .ensures) in
-        let f = d .2 ∙ ap encode (e .1) in
-        kept-both cause.ScratchFull cause.OutputFull (a .out .now) (p .last .0) (referenceText n) (p .result) (k .result) (p .ensures .0 ∙ ap (λ (l : List ℕ). placing cause.OutputFull (length (a .out .now)) l) f) (k .ensures) (utf8 n) (isNamed n) (refuses (unnamed n)) (refuses cause.NotUtf8) (sym (c .before .before .before .before .before .before .before .before .before .before .before .before .before .is-utf8 .ensures) ∙ not-false _ (c .before .before .before .before .before .before .before .before .before .before .before .before .if1 .left)) (e .0) (p .ensures .1 ∙ ap (λ (l : List ℕ). laid (a .out .now) l) f)
+returns-3 c =
+    let a = c .before .before .before .before .before .before .before .before .before .before .before .before .before .before .before .before .args in
+    let n = a .name .now in
+    let p = c .before .before .before .copy-into in
+    let k = c .kept-of in
+    let g = c .before .before .before .before .before .before .before .before .before .named .given in
+    let d = coded-front (g .0 .0) (c .before .before .before .before .before .before .before .encode-of .ensures) in
+    let e = given (isNamed n) (charOf n) cause.BadReference (g .0 .0) (sym (ap namedAnswer (g .1)) ∙ c .before .before .before .before .before .before .before .before .before .before .before .named-by .ensures) in
+    let f = d .2 ∙ ap encode (e .1) in
+    kept-both cause.ScratchFull cause.OutputFull (a .out .now) (p .last .0) (referenceText n) (p .result) (k .result) (p .ensures .0 ∙ ap (λ (l : List ℕ). placing cause.OutputFull (length (a .out .now)) l) f) (k .ensures) (utf8 n) (isNamed n) (refuses (unnamed n)) (refuses cause.NotUtf8) (sym (c .before .before .before .before .before .before .before .before .before .before .before .before .before .is-utf8 .ensures) ∙ not-false _ (c .before .before .before .before .before .before .before .before .before .before .before .before .if1 .left)) (e .0) (p .ensures .1 ∙ ap (λ (l : List ℕ). laid (a .out .now) l) f)
 
 pub gather-reference-spec : {M : Type 1} → statement M
 gather-reference-spec =

@@ -1,0 +1,59 @@
+use Rattle.build_draft.specs.Draft.{Draft}
+use Rattle.port_values.specs.Codes.{families, familyAt}
+use Rattle.build_draft.specs.Calls.{setRerunKind}
+use Rattle.build_draft.specs.declared.FlakyOrRerun.{FlakyOrRerun}
+use Rattle.port_c.proofs.Building.{passed, stopped, known, unknown}
+use borrow.Author.Needs.{needs}
+use Rattle.port_c.proofs.setting.kerzhoma_set_rerun_kind.Statement.{statement}
+use Rattle.port_c.proofs.setting.kerzhoma_set_rerun_kind.Tie as tie
+
+not-built-requires : tie.Need-not-built-requires
+not-built-requires c κs = search needs
+
+same-length : tie.Need-same-length
+same-length c = search needs
+
+same-length-2 : tie.Need-same-length-2
+same-length-2 c = search needs
+
+returns : tie.Need-returns
+returns c =
+    let a = c .before .before .before .before .before .before .before .before .before .before .args in
+    let d : Draft = record { builder = a .b; words = a .records .now; text = a .text .now } in
+    stopped (a .records .now) (a .text .now) (unknown families (a .family) (setRerunKind (familyAt (a .family)) d) (c .before .before .before .before .before .before .before .if1 .taken)) (c .before .before .before .before .not-built .ensures)
+
+family-at-requires : tie.Need-family-at-requires
+family-at-requires c κs = search needs
+
+set-rerun-kind-requires : tie.Need-set-rerun-kind-requires
+set-rerun-kind-requires c κs = search needs
+
+built-requires : tie.Need-built-requires
+built-requires c κs = search needs
+
+same-length-3 : tie.Need-same-length-3
+same-length-3 c = search needs
+
+same-length-4 : tie.Need-same-length-4
+same-length-4 c = search needs
+
+returns-2 : tie.Need-returns-2
+returns-2 c =
+    let a = c .before .before .before .before .before .before .before .before .before .before .before .before .args in
+    let d : Draft = record { builder = a .b; words = a .records .now; text = a .text .now } in
+    passed (a .records .now) (a .text .now) (known families (a .family) (λ (x : FlakyOrRerun). setRerunKind x d) (c .before .before .before .before .before .before .family-at .ensures) (c .before .before .before .before .before .before .before .before .before .if1 .left)) (c .built .ensures) (c .before .before .before .before .before .set-rerun-kind .ensures)
+
+pub kerzhoma-set-rerun-kind-spec : {M : Type 1} → statement M
+kerzhoma-set-rerun-kind-spec =
+    tie.close
+    (tie.spec
+    not-built-requires
+    same-length
+    same-length-2
+    returns
+    family-at-requires
+    set-rerun-kind-requires
+    built-requires
+    same-length-3
+    same-length-4
+    returns-2)

@@ -1,0 +1,59 @@
+use Rattle.build_draft.specs.Draft.{Draft}
+use Rattle.port_values.specs.Codes.{elements, elementAt}
+use Rattle.build_draft.specs.Calls.{setTime}
+use Rattle.build_draft.specs.declared.Element.{Element}
+use Rattle.port_c.proofs.Building.{passed, stopped, known, unknown}
+use borrow.Author.Needs.{needs}
+use Rattle.port_c.proofs.setting.kerzhoma_set_time.Statement.{statement}
+use Rattle.port_c.proofs.setting.kerzhoma_set_time.Tie as tie
+
+not-built-requires : tie.Need-not-built-requires
+not-built-requires c κs = search needs
+
+same-length : tie.Need-same-length
+same-length c = search needs
+
+same-length-2 : tie.Need-same-length-2
+same-length-2 c = search needs
+
+returns : tie.Need-returns
+returns c =
+    let a = c .before .before .before .before .before .before .before .before .before .before .args in
+    let d : Draft = record { builder = a .b; words = a .records .now; text = a .text .now } in
+    stopped (a .records .now) (a .text .now) (unknown elements (a .element) (setTime (elementAt (a .element)) (a .seconds) (a .nanos) d) (c .before .before .before .before .before .before .before .if1 .taken)) (c .before .before .before .before .not-built .ensures)
+
+element-at-requires : tie.Need-element-at-requires
+element-at-requires c κs = search needs
+
+set-time-requires : tie.Need-set-time-requires
+set-time-requires c κs = search needs
+
+built-requires : tie.Need-built-requires
+built-requires c κs = search needs
+
+same-length-3 : tie.Need-same-length-3
+same-length-3 c = search needs
+
+same-length-4 : tie.Need-same-length-4
+same-length-4 c = search needs
+
+returns-2 : tie.Need-returns-2
+returns-2 c =
+    let a = c .before .before .before .before .before .before .before .before .before .before .before .before .args in
+    let d : Draft = record { builder = a .b; words = a .records .now; text = a .text .now } in
+    passed (a .records .now) (a .text .now) (known elements (a .element) (λ (x : Element). setTime x (a .seconds) (a .nanos) d) (c .before .before .before .before .before .before .element-at .ensures) (c .before .before .before .before .before .before .before .before .before .if1 .left)) (c .built .ensures) (c .before .before .before .before .before .set-time .ensures)
+
+pub kerzhoma-set-time-spec : {M : Type 1} → statement M
+kerzhoma-set-time-spec =
+    tie.close
+    (tie.spec
+    not-built-requires
+    same-length
+    same-length-2
+    returns
+    element-at-requires
+    set-time-requires
+    built-requires
+    same-length-3
+    same-length-4
+    returns-2)

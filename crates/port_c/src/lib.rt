@@ -1,0 +1,5 @@
+// The calls for programs in other languages; ports/c/kerzhoma.h declares them for C. A slice arrives as pointer and length.
+mod counts;
+mod making;
+mod setting;
+mod tables;
