@@ -1,4 +1,4 @@
-// Times the layout check of crate `tree_layout` on trees of 1,000, 10,000 and 65,536 records.
+// Times the layout check on trees of 1,000, 10,000 and 65,536 records.
 // Build and run: see README.md beside this file.
 use std::time::Instant;
 

@@ -4,22 +4,12 @@
 // Build and run: see README.md beside this file.
 use std::time::Instant;
 
-extern "C" {
-    fn kerzhoma_write(
-        records: *const u32, records_len: usize, text: *const u8, text_len: usize,
-        events: *mut u32, events_len: usize, attributes: *mut u32, attributes_len: usize, bytes: *mut u8, bytes_len: usize,
-    ) -> usize;
-}
+mod call;
 
 struct Written { events: Vec<u32>, attributes: Vec<u32>, bytes: Vec<u8> }
 
 fn write(records: &[u32], text: &[u8], w: &mut Written) -> usize {
-    unsafe {
-        kerzhoma_write(
-            records.as_ptr(), records.len(), text.as_ptr(), text.len(), w.events.as_mut_ptr(), w.events.len(),
-            w.attributes.as_mut_ptr(), w.attributes.len(), w.bytes.as_mut_ptr(), w.bytes.len(),
-        )
-    }
+    call::write(records, text, &mut w.events, &mut w.attributes, &mut w.bytes).events
 }
 
 // Words, presence bits and kinds by docs/TREE.md.

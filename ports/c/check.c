@@ -1,0 +1,535 @@
+/* Checks of the calls from C; ports/c/check.sh runs it. Areas are allocated exactly as long as they are said to be, so that valgrind sees
+ * a byte too many.
+ *
+ *     check                 values, builders, codes that are none, empty and short areas; prints how many passed and failed
+ *     check tell <TABLES    tables one behind the other, told as crate test_tell does, in areas of test_replay's sizes
+ *     check rooms FILE..    that areas of the sizes that kerzhoma.h calls enough give the same answer as areas of the limits' size */
+#include "kerzhoma.h"
+
+#include <stdio.h>
+#include <stdlib.h>
+#include <string.h>
+
+_Static_assert(sizeof(kerzhoma_refusal) == 92, "refusal");
+_Static_assert(sizeof(kerzhoma_counts) == 48, "counts");
+_Static_assert(sizeof(kerzhoma_builder) == 24, "builder");
+_Static_assert(sizeof(kerzhoma_moment) == 16, "moment");
+_Static_assert(sizeof(kerzhoma_uuid) == 16, "uuid");
+
+static int passed, failed;
+
+static void expect(bool good, const char *what)
+{
+    good ? passed++ : failed++;
+    if (!good)
+        printf("failed: %s\n", what);
+}
+
+static void *room(size_t size)
+{
+    void *p = malloc(size ? size : 1);
+    if (!p)
+        exit(2);
+    memset(p, 0xa5, size ? size : 1);
+    return p;
+}
+
+static bool zero(const void *area, size_t size)
+{
+    const uint8_t *p = area;
+    while (size > 0)
+        if (p[--size])
+            return false;
+    return true;
+}
+
+#define BYTES(s) (const uint8_t *)(s), sizeof(s) - 1
+
+/* ---- tables ---- */
+
+struct table {
+    uint32_t *events, *attributes;
+    uint8_t *source;
+    size_t events_length, attributes_length, source_length, size;
+};
+
+#define OF(t) (t).events, (t).events_length, (t).attributes, (t).attributes_length, (t).source, (t).source_length
+
+static uint32_t word_at(const uint8_t *p)
+{
+    return (uint32_t)p[0] | (uint32_t)p[1] << 8 | (uint32_t)p[2] << 16 | (uint32_t)p[3] << 24;
+}
+
+static uint32_t *words_at(const uint8_t *p, size_t n)
+{
+    uint32_t *words = room(4 * n);
+    for (size_t i = 0; i < n; i++)
+        words[i] = word_at(p + 4 * i);
+    return words;
+}
+
+/* The table that the bytes begin with. */
+static bool table_of(const uint8_t *bytes, size_t size, struct table *t)
+{
+    uint64_t e, a, s, whole;
+    if (size < 12)
+        return false;
+    e = word_at(bytes), a = word_at(bytes + 4), s = word_at(bytes + 8);
+    whole = 12 + 20 * e + 20 * a + s;
+    if (size < whole)
+        return false;
+    t->size = (size_t)whole;
+    t->events_length = 5 * (size_t)e;
+    t->attributes_length = 5 * (size_t)a;
+    t->source_length = (size_t)s;
+    t->events = words_at(bytes + 12, t->events_length);
+    t->attributes = words_at(bytes + 12 + 20 * e, t->attributes_length);
+    t->source = room(t->source_length);
+    memcpy(t->source, bytes + 12 + 20 * e + 20 * a, t->source_length);
+    return true;
+}
+
+static void drop(struct table t)
+{
+    free(t.events);
+    free(t.attributes);
+    free(t.source);
+}
+
+static uint8_t *all_of(FILE *f, size_t *size)
+{
+    size_t n, most = 65536;
+    uint8_t *bytes = room(most);
+    *size = 0;
+    while (f && (n = fread(bytes + *size, 1, most - *size, f)) > 0)
+        if ((*size += n) == most && !(bytes = realloc(bytes, most *= 2)))
+            exit(2);
+    return bytes;
+}
+
+/* ---- check tell ---- */
+
+static void tell_number(uint32_t n)
+{
+    n == KERZHOMA_NONE ? printf(" -") : printf(" %u", n);
+}
+
+static void tell_refusal(kerzhoma_refusal r)
+{
+    printf("(refused)");
+    tell_number(r.number);
+    tell_number(r.event);
+    tell_number(r.attribute);
+    for (uint32_t i = 0; i < 3 * r.depth; i++)
+        tell_number(r.path[i]);
+    printf("\n");
+}
+
+static void tell(struct table t)
+{
+    uint32_t *records = room(4 * 16384);
+    uint8_t *text = room(65536), *scratch = room(65536), *out = room(65536);
+    kerzhoma_refusal r = kerzhoma_read(OF(t), records, 16384, text, 65536, scratch, 65536);
+    if (r.number) {
+        tell_refusal(r);
+    } else {
+        kerzhoma_listing l = kerzhoma_list(records, 16384, text, 65536, out, 65536);
+        if (l.refusal.number)
+            tell_refusal(l.refusal);
+        else
+            fwrite(out, 1, l.length, stdout);
+    }
+    free(records);
+    free(text);
+    free(scratch);
+    free(out);
+}
+
+static int tell_all(void)
+{
+    size_t size, at = 0;
+    uint8_t *bytes = all_of(stdin, &size);
+    struct table t;
+    while (at < size && table_of(bytes + at, size - at, &t)) {
+        tell(t);
+        at += t.size;
+        drop(t);
+    }
+    free(bytes);
+    return at == size ? 0 : 2;
+}
+
+/* ---- check rooms ---- */
+
+static size_t least(uint64_t a, size_t b)
+{
+    return a < b ? (size_t)a : b;
+}
+
+/* What kerzhoma.h calls enough. Attributes may be shared by many events, so they are summed up once. */
+static void rooms_for(struct table t, size_t *words, size_t *text, size_t *scratch)
+{
+    size_t n = t.attributes_length / 5;
+    uint64_t *sums = room(8 * (n + 1)), records = 0, values = 0, others = 0;
+    sums[0] = 0;
+    for (size_t i = 0; i < n; i++)
+        sums[i + 1] = sums[i] + t.attributes[5 * i + 2] + t.attributes[5 * i + 4];
+    for (size_t i = 0; i < t.events_length; i += 5) {
+        const uint32_t *e = t.events + i;
+        if (e[0] > KERZHOMA_EMPTY) {
+            others += (uint64_t)e[2] + 1;
+        } else {
+            size_t first = least(e[3], n), end = least((uint64_t)e[3] + e[4], n);
+            records += 1 + (end - first);
+            values += sums[end] - sums[first];
+        }
+    }
+    free(sums);
+    *words = 32 * least(records, KERZHOMA_MOST_RECORDS);
+    *text = least(values + others, KERZHOMA_MOST_BYTES);
+    *scratch = least(others, KERZHOMA_MOST_BYTES);
+}
+
+static kerzhoma_refusal read_in(struct table t, size_t words, size_t bytes, size_t gathered)
+{
+    uint32_t *records = room(4 * words);
+    uint8_t *text = room(bytes), *scratch = room(gathered);
+    kerzhoma_refusal r = kerzhoma_read(OF(t), records, words, text, bytes, scratch, gathered);
+    expect(zero(scratch, gathered), "scratch is zero behind reading");
+    if (r.number)
+        expect(zero(records, 4 * words) && zero(text, bytes), "areas are zero behind a refusal");
+    else
+        expect(kerzhoma_is_layout(records, words, text, bytes), "a layout behind reading");
+    free(records);
+    free(text);
+    free(scratch);
+    return r;
+}
+
+static void rooms(const char *name)
+{
+    FILE *f = fopen(name, "rb");
+    size_t size, words, text, scratch;
+    uint8_t *bytes = all_of(f, &size);
+    struct table t;
+    if (table_of(bytes, size, &t)) {
+        kerzhoma_refusal one, other;
+        rooms_for(t, &words, &text, &scratch);
+        one = read_in(t, words, text, scratch);
+        other = read_in(t, 32 * KERZHOMA_MOST_RECORDS, KERZHOMA_MOST_BYTES, KERZHOMA_MOST_BYTES);
+        expect(memcmp(&one, &other, sizeof one) == 0, name);
+        drop(t);
+    } else {
+        expect(false, name);
+    }
+    free(bytes);
+    if (f)
+        fclose(f);
+}
+
+/* ---- values ---- */
+
+static void values(void)
+{
+    uint8_t *out = room(5);
+    kerzhoma_counts c = { 2, 1, 0, 0, 7, false }, s = { UINT64_MAX, 0, 0, 0, 3, true };
+    kerzhoma_counted r;
+
+    expect(kerzhoma_time_text(out, 5, 0, 500000000) == 5 && memcmp(out, "0.500", 5) == 0, "a time");
+    expect(kerzhoma_time_text(out, 4, 0, 500000000) == 0 && zero(out, 4) && out[4] == '0', "a time in too short an area");
+    expect(kerzhoma_time_text(NULL, 0, 0, 0) == 0, "a time in no area");
+    free(out);
+    out = room(14);
+    expect(kerzhoma_time_text(out, 14, UINT32_MAX, UINT32_MAX) == 14, "the longest time");
+    free(out);
+    for (uint32_t k = 0; k < 6; k++) {
+        r = kerzhoma_add_case(c, k);
+        if (k > 3)
+            expect(r.refusal.number == KERZHOMA_REFUSED_LAYOUT && r.refusal.cause == KERZHOMA_CAUSE_NOT_LAYOUT
+                   && r.counts.tests == 2 && r.counts.disabled == 7, "an outcome that is none");
+        else
+            expect(r.refusal.number == 0 && r.refusal.event == KERZHOMA_NONE && r.counts.tests == 3
+                   && r.counts.failures == 1u + (k == KERZHOMA_FAILURE) && r.counts.errors == (k == KERZHOMA_ERROR)
+                   && r.counts.skipped == (k == KERZHOMA_SKIPPED) && !r.counts.has_disabled, "a case counted");
+    }
+    r = kerzhoma_add_suite(c, s);
+    expect(r.refusal.number == KERZHOMA_REFUSED_COUNT && r.counts.tests == 2 && !r.counts.has_disabled, "a count above the limit");
+    s.tests = 5;
+    r = kerzhoma_add_suite(c, s);
+    expect(r.refusal.number == 0 && r.counts.tests == 7 && r.counts.has_disabled && r.counts.disabled == 3, "a suite added");
+}
+
+/* ---- builders ---- */
+
+/* Two areas, and the builder that works in them. */
+static uint32_t *records;
+static uint8_t *text;
+static size_t words, bytes;
+static kerzhoma_built b;
+
+#define IN records, words, text, bytes
+
+static void lend(size_t w, size_t n)
+{
+    words = w;
+    bytes = n;
+    records = room(4 * w);
+    text = room(n);
+}
+
+static void back(void)
+{
+    free(records);
+    free(text);
+}
+
+static bool good(void)
+{
+    return b.refusal.number == 0;
+}
+
+/* The answer of a refusing builder's call. */
+static bool refused(uint32_t number)
+{
+    return b.refusal.number == number && b.refusal.depth == 0 && b.refusal.event == KERZHOMA_NONE
+           && b.refusal.attribute == KERZHOMA_NONE && b.builder.records == 0 && b.builder.report == KERZHOMA_NONE
+           && zero(records, 4 * words) && zero(text, bytes);
+}
+
+static void build(void)
+{
+    const kerzhoma_moment leap = { 2024, 2, 29, 23, 59, 58, 123456789, 1439 + 60 };
+    const kerzhoma_uuid id = { { 0x01234567, 0x89abcdef, 0x01234567, 0x89abcdef } };
+
+    b = kerzhoma_new_report(IN, BYTES("r"));
+    b = kerzhoma_set_uuid(b.builder, IN, id);
+    b = kerzhoma_set_timestamp(b.builder, IN, KERZHOMA_REPORT, leap);
+    b = kerzhoma_add_test_suite(b.builder, IN, BYTES("lab"));
+    b = kerzhoma_add_extra(b.builder, IN, KERZHOMA_OF_SUITE, BYTES("hostname"), BYTES("a1"));
+    b = kerzhoma_add_extra(b.builder, IN, KERZHOMA_OF_SUITE, BYTES("hostname"), BYTES("b<2"));
+    b = kerzhoma_add_property(b.builder, IN, KERZHOMA_OF_SUITE, BYTES("seed"), BYTES("42"));
+    b = kerzhoma_set_number(b.builder, IN, KERZHOMA_DISABLED, 4);
+    b = kerzhoma_set_text(b.builder, IN, KERZHOMA_SUITE, KERZHOMA_SYSTEM_ERR, BYTES("suite err"));
+    b = kerzhoma_add_test_case(b.builder, IN, BYTES("a"), KERZHOMA_SUCCESS);
+    b = kerzhoma_set_time(b.builder, IN, KERZHOMA_CASE, 0, 500000000);
+    b = kerzhoma_set_text(b.builder, IN, KERZHOMA_CASE, KERZHOMA_CLASSNAME, BYTES("c.d"));
+    b = kerzhoma_set_number(b.builder, IN, KERZHOMA_ASSERTIONS, UINT64_MAX);
+    b = kerzhoma_set_output_lossy(b.builder, IN, KERZHOMA_CASE, KERZHOMA_SYSTEM_OUT, BYTES("x\xff"));
+    b = kerzhoma_add_test_case(b.builder, IN, BYTES("b"), KERZHOMA_FAILURE);
+    b = kerzhoma_set_text(b.builder, IN, KERZHOMA_STATUS, KERZHOMA_MESSAGE, BYTES("m"));
+    b = kerzhoma_set_text(b.builder, IN, KERZHOMA_STATUS, KERZHOMA_TYPE, BYTES("t"));
+    b = kerzhoma_set_text(b.builder, IN, KERZHOMA_STATUS, KERZHOMA_DESCRIPTION, BYTES("d"));
+    b = kerzhoma_add_rerun(b.builder, IN, KERZHOMA_RUN_ERROR);
+    b = kerzhoma_set_text(b.builder, IN, KERZHOMA_LAST, KERZHOMA_STACK_TRACE, BYTES("trace"));
+    b = kerzhoma_set_rerun_kind(b.builder, IN, KERZHOMA_FLAKY);
+    b = kerzhoma_add_test_case(b.builder, IN, BYTES("c"), KERZHOMA_SKIPPED);
+    b = kerzhoma_finish_report(b.builder, IN);
+}
+
+static const char listing[] =
+    "(report \"r\" 3 1 0 1 4\n"
+    "(suite \"lab\" 3 1 0 1 4\n"
+    "(case \"a\" \"c.d\" 0.500 success flaky 0)\n"
+    "(case \"b\" - - failure flaky 1\n"
+    "(run error -))\n"
+    "(case \"c\" - - skipped none 0)))\n";
+
+static bool lists(const uint32_t *r, size_t n, const uint8_t *t, size_t m)
+{
+    size_t size = sizeof listing - 1;
+    uint8_t *out = room(size);
+    kerzhoma_listing l = kerzhoma_list(r, n, t, m, out, size);
+    bool same = l.refusal.number == 0 && l.length == size && memcmp(out, listing, size) == 0;
+    l = kerzhoma_list(r, n, t, m, out, size - 1);
+    same = same && l.refusal.number == KERZHOMA_REFUSED_OUTPUT && l.length == 0 && zero(out, size - 1);
+    free(out);
+    return same;
+}
+
+static bool holds(const uint8_t *area, size_t size, const char *part)
+{
+    size_t n = strlen(part);
+    for (size_t i = 0; i + n <= size; i++)
+        if (memcmp(area + i, part, n) == 0)
+            return true;
+    return false;
+}
+
+static void built(void)
+{
+    static const char *const parts[] = {
+        "01234567-89ab-cdef-0123-456789abcdef", "2024-02-29T23:59:58.123+01:00", "hostname", "b&lt;2", "seed", "42", "suite err", "c.d",
+        "18446744073709551615", "x\xef\xbf\xbd", "trace", "flakyError",
+    };
+    kerzhoma_writing w;
+    kerzhoma_refusal r;
+    struct table t;
+    uint32_t *again;
+    uint8_t *texts, *scratch;
+
+    lend(32 * 11, 200);
+    build();
+    expect(good() && b.builder.records == 10 && b.builder.suite == KERZHOMA_NONE, "a report built");
+    expect(kerzhoma_is_layout(IN), "what is built is a layout");
+    expect(lists(IN), "the listing of what is built");
+
+    t.events = room(4 * 500), t.attributes = room(4 * 500), t.source = room(2000);
+    w = kerzhoma_write(IN, t.events, 500, t.attributes, 500, t.source, 2000);
+    expect(w.refusal.number == 0 && w.events > 0 && w.attributes > 0 && w.bytes > 0, "a report written");
+    for (size_t i = 0; i < sizeof parts / sizeof *parts; i++)
+        expect(holds(t.source, w.bytes, parts[i]), parts[i]);
+    t.events_length = 5 * w.events, t.attributes_length = 5 * w.attributes, t.source_length = w.bytes;
+    again = room(4 * words), texts = room(bytes), scratch = room(bytes);
+    r = kerzhoma_read(OF(t), again, words, texts, bytes, scratch, bytes);
+    expect(r.number == 0 && lists(again, words, texts, bytes), "what is written, read again");
+    w = kerzhoma_write(IN, t.events, 4, t.attributes, 500, t.source, 2000);
+    expect(w.refusal.number == KERZHOMA_REFUSED_OUTPUT && w.events == 0 && zero(t.events, 16) && zero(t.source, 2000), "too few words");
+    free(again);
+    free(texts);
+    free(scratch);
+    drop(t);
+    back();
+}
+
+/* Areas of every length up to what is needed, and codes that are none. */
+static void refusing(void)
+{
+    size_t used;
+
+    lend(32 * 10, 200);
+    build();
+    used = b.builder.bytes;
+    back();
+    for (size_t n = 0; n <= 32 * 10; n++) {
+        lend(n, used);
+        build();
+        expect(n < 32 * 10 ? refused(KERZHOMA_REFUSED_LAYOUT) : good(), "records of every length");
+        back();
+    }
+    for (size_t n = 0; n <= used; n++) {
+        lend(32 * 10, n);
+        build();
+        expect(n < used ? refused(KERZHOMA_REFUSED_LAYOUT) : good(), "text of every length");
+        back();
+    }
+    lend(0, 0);
+    b = kerzhoma_new_report(NULL, 0, NULL, 0, NULL, 0);
+    expect(refused(KERZHOMA_REFUSED_RECORDS), "no areas");
+    back();
+    lend(32, 0);
+    b = kerzhoma_new_report(IN, BYTES("x"));
+    expect(refused(KERZHOMA_REFUSED_TEXT), "no text area");
+    back();
+
+    lend(32 * 10, 100);
+    const kerzhoma_moment never = { 2023, 2, 29, 0, 0, 0, 0, 1439 };
+    for (int k = 0; k < 15; k++) {
+        uint32_t number = KERZHOMA_REFUSED_LAYOUT;
+        b = kerzhoma_unnamed_report(IN);
+        b = kerzhoma_add_test_suite(b.builder, IN, BYTES("s"));
+        b = kerzhoma_add_test_case(b.builder, IN, BYTES("c"), KERZHOMA_FAILURE);
+        expect(good(), "a case to work with");
+        switch (k) {
+        case 0: b = kerzhoma_add_test_case(b.builder, IN, BYTES("d"), 4); break;
+        case 1: b = kerzhoma_add_rerun(b.builder, IN, 2); break;
+        case 2: b = kerzhoma_add_property(b.builder, IN, 2, BYTES("n"), BYTES("v")); break;
+        case 3: b = kerzhoma_add_extra(b.builder, IN, 2, BYTES("n"), BYTES("v")); break;
+        case 4: b = kerzhoma_set_text(b.builder, IN, 5, KERZHOMA_MESSAGE, BYTES("m")); break;
+        case 5: b = kerzhoma_set_text(b.builder, IN, KERZHOMA_STATUS, 7, BYTES("m")); break;
+        case 6: b = kerzhoma_set_output_lossy(b.builder, IN, UINT32_MAX, KERZHOMA_SYSTEM_OUT, BYTES("m")); break;
+        case 7: b = kerzhoma_set_output_lossy(b.builder, IN, KERZHOMA_CASE, UINT32_MAX, BYTES("m")); break;
+        case 8: b = kerzhoma_set_timestamp(b.builder, IN, 5, never); break;
+        case 9: b = kerzhoma_set_time(b.builder, IN, 5, 0, 0); break;
+        case 10: b = kerzhoma_set_number(b.builder, IN, 2, 0); break;
+        case 11: b = kerzhoma_set_rerun_kind(b.builder, IN, 2); break;
+        case 12: b = kerzhoma_set_timestamp(b.builder, IN, KERZHOMA_CASE, never), number = KERZHOMA_REFUSED_TIMESTAMP; break;
+        case 13: b = kerzhoma_set_time(b.builder, IN, KERZHOMA_CASE, 8388608, 0), number = KERZHOMA_REFUSED_TIME; break;
+        case 14: b = kerzhoma_set_text(b.builder, IN, KERZHOMA_STATUS, KERZHOMA_MESSAGE, BYTES("\xff")), number = KERZHOMA_REFUSED_UTF8; break;
+        }
+        expect(refused(number), "a builder's call that refuses");
+    }
+    b.builder = (kerzhoma_builder){ UINT32_MAX, UINT32_MAX, UINT32_MAX - 1, 7, 7, 7 };
+    b = kerzhoma_add_test_suite(b.builder, IN, BYTES("s"));
+    expect(refused(KERZHOMA_REFUSED_LAYOUT), "a made-up builder");
+    back();
+}
+
+/* ---- areas ---- */
+
+/* <testsuites name="r"><testsuite name="l"><system-out>ab</system-out></testsuite></testsuites> */
+static uint32_t small_events[] = {
+    0, 0, 10, 0, 1, 0, 10, 9, 1, 1, 0, 19, 10, 0, 0, 3, 29, 2, 0, 0, 2, 19, 10, 0, 0, 2, 10, 9, 0, 0, 2, 0, 10, 0, 0,
+};
+static uint32_t small_attributes[] = { 0, 31, 4, 35, 1, 0, 31, 4, 36, 1 };
+static uint8_t small_source[] = "testsuitestestsuitesystem-outabnamerl";
+
+static void areas(void)
+{
+    struct table t = { small_events, small_attributes, small_source, 35, 10, sizeof small_source - 1, 0 }, none = { 0 };
+    const char line[] = "refused 14 at testsuites/testsuite[0](\"l\")/system-out: the area for gathering text is too short (event 3)\n";
+    kerzhoma_refusal r;
+    kerzhoma_explained e;
+    uint8_t *out = room(200);
+
+    for (size_t n = 0; n <= 64; n++) {
+        r = read_in(t, n, 4, 2);
+        expect(r.number == (n < 64 ? KERZHOMA_REFUSED_RECORDS : 0), "words for records of every number");
+    }
+    for (size_t n = 0; n <= 4; n++) {
+        r = read_in(t, 64, n, 2);
+        expect(r.number == (n < 4 ? KERZHOMA_REFUSED_TEXT : 0), "text of every length");
+    }
+    for (size_t n = 0; n <= 2; n++) {
+        r = read_in(t, 64, 4, n);
+        expect(r.number == (n < 2 ? KERZHOMA_REFUSED_SCRATCH : 0), "scratch of every length");
+    }
+    r = read_in(t, 64, 4, 1);
+    expect(r.number == KERZHOMA_REFUSED_SCRATCH && r.cause == KERZHOMA_CAUSE_SCRATCH_FULL && r.depth == 3
+           && r.path[0] == KERZHOMA_PATH_TESTSUITES && r.path[1] == KERZHOMA_NONE && r.path[2] == KERZHOMA_NONE
+           && r.path[3] == KERZHOMA_PATH_TESTSUITE && r.path[4] == 0 && r.path[5] == 1 && r.path[6] == KERZHOMA_PATH_SYSTEM_OUT
+           && r.event == 3 && r.attribute == KERZHOMA_NONE && zero(r.path + 9, 36), "where scratch is too short");
+    for (size_t n = 0; n < sizeof line; n++) {
+        uint8_t *exact = room(n);
+        e = kerzhoma_explain(r, OF(t), exact, n);
+        if (n < sizeof line - 1)
+            expect(e.length == 0 && e.refusal.number == KERZHOMA_REFUSED_OUTPUT && zero(exact, n), "too short for the line");
+        else
+            expect(e.length == n && e.refusal.number == 0 && memcmp(exact, line, n) == 0, "the line");
+        free(exact);
+    }
+    memset(&r, 0xff, sizeof r);
+    e = kerzhoma_explain(r, OF(t), out, 200);
+    expect(e.refusal.number == 0 && memcmp(out, "refused 11 at ?/?/?/?/?/?: ", 27) == 0, "a made-up refusal");
+    free(out);
+
+    r = kerzhoma_read(OF(none), NULL, 0, NULL, 0, NULL, 0);
+    expect(r.number == KERZHOMA_REFUSED_STRUCTURE && r.cause == KERZHOMA_CAUSE_MISSING_REPORT && r.event == 0, "no table");
+    expect(!kerzhoma_is_layout(NULL, 0, NULL, 0), "no layout");
+    expect(kerzhoma_list(NULL, 0, NULL, 0, NULL, 0).refusal.number == KERZHOMA_REFUSED_LAYOUT, "no report to list");
+    expect(kerzhoma_write(NULL, 0, NULL, 0, NULL, 0, NULL, 0, NULL, 0).refusal.number == KERZHOMA_REFUSED_LAYOUT, "no report to write");
+    expect(kerzhoma_public_listing(OF(none), NULL, 0, NULL, 0, NULL, 0, NULL, 0) == 0, "no public listing");
+    expect(kerzhoma_explain(r, OF(none), NULL, 0).refusal.number == KERZHOMA_REFUSED_OUTPUT, "no line");
+    out = room(10);
+    expect(kerzhoma_public_listing(OF(none), NULL, 0, NULL, 0, NULL, 0, out, 10) == 10 && memcmp(out, "(refused)\n", 10) == 0, "(refused)");
+    free(out);
+}
+
+int main(int argc, char **argv)
+{
+    if (argc == 2 && strcmp(argv[1], "tell") == 0)
+        return tell_all();
+    if (argc > 2 && strcmp(argv[1], "rooms") == 0) {
+        for (int i = 2; i < argc; i++)
+            rooms(argv[i]);
+    } else if (argc == 1) {
+        values();
+        built();
+        refusing();
+        areas();
+    } else {
+        fprintf(stderr, "usage: check | check tell | check rooms FILE..\n");
+        return 2;
+    }
+    printf("%d passed, %d failed\n", passed, failed);
+    return failed ? 1 : 0;
+}

@@ -1,0 +1,402 @@
+/* Kerzhoma for C: JUnit test reports. Read from tables of XML events, listed for the public, written as tables again, or built from
+ * nothing. Each call below is proved to answer and leave what its definition says, on every table, area and number.
+ *
+ *     rt staticlib port_c                                            makes target/staticlib/libport_c.a
+ *     cc -std=c11 -I ports/c yours.c target/staticlib/libport_c.a    (x86-64 Linux; of the C library only memset is used)
+ *
+ * There is no allocation, no global state and no output: a call works in areas that the caller lends, each as pointer and length.
+ * Lengths of `uint32_t *` are in words, of `uint8_t *` in bytes.
+ *   - NULL with length 0 is an empty area. Any other NULL, a pointer to words that isn't aligned to 4 bytes, an area that is shorter
+ *     than its length says, or a result area that overlaps another area of the same call is the caller's fault, and undefined.
+ *   - Inputs (`const`) are never changed. Result areas may hold anything before the call.
+ *   - Where a call refuses, every result area of it is zero throughout.
+ *   - Areas may be longer than the limits; only that much is used.
+ *   - Any number of threads may call at the same time, each with areas of its own.
+ * Records, texts, scratch and explanations hold private text; listings don't. */
+#ifndef KERZHOMA_H
+#define KERZHOMA_H
+
+#include <stdbool.h>
+#include <stddef.h>
+#include <stdint.h>
+
+#ifdef __cplusplus
+extern "C" {
+#endif
+
+/* ---- limits ---- */
+
+#define KERZHOMA_MOST_EVENTS 65536
+#define KERZHOMA_MOST_ATTRIBUTES 65536
+#define KERZHOMA_MOST_RECORDS 65536
+#define KERZHOMA_MOST_BYTES 16777216 /* of source, text, scratch, and of the bytes that writing puts */
+
+#define KERZHOMA_EVENT_WORDS 5
+#define KERZHOMA_ATTRIBUTE_WORDS 5
+#define KERZHOMA_RECORD_WORDS 32
+
+/* Stands where no event, attribute, index or record is concerned. */
+#define KERZHOMA_NONE UINT32_C(4294967295)
+
+/* ---- tables ----
+ * An event is five words: kind, start and length in the source, first attribute, number of attributes. An attribute is five words: mark
+ * (0 good, 1 faulty), start and length of the key, start and length of the value. Keys, values and texts are as in the XML, references
+ * not resolved. Only Start and Empty have attributes. The table's end counts as Eof. */
+
+enum kerzhoma_event_kind {
+    KERZHOMA_START = 0, /* the bytes are the tag name */
+    KERZHOMA_EMPTY = 1, /* <tag/>; the same */
+    KERZHOMA_END = 2,   /* the same */
+    KERZHOMA_TEXT = 3,
+    KERZHOMA_CDATA = 4,
+    KERZHOMA_REF = 5,   /* the name between & and ; */
+    KERZHOMA_OTHER = 6, /* comment, declaration, processing instruction, document type */
+    KERZHOMA_EOF = 7,
+    KERZHOMA_FAULT = 8, /* the XML reader failed */
+    KERZHOMA_INDENT = 9 /* a Text of one newline; its bytes are never read */
+};
+
+/* ---- refusals ---- */
+
+/* Why a call did nothing. `number` is 0 where it did its work; then cause and depth are 0 and event and attribute KERZHOMA_NONE. */
+typedef struct kerzhoma_refusal {
+    uint32_t number;    /* KERZHOMA_REFUSED_.. */
+    uint32_t cause;     /* KERZHOMA_CAUSE_.., finer than the number */
+    uint32_t depth;     /* how many elements the path has, at most 6 */
+    uint32_t path[18];  /* kind, index and event of the first element, of the second, .. */
+    uint32_t event;     /* the event that was read; the number of events at the table's end */
+    uint32_t attribute; /* its place in the table */
+} kerzhoma_refusal;
+
+enum kerzhoma_refused {
+    KERZHOMA_ACCEPTED = 0,
+    KERZHOMA_REFUSED_FAULT = 1,      /* the XML reader failed, or the table ends in an element that is passed over */
+    KERZHOMA_REFUSED_UTF8 = 2,       /* not UTF-8 */
+    KERZHOMA_REFUSED_INTEGER = 3,
+    KERZHOMA_REFUSED_TIMESTAMP = 4,
+    KERZHOMA_REFUSED_TIME = 5,
+    KERZHOMA_REFUSED_UUID = 6,
+    KERZHOMA_REFUSED_MISSING = 7,    /* an attribute isn't there */
+    KERZHOMA_REFUSED_STRUCTURE = 8,  /* no report, or the table ends inside an element that is read */
+    KERZHOMA_REFUSED_ATTRIBUTE = 9,  /* faulty, or a key stands twice */
+    KERZHOMA_REFUSED_REFERENCE = 10, /* &..; */
+    KERZHOMA_REFUSED_TABLE = 11,     /* the table is malformed or above the limits */
+    KERZHOMA_REFUSED_RECORDS = 12,   /* `records` is too short */
+    KERZHOMA_REFUSED_TEXT = 13,      /* `text` is too short */
+    KERZHOMA_REFUSED_SCRATCH = 14,   /* `scratch` is too short */
+    KERZHOMA_REFUSED_LAYOUT = 15,    /* the areas hold no report; a builder's call that doesn't fit there; a code that is none */
+    KERZHOMA_REFUSED_OUTPUT = 16,    /* an area for output is too short */
+    KERZHOMA_REFUSED_COUNT = 17,     /* a count would pass 18446744073709551615 */
+    KERZHOMA_REFUSED_STATUS = 20,    /* a case's status elements don't go together */
+    KERZHOMA_REFUSED_NAME = 21       /* the name of a Ref in gathered text is unknown */
+};
+
+enum kerzhoma_cause {
+    KERZHOMA_CAUSE_XML_FAULT = 1,         /* 1 */
+    KERZHOMA_CAUSE_EOF_IN_SKIP = 2,       /* 1 */
+    KERZHOMA_CAUSE_NOT_UTF8 = 3,          /* 2 */
+    KERZHOMA_CAUSE_BAD_INTEGER = 4,       /* 3 */
+    KERZHOMA_CAUSE_BAD_TIMESTAMP = 5,     /* 4 */
+    KERZHOMA_CAUSE_BAD_TIME = 6,          /* 5 */
+    KERZHOMA_CAUSE_BAD_UUID = 7,          /* 6 */
+    KERZHOMA_CAUSE_MISSING_ATTRIBUTE = 8, /* 7 */
+    KERZHOMA_CAUSE_MISSING_REPORT = 9,    /* 8 */
+    KERZHOMA_CAUSE_EOF_IN_ELEMENT = 10,   /* 8 */
+    KERZHOMA_CAUSE_STATUS_RULE = 11,      /* 20 */
+    KERZHOMA_CAUSE_UNKNOWN_ENTITY = 12,   /* 21 */
+    KERZHOMA_CAUSE_FAULTY_ATTRIBUTE = 13, /* 9 */
+    KERZHOMA_CAUSE_REPEATED_KEY = 14,     /* 9 */
+    KERZHOMA_CAUSE_BAD_REFERENCE = 15,    /* 10 */
+    KERZHOMA_CAUSE_BAD_TABLE = 16,        /* 11 */
+    KERZHOMA_CAUSE_RECORDS_SPENT = 17,    /* 12 */
+    KERZHOMA_CAUSE_TEXT_FULL = 18,        /* 13 */
+    KERZHOMA_CAUSE_SCRATCH_FULL = 19,     /* 14 */
+    KERZHOMA_CAUSE_NOT_LAYOUT = 20,       /* 15 */
+    KERZHOMA_CAUSE_OUTPUT_FULL = 21,      /* 16 */
+    KERZHOMA_CAUSE_COUNT_LIMIT = 22       /* 17 */
+};
+
+/* Kinds of path elements. Index and event are KERZHOMA_NONE but where a comment says otherwise. */
+enum kerzhoma_path_kind {
+    KERZHOMA_PATH_TESTSUITES = 1,
+    KERZHOMA_PATH_TESTSUITE = 2, /* index: its place in the report; event: its Start, once it is named */
+    KERZHOMA_PATH_TESTCASE = 3,  /* index: its place in the suite; event: its Start, once it is named */
+    KERZHOMA_PATH_PROPERTIES = 4,
+    KERZHOMA_PATH_PROPERTY = 5, /* index: its place in the list */
+    KERZHOMA_PATH_FAILURE = 6,
+    KERZHOMA_PATH_ERROR = 7,
+    KERZHOMA_PATH_SKIPPED = 8,
+    KERZHOMA_PATH_FLAKY_FAILURE = 9,
+    KERZHOMA_PATH_FLAKY_ERROR = 10,
+    KERZHOMA_PATH_RERUN_FAILURE = 11,
+    KERZHOMA_PATH_RERUN_ERROR = 12,
+    KERZHOMA_PATH_SYSTEM_OUT = 14,
+    KERZHOMA_PATH_SYSTEM_ERR = 15,
+    KERZHOMA_PATH_ATTRIBUTE = 16 /* index: which, by docs/REFUSALS.md: 1 name, 2 classname, 3 uuid, 4 timestamp, 5 time, .. */
+};
+
+/* ---- reading ---- */
+
+/* Reads a table. Accepted, `records` and `text` hold the report by docs/TREE.md, with zeros behind it, and `scratch` is zero; refused,
+ * all three are. What certainly suffices: 32 words for each Start and Empty and for each of their attributes; for text, the bytes of
+ * their keys and values, and for both text and scratch, the bytes of all other events and one more for each; never more than the limits. */
+kerzhoma_refusal kerzhoma_read(
+    const uint32_t *events, size_t events_length,
+    const uint32_t *attributes, size_t attributes_length,
+    const uint8_t *source, size_t source_length,
+    uint32_t *records, size_t records_length,
+    uint8_t *text, size_t text_length,
+    uint8_t *scratch, size_t scratch_length);
+
+/* Whether `records` and `text` hold a report by docs/TREE.md, which listing and writing ask for. */
+bool kerzhoma_is_layout(
+    const uint32_t *records, size_t records_length,
+    const uint8_t *text, size_t text_length);
+
+/* Puts a line that says why and where a table was refused at the front of `out`, and zeros behind it; a newline ends it. `length` is 0
+ * where it doesn't fit (16); 4,096 bytes are enough but for very long names. The line may hold a suite's or case's name, so it isn't for
+ * the public. Ask only where the number isn't 0: a cause that is none counts as KERZHOMA_CAUSE_BAD_TABLE. */
+typedef struct kerzhoma_explained {
+    size_t length;
+    kerzhoma_refusal refusal;
+} kerzhoma_explained;
+
+kerzhoma_explained kerzhoma_explain(
+    kerzhoma_refusal refusal,
+    const uint32_t *events, size_t events_length,
+    const uint32_t *attributes, size_t attributes_length,
+    const uint8_t *source, size_t source_length,
+    uint8_t *out, size_t out_length);
+
+/* ---- listing ---- */
+
+/* `length` is how many bytes of `out` the listing takes, 0 where the call refuses (15, 16). */
+typedef struct kerzhoma_listing {
+    size_t length;
+    kerzhoma_refusal refusal;
+} kerzhoma_listing;
+
+/* Puts the public listing of a report at the front of `out`, and zeros behind it. */
+kerzhoma_listing kerzhoma_list(
+    const uint32_t *records, size_t records_length,
+    const uint8_t *text, size_t text_length,
+    uint8_t *out, size_t out_length);
+
+/* Reading and listing in one: puts the listing, or `(refused)` and a newline where either refuses, at the front of `out`, and zeros
+ * behind it; of a shorter area the part of `(refused)` that fits. Returns how many bytes of `out` that takes. The other areas are as
+ * kerzhoma_read leaves them. */
+size_t kerzhoma_public_listing(
+    const uint32_t *events, size_t events_length,
+    const uint32_t *attributes, size_t attributes_length,
+    const uint8_t *source, size_t source_length,
+    uint32_t *records, size_t records_length,
+    uint8_t *text, size_t text_length,
+    uint8_t *scratch, size_t scratch_length,
+    uint8_t *out, size_t out_length);
+
+/* ---- writing ---- */
+
+/* How many events, attributes and bytes were put (five words for each event and attribute); all 0 where the call refuses (15, 16). */
+typedef struct kerzhoma_writing {
+    size_t events;
+    size_t attributes;
+    size_t bytes;
+    kerzhoma_refusal refusal;
+} kerzhoma_writing;
+
+/* Puts the table that a report is written as at the front of the last three areas, and zeros behind it. */
+kerzhoma_writing kerzhoma_write(
+    const uint32_t *records, size_t records_length,
+    const uint8_t *text, size_t text_length,
+    uint32_t *events, size_t events_length,
+    uint32_t *attributes, size_t attributes_length,
+    uint8_t *bytes, size_t bytes_length);
+
+/* Puts a time as listings and written reports have it, `0.500`, at the front of `out`, and leaves what is behind it. Returns its length,
+ * or 0 where it doesn't fit; then `out` is zero. 14 bytes are enough for every time. */
+size_t kerzhoma_time_text(uint8_t *out, size_t out_length, uint32_t seconds, uint32_t nanoseconds);
+
+/* ---- counts ---- */
+
+typedef struct kerzhoma_counts {
+    uint64_t tests;
+    uint64_t failures;
+    uint64_t errors;
+    uint64_t skipped;
+    uint64_t disabled; /* counts only where has_disabled */
+    bool has_disabled;
+} kerzhoma_counts;
+
+typedef struct kerzhoma_counted {
+    kerzhoma_counts counts; /* as they were, where the call refuses (15, 17) */
+    kerzhoma_refusal refusal;
+} kerzhoma_counted;
+
+/* What a case comes to. */
+enum kerzhoma_outcome {
+    KERZHOMA_SUCCESS = 0,
+    KERZHOMA_FAILURE = 1,
+    KERZHOMA_ERROR = 2,
+    KERZHOMA_SKIPPED = 3
+};
+
+/* The counts with one case more. */
+kerzhoma_counted kerzhoma_add_case(kerzhoma_counts counts, uint32_t outcome);
+
+/* The sums; `disabled` only if the suite has it. */
+kerzhoma_counted kerzhoma_add_suite(kerzhoma_counts counts, kerzhoma_counts suite);
+
+/* ---- builders ----
+ * A report is made in two areas, from the front on: kerzhoma_new_report or kerzhoma_unnamed_report; then suites, each with its extras, its
+ * properties and its cases, each case with its extras, properties and runs, all in that order; setters at any time while their element is
+ * open; then kerzhoma_finish_report. The last suite, and in it the last case, is open. Counts keep themselves.
+ *
+ * Each call takes the builder that the call before it returned, with the same two areas, and the areas stay untouched in between. Where a
+ * call refuses, both areas are zero, the report is gone, and the builder that is returned is none, which further calls refuse (15). Texts
+ * are UTF-8 (2); control characters that XML doesn't have are left out. A text or value that is set again stays in `text` as dead bytes. */
+
+typedef struct kerzhoma_builder {
+    uint32_t records; /* how many are used */
+    uint32_t bytes;   /* how many of `text` are used */
+    uint32_t report;  /* the numbers of records, KERZHOMA_NONE where nothing is open */
+    uint32_t suite;
+    uint32_t test_case;
+    uint32_t status;
+} kerzhoma_builder;
+
+typedef struct kerzhoma_built {
+    kerzhoma_builder builder;
+    kerzhoma_refusal refusal; /* 2, 12, 13, 15, 17; 4 and 5 for timestamps and times that aren't in range */
+} kerzhoma_built;
+
+/* A new report in areas that may hold anything. */
+kerzhoma_built kerzhoma_new_report(
+    uint32_t *records, size_t records_length, uint8_t *text, size_t text_length,
+    const uint8_t *name, size_t name_length);
+
+kerzhoma_built kerzhoma_unnamed_report(
+    uint32_t *records, size_t records_length, uint8_t *text, size_t text_length);
+
+kerzhoma_built kerzhoma_add_test_suite(
+    kerzhoma_builder builder, uint32_t *records, size_t records_length, uint8_t *text, size_t text_length,
+    const uint8_t *name, size_t name_length);
+
+/* `outcome` is one of enum kerzhoma_outcome, and counts at once. */
+kerzhoma_built kerzhoma_add_test_case(
+    kerzhoma_builder builder, uint32_t *records, size_t records_length, uint8_t *text, size_t text_length,
+    const uint8_t *name, size_t name_length, uint32_t outcome);
+
+enum kerzhoma_run {
+    KERZHOMA_RUN_FAILURE = 0,
+    KERZHOMA_RUN_ERROR = 1
+};
+
+/* A run of the open case: flaky where the case succeeds, a rerun where it fails and kerzhoma_set_rerun_kind says nothing else; a skipped
+ * case has none (15). */
+kerzhoma_built kerzhoma_add_rerun(
+    kerzhoma_builder builder, uint32_t *records, size_t records_length, uint8_t *text, size_t text_length,
+    uint32_t run);
+
+enum kerzhoma_family {
+    KERZHOMA_FLAKY = 0,
+    KERZHOMA_RERUN = 1
+};
+
+/* What the runs of the open case's failure or error are, also those that are there. */
+kerzhoma_built kerzhoma_set_rerun_kind(
+    kerzhoma_builder builder, uint32_t *records, size_t records_length, uint8_t *text, size_t text_length,
+    uint32_t family);
+
+enum kerzhoma_holder {
+    KERZHOMA_OF_SUITE = 0,
+    KERZHOMA_OF_CASE = 1
+};
+
+kerzhoma_built kerzhoma_add_property(
+    kerzhoma_builder builder, uint32_t *records, size_t records_length, uint8_t *text, size_t text_length,
+    uint32_t holder, const uint8_t *name, size_t name_length, const uint8_t *value, size_t value_length);
+
+/* An attribute that reports don't have a field for. One with the same key gets the new value. */
+kerzhoma_built kerzhoma_add_extra(
+    kerzhoma_builder builder, uint32_t *records, size_t records_length, uint8_t *text, size_t text_length,
+    uint32_t holder, const uint8_t *key, size_t key_length, const uint8_t *value, size_t value_length);
+
+/* The element that a setter is for. */
+enum kerzhoma_element {
+    KERZHOMA_REPORT = 0,
+    KERZHOMA_SUITE = 1,
+    KERZHOMA_CASE = 2,
+    KERZHOMA_STATUS = 3, /* the open case's failure, error or skipped */
+    KERZHOMA_LAST = 4    /* the last record: a run, where one was just added */
+};
+
+/* Which elements have the text: others are refused with 15. */
+enum kerzhoma_field {
+    KERZHOMA_CLASSNAME = 0,   /* case */
+    KERZHOMA_MESSAGE = 1,     /* status, run */
+    KERZHOMA_TYPE = 2,        /* status, run */
+    KERZHOMA_DESCRIPTION = 3, /* status, run */
+    KERZHOMA_STACK_TRACE = 4, /* run */
+    KERZHOMA_SYSTEM_OUT = 5,  /* suite, case, run */
+    KERZHOMA_SYSTEM_ERR = 6   /* suite, case, run */
+};
+
+kerzhoma_built kerzhoma_set_text(
+    kerzhoma_builder builder, uint32_t *records, size_t records_length, uint8_t *text, size_t text_length,
+    uint32_t element, uint32_t field, const uint8_t *value, size_t value_length);
+
+/* KERZHOMA_SYSTEM_OUT or KERZHOMA_SYSTEM_ERR from any bytes: what isn't UTF-8 becomes U+FFFD. */
+kerzhoma_built kerzhoma_set_output_lossy(
+    kerzhoma_builder builder, uint32_t *records, size_t records_length, uint8_t *text, size_t text_length,
+    uint32_t element, uint32_t field, const uint8_t *value, size_t value_length);
+
+/* A date that exists, year 0 to 9999, second at most 59, nanoseconds at most 999999999; else 4. */
+typedef struct kerzhoma_moment {
+    uint16_t year;
+    uint8_t month; /* 1 to 12 */
+    uint8_t day;   /* from 1 on */
+    uint8_t hour;
+    uint8_t minute;
+    uint8_t second;
+    uint32_t nanoseconds;
+    uint16_t offset; /* minutes east of UTC, plus 1439: UTC is 1439, at most 2878 */
+} kerzhoma_moment;
+
+/* Of report, suite, case or run. */
+kerzhoma_built kerzhoma_set_timestamp(
+    kerzhoma_builder builder, uint32_t *records, size_t records_length, uint8_t *text, size_t text_length,
+    uint32_t element, kerzhoma_moment moment);
+
+/* Of report, suite, case or run: at most 8388607 seconds and 999999999 nanoseconds; else 5. */
+kerzhoma_built kerzhoma_set_time(
+    kerzhoma_builder builder, uint32_t *records, size_t records_length, uint8_t *text, size_t text_length,
+    uint32_t element, uint32_t seconds, uint32_t nanoseconds);
+
+/* 16 bytes, the most significant first: 01234567-89ab-cdef-0123-456789abcdef is {0x01234567, 0x89abcdef, 0x01234567, 0x89abcdef}. */
+typedef struct kerzhoma_uuid {
+    uint32_t words[4];
+} kerzhoma_uuid;
+
+/* Of the report. */
+kerzhoma_built kerzhoma_set_uuid(
+    kerzhoma_builder builder, uint32_t *records, size_t records_length, uint8_t *text, size_t text_length,
+    kerzhoma_uuid uuid);
+
+enum kerzhoma_number {
+    KERZHOMA_ASSERTIONS = 0, /* of the open case */
+    KERZHOMA_DISABLED = 1    /* of the open suite */
+};
+
+kerzhoma_built kerzhoma_set_number(
+    kerzhoma_builder builder, uint32_t *records, size_t records_length, uint8_t *text, size_t text_length,
+    uint32_t field, uint64_t number);
+
+/* Adds the last suite to the report's sums; nothing is open any more. */
+kerzhoma_built kerzhoma_finish_report(
+    kerzhoma_builder builder, uint32_t *records, size_t records_length, uint8_t *text, size_t text_length);
+
+#ifdef __cplusplus
+}
+#endif
+
+#endif

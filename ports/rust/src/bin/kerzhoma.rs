@@ -1,0 +1,172 @@
+//! The command line: lists, explains, writes and checks a report.
+#![forbid(unsafe_code)]
+
+use kerzhoma::input::load_table;
+use kerzhoma::{explain, list, read, write, Areas, TableBuf, Tree};
+use std::ffi::{OsStr, OsString};
+use std::io::{self, ErrorKind, Write};
+use std::path::{Path, PathBuf};
+use std::process::ExitCode;
+use std::{env, fs};
+
+const HELP: &str = "\
+kerzhoma: JUnit test reports, read by a proved library
+
+    kerzhoma list FILE             writes the public listing, or (refused)
+    kerzhoma check FILE            only tells whether the report is accepted
+    kerzhoma explain FILE          writes why the report is refused, or accepted
+    kerzhoma write FILE -o FILE    writes the report again, as a table
+
+FILE is a table of XML events: three little-endian words, the numbers of events,
+attributes and source bytes, then the three. - is standard input or output.
+Bytes behind the table are ignored. At most 65536 events, 65536 attributes and
+16777216 source bytes are taken.
+
+A listing has no private text. The line of explain may have some: it tells the
+names of the suite and case. What list, check and write say on standard error
+has no names.
+
+Exit status: 0 the report is accepted, 1 it is refused, 2 bad usage, or input
+or output that fails.
+";
+
+const ACCEPTED: u8 = 0;
+const REFUSED: u8 = 1;
+const FAILED: u8 = 2;
+
+enum Task {
+    List,
+    Check,
+    Explain,
+    Write(PathBuf),
+}
+
+fn main() -> ExitCode {
+    let arguments: Vec<OsString> = env::args_os().skip(1).collect();
+    let status = match parse(&arguments) {
+        Ok(Some((task, file))) => run(&task, &file),
+        Ok(None) => put(HELP.as_bytes(), ACCEPTED),
+        Err(what) => {
+            say(&what);
+            say("usage: kerzhoma list|check|explain FILE, kerzhoma write FILE -o FILE, kerzhoma --help");
+            FAILED
+        }
+    };
+    ExitCode::from(status)
+}
+
+// The task and its file; none where help is asked for.
+fn parse(arguments: &[OsString]) -> Result<Option<(Task, PathBuf)>, String> {
+    if arguments.iter().take_while(|a| *a != "--").any(|a| a == "--help" || a == "-h") {
+        return Ok(None);
+    }
+    let mut rest = arguments.iter();
+    let task = rest.next().ok_or("there is no command")?;
+    let (mut file, mut output, mut options) = (None, None, true);
+    while let Some(a) = rest.next() {
+        if options && a == "--" {
+            options = false;
+        } else if options && a == "-o" {
+            let to = rest.next().ok_or("-o needs a file")?;
+            if output.replace(PathBuf::from(to)).is_some() {
+                return Err("-o is there twice".to_owned());
+            }
+        } else if options && a != "-" && a.as_encoded_bytes().starts_with(b"-") {
+            return Err(format!("there is no option {}", a.display()));
+        } else if file.replace(PathBuf::from(a)).is_some() {
+            return Err(format!("one file is taken, and {} is another", a.display()));
+        }
+    }
+    let task = match (task.to_str(), output) {
+        (Some("write"), Some(to)) => Task::Write(to),
+        (Some("write"), None) => return Err("write needs -o FILE".to_owned()),
+        (Some("list" | "check" | "explain"), Some(_)) => return Err("-o belongs to write".to_owned()),
+        (Some("list"), None) => Task::List,
+        (Some("check"), None) => Task::Check,
+        (Some("explain"), None) => Task::Explain,
+        _ => return Err(format!("there is no command {}", task.display())),
+    };
+    Ok(Some((task, file.ok_or("there is no file")?)))
+}
+
+fn say(what: &str) {
+    // nothing is left to do where standard error is closed
+    let _ = writeln!(io::stderr(), "kerzhoma: {what}");
+}
+
+// A reader that has seen enough is no failure.
+fn put(bytes: &[u8], status: u8) -> u8 {
+    let mut out = io::stdout().lock();
+    match out.write_all(bytes).and_then(|()| out.flush()) {
+        Err(e) if e.kind() != ErrorKind::BrokenPipe => {
+            say(&format!("standard output: {e}"));
+            FAILED
+        }
+        _ => status,
+    }
+}
+
+fn run(task: &Task, file: &Path) -> u8 {
+    let loaded = match load_table(file) {
+        Ok(loaded) => loaded,
+        Err(e) => {
+            say(&format!("{}: {e}", shown(file)));
+            return FAILED;
+        }
+    };
+    if loaded.trailing {
+        say(&format!("{}: bytes behind the table are ignored", shown(file)));
+    }
+    done(task, &loaded.table)
+}
+
+fn shown(file: &Path) -> String {
+    if file.as_os_str() == OsStr::new("-") {
+        return "standard input".to_owned();
+    }
+    file.display().to_string()
+}
+
+fn done(task: &Task, table: &TableBuf) -> u8 {
+    let table = table.as_table();
+    let mut areas = Areas::for_table(&table);
+    match (read(&table, &mut areas), task) {
+        (Ok(tree), _) => accepted(task, &tree),
+        (Err(refusal), Task::Explain) => put(explain(&refusal, &table).as_bytes(), REFUSED),
+        (Err(refusal), task) => {
+            say(&refusal.to_string());
+            refused(task)
+        }
+    }
+}
+
+// A listing of what is refused is `(refused)`.
+fn refused(task: &Task) -> u8 {
+    match task {
+        Task::List => put(b"(refused)\n", REFUSED),
+        _ => REFUSED,
+    }
+}
+
+fn accepted(task: &Task, tree: &Tree<'_>) -> u8 {
+    let made = match task {
+        Task::Check => return ACCEPTED,
+        Task::Explain => return put(b"accepted\n", ACCEPTED),
+        Task::List => list(tree).map(String::into_bytes),
+        Task::Write(_) => write(tree).map(|table| table.to_bytes()),
+    };
+    match (made, task) {
+        (Err(refusal), _) => {
+            say(&refusal.to_string());
+            refused(task)
+        }
+        (Ok(bytes), Task::Write(to)) if to.as_os_str() != OsStr::new("-") => match fs::write(to, bytes) {
+            Ok(()) => ACCEPTED,
+            Err(e) => {
+                say(&format!("{}: {e}", to.display()));
+                FAILED
+            }
+        },
+        (Ok(bytes), _) => put(&bytes, ACCEPTED),
+    }
+}

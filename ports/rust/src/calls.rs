@@ -1,0 +1,183 @@
+//! Reading, listing, writing and explaining.
+#![forbid(unsafe_code)]
+
+use crate::limits::{self, ENTRY};
+use crate::table::LINE;
+use crate::{sys, Areas, Refusal, Table, TableBuf, Tree};
+
+/// Reads a table into areas.
+///
+/// # Errors
+///
+/// The refusal, by docs/REFUSALS.md; the areas are zero then.
+///
+/// ```
+/// use kerzhoma::{list, read, Areas, TableBuilder};
+///
+/// let mut table = TableBuilder::new();
+/// table.empty("testsuites").attribute("name", "r").attribute("tests", "2");
+/// let mut areas = Areas::for_table(&table.table());
+/// let tree = read(&table.table(), &mut areas)?;
+/// assert_eq!(tree.counts().tests, 2);
+/// assert_eq!(list(&tree)?, "(report \"r\" 2 0 0 0 -)\n");
+/// # Ok::<(), kerzhoma::Refusal>(())
+/// ```
+pub fn read<'a>(table: &Table<'_>, areas: &'a mut Areas) -> Result<Tree<'a>, Refusal> {
+    let Areas { records, text, scratch } = areas;
+    Refusal::result(sys::read(table.events, table.attributes, table.source, records, text, scratch))?;
+    Tree::over(records, text)
+}
+
+/// The longest listing of a report that was read or built: each text stands in the text area once, and is at most doubled.
+const LONGEST: u64 = 2 * limits::BYTES as u64 + LINE * limits::RECORDS as u64;
+
+fn area(bytes: u64) -> Vec<u8> {
+    vec![0; bytes.min(LONGEST) as usize]
+}
+
+// What stands at the front of an area. Listings and explanations are UTF-8.
+fn text_of(mut area: Vec<u8>, length: usize) -> String {
+    area.truncate(length);
+    area.shrink_to_fit();
+    String::from_utf8(area).unwrap_or_else(|e| String::from_utf8_lossy(e.as_bytes()).into_owned())
+}
+
+/// The public listing of a report: its cases with their statuses, and no private text.
+///
+/// # Errors
+///
+/// 16 where it is longer than the listing of any report that was read or built. Only a layout from elsewhere, whose texts overlap, can
+/// have such a listing; [`list_into`] takes an area of any length.
+pub fn list(tree: &Tree<'_>) -> Result<String, Refusal> {
+    let mut out = area(tree.bounds().listing);
+    let length = list_into(tree, &mut out)?;
+    Ok(text_of(out, length))
+}
+
+/// Puts the listing at the front of an area, and zeros behind it: how many bytes it takes.
+///
+/// # Errors
+///
+/// 16 where the area is too short; all of it is zero then.
+pub fn list_into(tree: &Tree<'_>, out: &mut [u8]) -> Result<usize, Refusal> {
+    let listing = sys::list(tree.records(), tree.text().as_bytes(), out);
+    Refusal::result(listing.refusal)?;
+    Ok(listing.length)
+}
+
+/// Reading and listing in one call: the public listing of a table, or `(refused)` and a newline. The claims on public listings are
+/// proved of this call.
+///
+/// ```
+/// use kerzhoma::{public_listing, Areas, TableBuilder};
+///
+/// let mut table = TableBuilder::new();
+/// table.start("testsuites");
+/// let mut areas = Areas::for_table(&table.table());
+/// assert_eq!(public_listing(&table.table(), &mut areas), "(refused)\n");
+/// table.end("testsuites");
+/// assert_eq!(public_listing(&table.table(), &mut areas), "(report - 0 0 0 0 -)\n");
+/// ```
+pub fn public_listing(table: &Table<'_>, areas: &mut Areas) -> String {
+    let bound = table.needs().listing.saturating_add("(refused)\n".len() as u64);
+    let mut out = area(bound);
+    let length = public_listing_into(table, areas, &mut out);
+    text_of(out, length)
+}
+
+/// The same into an area, with zeros behind it: how many bytes it takes. Where the area is too short for the listing, `(refused)` stands
+/// there, as far as it fits.
+pub fn public_listing_into(table: &Table<'_>, areas: &mut Areas, out: &mut [u8]) -> usize {
+    let Areas { records, text, scratch } = areas;
+    sys::public_listing(table.events, table.attributes, table.source, records, text, scratch, out)
+}
+
+/// The table that a report is written as.
+///
+/// # Errors
+///
+/// 16 where it is larger than the limits.
+///
+/// ```
+/// use kerzhoma::{list, read, write, Areas, TableBuilder};
+///
+/// let mut table = TableBuilder::new();
+/// table.empty("testsuites").attribute("name", "r");
+/// let mut areas = Areas::for_table(&table.table());
+/// let tree = read(&table.table(), &mut areas)?;
+/// let written = write(&tree)?;
+///
+/// let mut others = Areas::for_table(&written.as_table());
+/// let again = read(&written.as_table(), &mut others)?;
+/// assert_eq!(list(&again)?, list(&tree)?);
+/// # Ok::<(), kerzhoma::Refusal>(())
+/// ```
+pub fn write(tree: &Tree<'_>) -> Result<TableBuf, Refusal> {
+    let bounds = tree.bounds();
+    let within = |n: u64, limit: usize| usize::try_from(n).unwrap_or(limit).min(limit);
+    let mut made = TableBuf {
+        events: vec![0; within(bounds.entries, limits::EVENTS) * ENTRY],
+        attributes: vec![0; within(bounds.entries, limits::ATTRIBUTES) * ENTRY],
+        source: vec![0; within(bounds.bytes, limits::BYTES)],
+    };
+    let table = write_into(tree, &mut made.events, &mut made.attributes, &mut made.source)?;
+    let (events, attributes, bytes) = (table.events.len(), table.attributes.len(), table.source.len());
+    made.events.truncate(events);
+    made.attributes.truncate(attributes);
+    made.source.truncate(bytes);
+    made.events.shrink_to_fit();
+    made.attributes.shrink_to_fit();
+    made.source.shrink_to_fit();
+    Ok(made)
+}
+
+/// The same into three areas: words of events, words of attributes, bytes.
+///
+/// # Errors
+///
+/// 16 where one of them is too short; all of them are zero then.
+pub fn write_into<'o>(
+    tree: &Tree<'_>, events: &'o mut [u32], attributes: &'o mut [u32], bytes: &'o mut [u8],
+) -> Result<Table<'o>, Refusal> {
+    let writing = sys::write(tree.records(), tree.text().as_bytes(), events, attributes, bytes);
+    Refusal::result(writing.refusal)?;
+    let front = |n: usize, len: usize| n.min(len);
+    let (m, n) = (front(writing.events * ENTRY, events.len()), front(writing.attributes * ENTRY, attributes.len()));
+    let k = front(writing.bytes, bytes.len());
+    Ok(Table::new(&events[..m], &attributes[..n], &bytes[..k]))
+}
+
+/// A refusal in words, with the names of suite and case from the table that was refused: one line, ended by a newline.
+///
+/// A name is private text: this line isn't for the public. What a [`Refusal`] displays has no names.
+///
+/// ```
+/// use kerzhoma::{explain, read, Areas, TableBuilder};
+///
+/// let mut table = TableBuilder::new();
+/// table.start("testsuites");
+/// table.start("testsuite").attribute("name", "lab");
+/// table.empty("testcase");
+/// let table = table.finish();
+/// let refusal = read(&table.as_table(), &mut Areas::new(9, 99, 99)).unwrap_err();
+/// assert_eq!(
+///     explain(&refusal, &table.as_table()),
+///     "refused 7 at testsuites/testsuite[0](\"lab\")/testcase[0]/@name: this attribute is missing (event 2)\n"
+/// );
+/// ```
+pub fn explain(refusal: &Refusal, table: &Table<'_>) -> String {
+    // a name is a part of the source, at most doubled; a path has at most six
+    let longest = 12 * table.source.len().min(limits::SOURCE) + 4096;
+    let mut size = 4096;
+    loop {
+        let mut out = vec![0; size];
+        let explained = sys::explain(refusal.told(), table.events, table.attributes, table.source, &mut out);
+        if explained.refusal.number == 0 {
+            return text_of(out, explained.length);
+        }
+        if size >= longest {
+            return format!("{refusal}\n");
+        }
+        size = (size * 16).min(longest);
+    }
+}

@@ -1,0 +1,46 @@
+//! Reads JUnit test reports that come as tables of XML events, lists them publicly, builds them, and writes them again as tables.
+//!
+//! The work is done by Kerzhoma's library, whose every function is proved; this crate gives it the shape of Rust. Its own code, that is
+//! what makes tables, walks trees and parses files, is tested, not proved.
+//!
+//! - A [`Table`] is events, attributes and source bytes: from a file ([`TableBuf::from_bytes`]) or made by a [`TableBuilder`].
+//! - [`Areas`] are what reading works in, allocated once. [`read`] gives a [`Tree`] that borrows them, or a [`Refusal`].
+//! - [`list`] and [`public_listing`] give the listing without private text, [`write()`] the table of a report, [`explain`] a refusal in
+//!   words.
+//! - A [`ReportBuilder`] makes a report from nothing.
+//!
+//! ```
+//! use kerzhoma::{list, read, Areas, TableBuf};
+//!
+//! # let file = { let mut t = kerzhoma::TableBuilder::new(); t.empty("testsuites"); t.finish().to_bytes() };
+//! let (table, _) = TableBuf::from_bytes(&file)?;
+//! let mut areas = Areas::for_table(&table.as_table());
+//! let tree = read(&table.as_table(), &mut areas)?;
+//! print!("{}", list(&tree)?);
+//! # Ok::<(), Box<dyn std::error::Error>>(())
+//! ```
+//!
+//! `unsafe` stands in one module, `sys`, which has the calls and nothing else. `forbid` can't be lifted for one module, so the root
+//! denies `unsafe`, and every other module forbids it.
+#![deny(unsafe_code)]
+#![warn(missing_debug_implementations)]
+
+mod areas;
+mod builder;
+mod calls;
+pub mod input;
+pub mod limits;
+mod refusal;
+#[allow(unsafe_code)]
+mod sys;
+mod table;
+mod tree;
+mod values;
+
+pub use areas::Areas;
+pub use builder::{CaseBuilder, ReportBuilder, RunBuilder, SuiteBuilder};
+pub use calls::{explain, list, list_into, public_listing, public_listing_into, read, write, write_into};
+pub use refusal::{Cause, PathElement, Refusal};
+pub use table::{Table, TableBuf, TableBuilder, TableError, Tag};
+pub use tree::{Case, Cases, Extras, Properties, Property, Reruns, Run, Runs, Status, Suite, Suites, Tree};
+pub use values::{time_text, Counts, FlakyOrRerun, NonSuccessKind, Outcome, Timestamp};

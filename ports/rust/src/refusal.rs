@@ -1,0 +1,301 @@
+//! Why and where a call refuses.
+#![forbid(unsafe_code)]
+
+use crate::sys;
+use std::{error, fmt};
+
+const NOWHERE: u32 = u32::MAX;
+
+/// What happened, finer than the number of a refusal. docs/REFUSALS.md has the smallest table for each.
+#[derive(Clone, Copy, Debug, PartialEq, Eq, Hash)]
+#[non_exhaustive]
+pub enum Cause {
+    XmlFault,
+    EofInSkip,
+    NotUtf8,
+    BadInteger,
+    BadTimestamp,
+    BadTime,
+    BadUuid,
+    MissingAttribute,
+    MissingReport,
+    EofInElement,
+    StatusRule,
+    UnknownEntity,
+    FaultyAttribute,
+    RepeatedKey,
+    BadReference,
+    BadTable,
+    RecordsSpent,
+    TextFull,
+    ScratchFull,
+    NotLayout,
+    OutputFull,
+    CountLimit,
+}
+
+// In the order of their codes, from 1 on, with their numbers.
+const CAUSES: [(Cause, u32); 22] = [
+    (Cause::XmlFault, 1),
+    (Cause::EofInSkip, 1),
+    (Cause::NotUtf8, 2),
+    (Cause::BadInteger, 3),
+    (Cause::BadTimestamp, 4),
+    (Cause::BadTime, 5),
+    (Cause::BadUuid, 6),
+    (Cause::MissingAttribute, 7),
+    (Cause::MissingReport, 8),
+    (Cause::EofInElement, 8),
+    (Cause::StatusRule, 20),
+    (Cause::UnknownEntity, 21),
+    (Cause::FaultyAttribute, 9),
+    (Cause::RepeatedKey, 9),
+    (Cause::BadReference, 10),
+    (Cause::BadTable, 11),
+    (Cause::RecordsSpent, 12),
+    (Cause::TextFull, 13),
+    (Cause::ScratchFull, 14),
+    (Cause::NotLayout, 15),
+    (Cause::OutputFull, 16),
+    (Cause::CountLimit, 17),
+];
+
+impl Cause {
+    /// All causes, in the order of docs/REFUSALS.md.
+    pub fn all() -> impl Iterator<Item = Cause> {
+        CAUSES.iter().map(|c| c.0)
+    }
+
+    /// The number of the refusal: 1 to 17, 20 or 21.
+    pub fn number(self) -> u32 {
+        CAUSES[self as usize].1
+    }
+}
+
+impl fmt::Display for Cause {
+    /// The cause in words.
+    fn fmt(&self, f: &mut fmt::Formatter<'_>) -> fmt::Result {
+        let line = Refusal::late(*self).to_string();
+        f.write_str(line.split_once(": ").map_or(line.as_str(), |(_, sentence)| sentence))
+    }
+}
+
+/// One element of the path to what is refused, as the crate quick-junit names them.
+#[derive(Clone, Copy, Debug, PartialEq, Eq, Hash)]
+#[non_exhaustive]
+pub enum PathElement {
+    TestSuites,
+    /// Its place in the report, and once it is named the number of the event that opens it.
+    TestSuite {
+        index: u32,
+        event: Option<u32>,
+    },
+    /// Its place in the suite, and once it is named the number of the event that opens it.
+    TestCase {
+        index: u32,
+        event: Option<u32>,
+    },
+    Properties,
+    /// Its place in the list.
+    Property {
+        index: u32,
+    },
+    Failure,
+    Error,
+    Skipped,
+    FlakyFailure,
+    FlakyError,
+    RerunFailure,
+    RerunError,
+    SystemOut,
+    SystemErr,
+    /// An attribute's name; `stackTrace` is the text of a stack trace.
+    Attribute(&'static str),
+}
+
+const ATTRIBUTES: [&str; 16] = [
+    "?",
+    "name",
+    "classname",
+    "uuid",
+    "timestamp",
+    "time",
+    "tests",
+    "failures",
+    "errors",
+    "skipped",
+    "disabled",
+    "assertions",
+    "message",
+    "type",
+    "value",
+    "stackTrace",
+];
+
+fn place(n: u32) -> Option<u32> {
+    (n != NOWHERE).then_some(n)
+}
+
+impl PathElement {
+    fn of(kind: u32, index: u32, event: u32) -> Option<Self> {
+        use PathElement::*;
+        let event = place(event);
+        Some(match kind {
+            1 => TestSuites,
+            2 => TestSuite { index, event },
+            3 => TestCase { index, event },
+            4 => Properties,
+            5 => Property { index },
+            6 => Failure,
+            7 => Error,
+            8 => Skipped,
+            9 => FlakyFailure,
+            10 => FlakyError,
+            11 => RerunFailure,
+            12 => RerunError,
+            14 => SystemOut,
+            15 => SystemErr,
+            16 => Attribute(ATTRIBUTES.get(index as usize).copied().unwrap_or("?")),
+            _ => return None,
+        })
+    }
+}
+
+impl fmt::Display for PathElement {
+    fn fmt(&self, f: &mut fmt::Formatter<'_>) -> fmt::Result {
+        match self {
+            PathElement::TestSuites => f.write_str("testsuites"),
+            PathElement::TestSuite { index, .. } => write!(f, "testsuite[{index}]"),
+            PathElement::TestCase { index, .. } => write!(f, "testcase[{index}]"),
+            PathElement::Properties => f.write_str("properties"),
+            PathElement::Property { index } => write!(f, "property[{index}]"),
+            PathElement::Failure => f.write_str("failure"),
+            PathElement::Error => f.write_str("error"),
+            PathElement::Skipped => f.write_str("skipped"),
+            PathElement::FlakyFailure => f.write_str("flakyFailure"),
+            PathElement::FlakyError => f.write_str("flakyError"),
+            PathElement::RerunFailure => f.write_str("rerunFailure"),
+            PathElement::RerunError => f.write_str("rerunError"),
+            PathElement::SystemOut => f.write_str("system-out"),
+            PathElement::SystemErr => f.write_str("system-err"),
+            PathElement::Attribute(name) => write!(f, "@{name}"),
+        }
+    }
+}
+
+/// Why and where a call refused.
+///
+/// It holds numbers only, and no text of the report; so does what it displays. [`explain`](crate::explain) gives the same line with the
+/// names of suite and case, from the table.
+///
+/// ```
+/// use kerzhoma::{explain, read, Areas, Cause, PathElement, TableBuilder};
+///
+/// let mut table = TableBuilder::new();
+/// table.start("testsuites");
+/// table.start("testsuite").attribute("name", "lab").attribute("time", "soon");
+/// let table = table.finish();
+/// let refusal = read(&table.as_table(), &mut Areas::new(16, 256, 256)).unwrap_err();
+///
+/// assert_eq!((refusal.number(), refusal.cause()), (5, Cause::BadTime));
+/// assert_eq!((refusal.event(), refusal.attribute()), (Some(1), Some(1)));
+/// assert!(refusal.path().eq([
+///     PathElement::TestSuites,
+///     PathElement::TestSuite { index: 0, event: None },
+///     PathElement::Attribute("time"),
+/// ]));
+/// assert_eq!(
+///     refusal.to_string(),
+///     "refused 5 at testsuites/testsuite[0]/@time: \
+///      a time must be digits with at most nine behind the point, under 8388608 seconds (event 1, attribute 1)"
+/// );
+/// assert_eq!(explain(&refusal, &table.as_table()), format!("{refusal}\n"));
+/// ```
+#[derive(Clone, Copy, PartialEq, Eq, Hash)]
+pub struct Refusal {
+    told: sys::Refusal,
+    cause: Cause,
+}
+
+impl Refusal {
+    /// None where the call accepts.
+    pub(crate) fn of(told: sys::Refusal) -> Option<Self> {
+        if told.number == 0 {
+            return None;
+        }
+        let row = (told.cause as usize).checked_sub(1).and_then(|i| CAUSES.get(i));
+        Some(Refusal { told, cause: row.map_or(Cause::BadTable, |r| r.0) })
+    }
+
+    pub(crate) fn result(told: sys::Refusal) -> Result<(), Self> {
+        match Self::of(told) {
+            Some(refusal) => Err(refusal),
+            None => Ok(()),
+        }
+    }
+
+    /// A refusal that concerns no event: all from 15 on.
+    pub(crate) fn late(cause: Cause) -> Self {
+        let told = sys::Refusal {
+            number: cause.number(),
+            cause: cause as u32 + 1,
+            depth: 0,
+            path: [0; 18],
+            event: NOWHERE,
+            attribute: NOWHERE,
+        };
+        Refusal { told, cause }
+    }
+
+    pub(crate) fn told(&self) -> sys::Refusal {
+        self.told
+    }
+
+    /// 1 to 17, 20 or 21, by docs/REFUSALS.md.
+    pub fn number(&self) -> u32 {
+        self.told.number
+    }
+
+    pub fn cause(&self) -> Cause {
+        self.cause
+    }
+
+    /// From the root on, at most six elements; empty where the whole table or no table is concerned.
+    pub fn path(&self) -> impl Iterator<Item = PathElement> + '_ {
+        self.told.path.chunks_exact(3).take(self.told.depth as usize).filter_map(|e| PathElement::of(e[0], e[1], e[2]))
+    }
+
+    /// The number of the event being read, or the number of events at the table's end.
+    pub fn event(&self) -> Option<u32> {
+        place(self.told.event)
+    }
+
+    /// The number of the attribute, counted over the table.
+    pub fn attribute(&self) -> Option<u32> {
+        place(self.told.attribute)
+    }
+}
+
+impl fmt::Debug for Refusal {
+    fn fmt(&self, f: &mut fmt::Formatter<'_>) -> fmt::Result {
+        f.debug_struct("Refusal")
+            .field("number", &self.number())
+            .field("cause", &self.cause)
+            .field("path", &self.path().collect::<Vec<_>>())
+            .field("event", &self.event())
+            .field("attribute", &self.attribute())
+            .finish()
+    }
+}
+
+impl fmt::Display for Refusal {
+    /// The line of [`explain`](crate::explain) for a table without events, which has no names, and without its newline.
+    fn fmt(&self, f: &mut fmt::Formatter<'_>) -> fmt::Result {
+        let mut out = [0; 1024];
+        let explained = sys::explain(self.told, &[], &[], &[], &mut out);
+        let line = String::from_utf8_lossy(out.get(..explained.length).unwrap_or_default());
+        f.write_str(line.trim_end())
+    }
+}
+
+impl error::Error for Refusal {}

@@ -1,0 +1,237 @@
+//! The command line: statuses, messages, and input that is cut off, too long, or none.
+mod common;
+
+use common::{replayed, repository, spoil, Random};
+use kerzhoma::{TableBuf, TableBuilder};
+use std::io::Write;
+use std::path::PathBuf;
+use std::process::{Command, Stdio};
+use std::{env, fs};
+
+struct Ran {
+    status: i32,
+    out: Vec<u8>,
+    err: String,
+}
+
+fn run(arguments: &[&str], input: &[u8]) -> Ran {
+    let mut child = Command::new(env!("CARGO_BIN_EXE_kerzhoma"))
+        .args(arguments)
+        .stdin(Stdio::piped())
+        .stdout(Stdio::piped())
+        .stderr(Stdio::piped())
+        .spawn()
+        .unwrap();
+    let mut to = child.stdin.take().unwrap();
+    let input = input.to_vec();
+    // the program may stop reading before the end
+    let writer = std::thread::spawn(move || drop(to.write_all(&input)));
+    let output = child.wait_with_output().unwrap();
+    writer.join().unwrap();
+    let err = String::from_utf8(output.stderr).unwrap();
+    assert!(!err.contains("panicked"), "{err}");
+    Ran { status: output.status.code().unwrap(), out: output.stdout, err }
+}
+
+fn text(ran: &Ran) -> &str {
+    std::str::from_utf8(&ran.out).unwrap()
+}
+
+fn room(name: &str) -> PathBuf {
+    PathBuf::from(env!("CARGO_TARGET_TMPDIR")).join(name)
+}
+
+const WORKED: &str = "\
+(report \"r\" 2 0 0 0 -
+(suite \"lab\" 2 0 0 0 -
+(case \"a\" - 0.500 success flaky 0)
+(case \"b\" - - failure rerun 1
+(run failure -))))
+";
+
+fn worked() -> Vec<u8> {
+    fs::read(repository("example/worked.bin")).unwrap()
+}
+
+fn refused() -> Vec<u8> {
+    let mut t = TableBuilder::new();
+    t.start("testsuites");
+    t.start("testsuite").attribute("name", "private lab");
+    t.empty("testcase").attribute("name", "private case").attribute("time", "soon");
+    t.finish().to_bytes()
+}
+
+#[test]
+fn a_file_that_is_accepted() {
+    let path = repository("example/worked.bin");
+    let file = path.to_str().unwrap();
+    let listed = run(&["list", file], b"");
+    assert_eq!((listed.status, text(&listed), listed.err.as_str()), (0, WORKED, ""));
+    let checked = run(&["check", file], b"");
+    assert_eq!((checked.status, text(&checked), checked.err.as_str()), (0, "", ""));
+    let explained = run(&["explain", file], b"");
+    assert_eq!((explained.status, text(&explained), explained.err.as_str()), (0, "accepted\n", ""));
+}
+
+#[test]
+fn standard_streams() {
+    let listed = run(&["list", "-"], &worked());
+    assert_eq!((listed.status, text(&listed)), (0, WORKED));
+    let written = run(&["write", "-", "-o", "-"], &worked());
+    assert_eq!(written.status, 0);
+    let again = run(&["list", "-"], &written.out);
+    assert_eq!((again.status, text(&again)), (0, WORKED));
+}
+
+#[test]
+fn a_file_that_is_written() {
+    let to = room("written.bin");
+    let _ = fs::remove_file(&to);
+    let file = to.to_str().unwrap();
+    let ran = run(&["write", "-o", file, "--", "-"], &worked());
+    assert_eq!((ran.status, ran.out.len(), ran.err.as_str()), (0, 0, ""));
+    assert_eq!(fs::read(&to).unwrap(), run(&["write", "-", "-o", "-"], &worked()).out);
+    let bad = run(&["write", "-", "-o", "no/such/folder/x"], &worked());
+    assert_eq!(bad.status, 2);
+    assert!(bad.err.starts_with("kerzhoma: no/such/folder/x: "), "{}", bad.err);
+    // nothing is written where the report is refused
+    fs::remove_file(&to).unwrap();
+    assert_eq!(run(&["write", "-", "-o", file], &refused()).status, 1);
+    assert!(!to.exists());
+}
+
+// Names only from explain, and on standard output.
+#[test]
+fn a_report_that_is_refused() {
+    let line =
+        "refused 5 at testsuites/testsuite[0](\"private lab\")/testcase[0]/@time: a time must be digits with at most nine behind \
+                the point, under 8388608 seconds (event 2, attribute 2)\n";
+    let explained = run(&["explain", "-"], &refused());
+    assert_eq!((explained.status, text(&explained), explained.err.as_str()), (1, line, ""));
+    for (task, out) in [("list", "(refused)\n"), ("check", "")] {
+        let ran = run(&[task, "-"], &refused());
+        assert_eq!((ran.status, text(&ran)), (1, out));
+        assert_eq!(ran.err, format!("kerzhoma: {}", line.replace("(\"private lab\")", "")));
+    }
+}
+
+#[test]
+fn input_that_is_cut_off() {
+    let whole = worked();
+    for n in 0..whole.len() {
+        let ran = run(&["check", "-"], &whole[..n]);
+        assert_eq!(ran.status, 2, "{n}");
+        assert!(ran.err.starts_with("kerzhoma: standard input: the table is cut off: "), "{}", ran.err);
+    }
+    let ran = run(&["check", "-"], &whole[..5]);
+    assert_eq!(ran.err, "kerzhoma: standard input: the table is cut off: 5 of the 12 bytes of its header are there\n");
+}
+
+#[test]
+fn bytes_behind_the_table() {
+    let mut more = worked();
+    more.extend_from_slice(b"and more");
+    let ran = run(&["list", "-"], &more);
+    assert_eq!((ran.status, text(&ran)), (0, WORKED));
+    assert_eq!(ran.err, "kerzhoma: standard input: bytes behind the table are ignored\n");
+}
+
+#[test]
+fn tables_above_the_limits() {
+    for (at, part, number) in [(0, "events", 65_537u32), (4, "attributes", u32::MAX), (8, "source bytes", 16_777_217)] {
+        let mut head = vec![0; 12];
+        head[at..at + 4].copy_from_slice(&number.to_le_bytes());
+        let ran = run(&["list", "-"], &head);
+        assert_eq!((ran.status, text(&ran)), (2, ""));
+        let limit = if part == "source bytes" { 16_777_216 } else { 65_536 };
+        let want =
+            format!("kerzhoma: standard input: the table is too large: it tells of {number} {part}, and {limit} are the limit\n");
+        assert_eq!(ran.err, want);
+    }
+}
+
+// 65,536 events, 65,536 attributes, 16,777,216 source bytes.
+#[test]
+fn a_table_of_the_limits_size() {
+    let mut t = TableBuilder::new();
+    t.start("testsuites");
+    t.start("testsuite").attribute("name", "s");
+    for i in 0..65_532 {
+        t.empty("testcase").attribute("name", format!("case {i}"));
+    }
+    t.end("testsuite").end("testsuites");
+    let mut table = t.finish();
+    table.attributes.resize(65_536 * 5, 0);
+    table.source.resize(16_777_216, b' ');
+    assert_eq!(table.events.len(), 65_536 * 5);
+    let path = room("full.bin");
+    fs::write(&path, table.to_bytes()).unwrap();
+    let ran = run(&["list", path.to_str().unwrap()], b"");
+    assert_eq!((ran.status, ran.err.as_str()), (0, ""));
+    assert_eq!(text(&ran).lines().count(), 65_534);
+    let ran = run(&["check", path.to_str().unwrap()], b"");
+    assert_eq!(ran.status, 0);
+    // written it would have more events than a table may
+    let ran = run(&["write", path.to_str().unwrap(), "-o", "-"], b"");
+    assert_eq!((ran.status, ran.out.len()), (1, 0));
+    assert_eq!(ran.err, "kerzhoma: refused 16: the area for output is too short\n");
+    fs::remove_file(path).unwrap();
+}
+
+#[test]
+fn what_is_no_table() {
+    let ran = run(&["list", "-"], b"<?xml version=\"1.0\"?><testsuites/>");
+    assert_eq!(ran.status, 2);
+    assert!(ran.err.contains("this looks like an XML document"), "{}", ran.err);
+    let ran = run(&["list", "-"], b"<a/>");
+    assert!(ran.err.contains("this looks like an XML document"), "{}", ran.err);
+    let ran = run(&["list", "no such file"], b"");
+    assert_eq!(ran.status, 2);
+    assert!(ran.err.starts_with("kerzhoma: no such file: "), "{}", ran.err);
+    let ran = run(&["list", env!("CARGO_MANIFEST_DIR")], b"");
+    assert_eq!(ran.status, 2);
+    assert!(ran.err.contains("it is a folder"), "{}", ran.err);
+}
+
+#[test]
+fn usage() {
+    let help = run(&["--help"], b"");
+    assert_eq!((help.status, help.err.as_str()), (0, ""));
+    assert!(text(&help).lines().count() <= 24 && text(&help).lines().all(|l| l.len() <= 80));
+    for arguments in [
+        &[][..],
+        &["list"],
+        &["lists", "x"],
+        &["list", "x", "y"],
+        &["list", "x", "-o", "y"],
+        &["write", "x"],
+        &["write", "x", "-o"],
+        &["write", "x", "-o", "y", "-o", "z"],
+        &["list", "--all", "x"],
+        &[""],
+    ] {
+        let ran = run(arguments, b"");
+        assert_eq!((ran.status, ran.out.len()), (2, 0), "{arguments:?}");
+        assert!(ran.err.contains("usage: kerzhoma"), "{arguments:?}");
+    }
+}
+
+// The stored tables, spoiled: a status and no panic, whatever they hold.
+#[test]
+fn spoiled_tables() {
+    let mut random = Random(0x2545_f491_4f6c_dd1d);
+    for table in replayed().iter().step_by(6) {
+        let mut table: TableBuf = table.clone();
+        spoil(&mut table, &mut random, 3);
+        let mut file = table.to_bytes();
+        if random.below(4) == 0 {
+            file.truncate(random.below(file.len()));
+        }
+        for task in [&["list", "-"][..], &["explain", "-"], &["check", "-"], &["write", "-", "-o", "-"]] {
+            let ran = run(task, &file);
+            // something is said where the status isn't 0
+            let said = if ran.status == 1 && task[0] == "explain" { text(&ran) } else { &ran.err };
+            assert!(ran.status == 0 && ran.err.is_empty() || ran.status <= 2 && !said.is_empty(), "{task:?} {}", ran.status);
+        }
+    }
+}
