@@ -1,0 +1,149 @@
+-- Demand 1, whole: every entry point takes every table and area, does nothing undefined, and completes or returns one of the refusals; a refusal
+-- leaves each area lent for results zero throughout. The claims are types; proofs/Demand1.antt has a proof of each. Definitions only.
+--
+-- "Takes every table and area, does nothing undefined, and completes": no entry point has a `requires`, and the checker proves the body of each, and
+-- of all that it calls, safe and ending for every argument. What it answers and leaves in each lent area is then, by its contract, an equation with
+-- one of these definitions, and the claims below speak of these. Whoever wants to be sure that the list is whole compares it with the functions that
+-- other languages call (crate port_c), each of which calls one of these and answers the same:
+--   reader::read                     reading (crate read_machine: Reading)
+--   lister::list                     listed, outputOf (crate list_text: Listing)
+--   writer::write                    wrote, eventsLeft, attributesLeft, bytesLeft (crate write_answer: Answer)
+--   public_call::public_listing      publicListing (crate public_claims: PublicListing), and reading for the other three areas
+--   explain::explain                 explained, explanationIn (crate explain_text: Explanation)
+--   Counts::add_test_suite, add_test_case (crate tree_counts)
+--                                    withSuite, withCase, kept (crate tree_counts: Counts)
+--   the calls of builder and builder_set
+--                                    the definition of the same name (crate build_draft: Calls), wordsLeft, textLeft (Draft)
+--   tree_layout::is_layout           layout (crate tree_report: Layout): true or false, with no area lent for results and nothing to refuse
+--   time_text::write_time            writtenTime (crate time_text: Written): a text put, or the area too short, which the call from C clears
+-- The programs print what `print_input` puts (crates list_printing, write_printing: Printed); at a refusal that is `(refused)`.
+--
+-- Besides them, the claims rest on:
+--   number, Refused, Outcome, late (crate refusal: Refusal)     the number of each cause; what a refusal carries; a refusal that names no place
+--   zeros (crate area: Area)                                    an area that is zero throughout
+--   refusedText (crate public_claims: PublicListing)            `(refused)` and a newline
+--
+-- Table, Areas, answerTo and listing are those of demand 3 (crate public_claims: Demand3). Inputs are unchanged: they are lent as `&`, through which
+-- nothing can be stored, and counts and builders go in by value.
+use Prim.Native.Nat.{ℕ, _≤_}
+use mathlib.Core.Path.{_≡_}
+use mathlib.Core.List.{List, [], _∷_}
+use mathlib.Core.Bool.{Bool, true, false, _||_}
+use lib.Dec.{eqb}
+use lib.ListN.{length}
+use Rattle.area.specs.Area.{zeros}
+use Rattle.refusal.specs.Refusal.{number, Refused, Outcome, accepted, refused, late}
+use Rattle.refusal.specs.declared.Cause.{Cause}
+use Rattle.refusal.specs.declared.Refusal.{Refusal}
+use Rattle.timestamp.specs.declared.Moment.{Moment}
+use Rattle.uuid.specs.declared.Words.{Words}
+use Rattle.tree_counts.specs.declared.Counts.{Counts}
+use Rattle.tree_counts.specs.declared.Outcome.{Outcome as Status}
+use Rattle.tree_counts.specs.Counts.{withSuite, withCase, kept}
+use Rattle.read_machine.specs.Reading.{Read, reading}
+use Rattle.list_text.specs.Listing.{listed, outputOf}
+use Rattle.explain_text.specs.Explanation.{explained, explanationIn}
+use Rattle.write_answer.specs.Answer.{wrote, eventsLeft, attributesLeft, bytesLeft}
+use Rattle.public_claims.specs.PublicListing.{refusedText}
+use Rattle.public_claims.specs.Demand3.{Table, Areas, answerTo, listing}
+use Rattle.build_draft.specs.declared.Element.{Element}
+use Rattle.build_draft.specs.declared.Holder.{Holder}
+use Rattle.build_draft.specs.declared.TextField.{TextField}
+use Rattle.build_draft.specs.declared.NumberField.{NumberField}
+use Rattle.build_draft.specs.declared.NonSuccessKind.{NonSuccessKind}
+use Rattle.build_draft.specs.declared.FlakyOrRerun.{FlakyOrRerun}
+use Rattle.build_draft.specs.Draft.{Draft, wordsLeft, textLeft}
+use Rattle.build_draft.specs.Calls as call
+
+-- ---- refusals
+-- docs/REFUSALS.md: the numbers of all refusals, and those that reading gives
+abbrev pub allNumbers : List ℕ
+allNumbers = 1 ∷ 2 ∷ 3 ∷ 4 ∷ 5 ∷ 6 ∷ 7 ∷ 8 ∷ 9 ∷ 10 ∷ 11 ∷ 12 ∷ 13 ∷ 14 ∷ 15 ∷ 16 ∷ 17 ∷ 20 ∷ 21 ∷ []
+
+abbrev pub readNumbers : List ℕ
+readNumbers = 1 ∷ 2 ∷ 3 ∷ 4 ∷ 5 ∷ 6 ∷ 7 ∷ 8 ∷ 9 ∷ 10 ∷ 11 ∷ 12 ∷ 13 ∷ 14 ∷ 20 ∷ 21 ∷ []
+
+abbrev pub isOneOf : ℕ → List ℕ → Bool
+isOneOf n [] = false
+isOneOf n (m ∷ ms) = eqb n m || isOneOf n ms
+
+-- reading's refusals name a place: a path of at most six elements, and none with 11
+pub record Placed (numbers : List ℕ) (why : Refused) : Type 0 where
+  pub known : isOneOf (number (why .cause)) numbers ≡ true
+  pub short : length (why .path) ≤ 6
+  pub ofTable : number (why .cause) ≡ 11 → why .path ≡ []
+
+-- those of all other calls, 15 to 17 among them, don't: the path is empty, and 4294967295 stands for event and attribute
+pub record Late (numbers : List ℕ) (why : Refused) : Type 0 where
+  pub known : isOneOf (number (why .cause)) numbers ≡ true
+  pub placeless : why ≡ late (why .cause)
+
+-- what a call comes to: it completes, or it refuses, as `Given` says, and `Left` says what it leaves then
+pub data Ends {A : Type 0} (Given : Refused → Type 0) (Left : Type 0) : Outcome A → Type 0 where
+  completes : {a : A} → Ends Given Left (accepted a)
+  refuses : {why : Refused} → Given why → Left → Ends Given Left (refused why)
+
+-- ---- areas behind a refusal, each zero throughout and as long as it was lent
+abbrev pub readingOf : Table → Areas → Read
+readingOf t a = reading (t .events) (t .attributes) (t .source) (a .words) (a .text) (a .scratch)
+
+pub record ReadZero (t : Table) (a : Areas) : Type 0 where
+  pub words : readingOf t a .words ≡ zeros (a .words)
+  pub text : readingOf t a .text ≡ zeros (a .text)
+  pub scratch : readingOf t a .scratch ≡ zeros (a .scratch)
+
+pub record WriteZero (words text : List ℕ) (n m k : ℕ) : Type 0 where
+  pub events : eventsLeft words text n m k ≡ zeros n
+  pub attributes : attributesLeft words text n m k ≡ zeros m
+  pub bytes : bytesLeft words text n m k ≡ zeros k
+
+pub record BuildZero (n m : ℕ) (o : Outcome Draft) : Type 0 where
+  pub words : wordsLeft n o ≡ zeros n
+  pub text : textLeft m o ≡ zeros m
+
+-- ---- the calls of a builder, in areas of so many words and bytes
+abbrev pub Builds : List ℕ → (words text : ℕ) → Outcome Draft → Type 0
+Builds numbers words text o = Ends (Late numbers) (BuildZero words text o) o
+
+-- on any builder, also one that was made up, and any areas
+pub record BuilderCalls (d : Draft) : Type 0 where
+  pub addTestSuite : (name : List ℕ) → Builds (2 ∷ 12 ∷ 13 ∷ 15 ∷ 17 ∷ []) (length (d .words)) (length (d .text)) (call.addTestSuite name d)
+  pub addTestCase : (name : List ℕ) (s : Status) → Builds (2 ∷ 12 ∷ 13 ∷ 15 ∷ 17 ∷ []) (length (d .words)) (length (d .text)) (call.addTestCase name s d)
+  pub addRerun : (k : NonSuccessKind) → Builds (12 ∷ 15 ∷ []) (length (d .words)) (length (d .text)) (call.addRerun k d)
+  pub setRerunKind : (f : FlakyOrRerun) → Builds (15 ∷ []) (length (d .words)) (length (d .text)) (call.setRerunKind f d)
+  pub addProperty : (h : Holder) (key value : List ℕ) → Builds (2 ∷ 12 ∷ 13 ∷ 15 ∷ []) (length (d .words)) (length (d .text)) (call.addProperty h key value d)
+  pub addExtra : (h : Holder) (key value : List ℕ) → Builds (2 ∷ 12 ∷ 13 ∷ 15 ∷ []) (length (d .words)) (length (d .text)) (call.addExtra h key value d)
+  pub setText : (e : Element) (f : TextField) (s : List ℕ) → Builds (2 ∷ 13 ∷ 15 ∷ []) (length (d .words)) (length (d .text)) (call.setText e f s d)
+  pub setOutputLossy : (e : Element) (f : TextField) (s : List ℕ) → Builds (13 ∷ 15 ∷ []) (length (d .words)) (length (d .text)) (call.setOutputLossy e f s d)
+  pub setTimestamp : (e : Element) (m : Moment) → Builds (4 ∷ 15 ∷ []) (length (d .words)) (length (d .text)) (call.setTimestamp e m d)
+  pub setTime : (e : Element) (seconds nanos : ℕ) → Builds (5 ∷ 15 ∷ []) (length (d .words)) (length (d .text)) (call.setTime e seconds nanos d)
+  pub setUuid : (w : Words) → Builds (15 ∷ []) (length (d .words)) (length (d .text)) (call.setUuid w d)
+  pub setNumber : (f : NumberField) (n : ℕ) → Builds (15 ∷ []) (length (d .words)) (length (d .text)) (call.setNumber f n d)
+  pub finish : Builds (15 ∷ 17 ∷ []) (length (d .words)) (length (d .text)) (call.finish d)
+
+-- ---- the claims: one for each entry point that has something to refuse
+pub record Demand1 : Type 0 where
+  -- Each cause has one of the numbers.
+  pub numbered : (c : Cause) → isOneOf (number c) allNumbers ≡ true
+  -- Reading: 1 to 14, 20 and 21; records, text and scratch are zero then.
+  pub read : (t : Table) (a : Areas) → Ends (Placed readNumbers) (ReadZero t a) (answerTo t a)
+  -- Listing: 15 and 16; the output area is zero then.
+  pub list : (words text : List ℕ) (output : ℕ) → Ends (Late (15 ∷ 16 ∷ [])) (outputOf words text output ≡ zeros output) (listed words text output)
+  -- Writing: 15 and 16; its three areas are zero then.
+  pub write : (words text : List ℕ) (events attributes bytes : ℕ)
+      → Ends (Late (15 ∷ 16 ∷ [])) (WriteZero words text events attributes bytes) (wrote words text events attributes bytes)
+  -- The public listing always completes: `(refused)` is its answer where reading refuses, whose areas are zero then,
+  pub publicListing : (t : Table) (a : Areas) → Ends (Placed readNumbers) (ReadZero t a × (listing t a ≡ refusedText)) (answerTo t a)
+  -- and where listing refuses what reading left, which is for 16 only; records and text stay as reading left them.
+  pub publicOutput : (t : Table) (a : Areas) → answerTo t a ≡ accepted tt
+      → Ends (Late (16 ∷ [])) (listing t a ≡ refusedText) (listed (readingOf t a .words) (readingOf t a .text) (a .output))
+  -- Explaining a refusal, also one that was made up, over any table: 16; the output area is zero then.
+  pub explain : (t : Table) (r : Refusal) (output : ℕ)
+      → Ends (Late (16 ∷ [])) (explanationIn (t .events) (t .attributes) (t .source) r output ≡ zeros output) (explained (t .events) (t .attributes) (t .source) r output)
+  -- Counts: 17; the counts that come back are those that went in.
+  pub addSuiteCounts : (c s : Counts) → Ends (Late (17 ∷ [])) (kept c (withSuite c s) ≡ c) (withSuite c s)
+  pub addCaseCounts : (c : Counts) (s : Status) → Ends (Late (17 ∷ [])) (kept c (withCase c s) ≡ c) (withCase c s)
+  -- Builders: both areas are zero at a refusal; a new report has nothing that could be no layout.
+  pub unnamedReport : (words text : ℕ) → Builds (12 ∷ []) words text (call.unnamedReport words text)
+  pub newReport : (name : List ℕ) (words text : ℕ) → Builds (2 ∷ 12 ∷ 13 ∷ []) words text (call.newReport name words text)
+  pub builder : (d : Draft) → BuilderCalls d
