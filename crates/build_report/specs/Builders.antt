@@ -1,7 +1,23 @@
--- What builders mean, as one claim. It rests on the operations on a report in Operations.antt (report.rs's words), on `Stands` and
--- `Comes` of Stands.antt, on the layout and the report that it holds (crate tree_report), and on the calls' definitions (crate
--- build_draft, Calls.antt), which the code's contracts equate the calls with. Each call leads from a report that the areas hold to the
--- report that the operation gives, or refuses exactly where a test of its list fails, the first one deciding. Definitions only.
+-- Builders, whole: what is claimed of a report that is built call by call. Each call leads from a report that the areas hold to the report that the
+-- operation gives, or refuses exactly where a test of its list fails, the first one deciding. The claims are types; proofs/Builders.antt has a proof of
+-- each. Definitions only.
+--
+-- Whoever wants to be sure that this is what report.rs of the crate does reads these definitions:
+--   reportNamed, addTestSuite, .., summed (Operations)           the operations on a report, in the words of report.rs
+--   Holds, Stands, Stand (Stands)                                the areas hold a report; a builder stands over it, and its marks are right
+--   Comes (Stands)                                               what a call comes to: the first test that fails decides the refusal
+--   layout, reportOf (crate tree_report: Layout, ReportOf)       docs/TREE.md: whether two areas are a layout; the report that they hold
+--   rowsOf (crate tree_report: Encode)                           a report's records, which are counted against the room
+--   Builder, Element, Holder, .. (crate build_draft, as declared)
+--                                                                the marks of a builder; what a call is for
+--   unnamedReport, newReport, .., finish (crate build_draft: Calls)
+--                                                                what each call answers and leaves, on every builder and all areas: the promise of the
+--                                                                call
+--   roomFor, bytesFor (crate build_draft: Draft)                 how many records and bytes of text the areas may hold
+--   hasText, isOutput, hasTimes (crate build_draft: Parts)       which kinds of records have a text, an output, a timestamp and a time
+--   utf8, filtered (crates utf8, text: Utf8, Filter)             whether bytes are UTF-8; the text that is stored of them
+--   lossyText (crate text_lossy: LossyText)                      the text that is stored of any bytes
+--   inRange (crate timestamp: Timestamp)                         which timestamps there are
 use Prim.Native.Nat.{ℕ, _+_}
 use mathlib.Core.List.{List, [], _∷_}
 use mathlib.Core.Bool.{Bool, true, false, not, _&&_, _||_}

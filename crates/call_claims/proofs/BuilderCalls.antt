@@ -11,14 +11,21 @@ use Rattle.area.specs.Limits.{mostRecords}
 use Rattle.text.specs.Filter.{filtered}
 use Rattle.refusal.specs.Refusal.{nowhere, Refused, Outcome, accepted, refused, late}
 use Rattle.refusal.specs.declared.Cause.the-variants as cause
+use Rattle.timestamp.specs.declared.Moment.{Moment}
+use Rattle.uuid.specs.declared.Words.{Words}
 use Rattle.tree_record.specs.Kinds as kind
 use Rattle.tree_counts.specs.declared.Outcome.{Outcome as Status}
+use Rattle.build_draft.specs.declared.Element.{Element}
+use Rattle.build_draft.specs.declared.Holder.{Holder}
+use Rattle.build_draft.specs.declared.TextField.{TextField}
+use Rattle.build_draft.specs.declared.NonSuccessKind.{NonSuccessKind}
+use Rattle.build_draft.specs.declared.FlakyOrRerun.{FlakyOrRerun}
 use Rattle.build_draft.specs.declared.NumberField.{NumberField}
 use Rattle.build_draft.specs.declared.NumberField.the-variants.{Assertions, Disabled}
-use Rattle.build_draft.specs.Draft.{Draft, noBuilder, _>>=_, asks, roomFor, isRecord, lastOf, withBuilder, wordsLeft, textLeft}
+use Rattle.build_draft.specs.Draft.{Draft, _>>=_, asks, roomFor, isRecord, lastOf, withBuilder}
 use Rattle.build_draft.specs.Parts.{taking, placeFor}
 use Rattle.build_draft.specs.Calls as call
-use Rattle.call_claims.specs.Demand1.{isOneOf, Late, Ends, completes, refuses, BuildZero, Builds, BuilderCalls}
+use Rattle.call_claims.specs.Demand1.{isOneOf, completes, BuildZero, Builds, BuilderCalls}
 use Rattle.call_claims.proofs.LateCalls.{Within, ends-leaving, within-late, within-asks, within-then, within-cond, within-taking, within-keeping, within-putting, within-putting-lossy, within-naming, within-naming-one, within-suite, within-counting, within-summing}
 
 both-zero : (n m : ℕ) (o : Outcome Draft) (why : Refused) → o ≡ refused why → BuildZero n m o
@@ -90,11 +97,11 @@ module _ (d : Draft) where
       within-naming refl refl refl name e) λ e.
       within-cond (eqb (call.mainKind s) 0) completes (within-then (within-taking refl (call.mainKind s) e) λ f. completes))
 
-  run-ends : (k : _) → Ending (12 ∷ 15 ∷ []) (call.addRerun k d)
+  run-ends : (k : NonSuccessKind) → Ending (12 ∷ 15 ∷ []) (call.addRerun k d)
   unfolding call.addRerun
   run-ends k = ending (within-asks _ cause.NotLayout refl (within-cond (eqb (d .builder .main) nowhere) (within-taking refl _ _) (within-asks _ cause.NotLayout refl (within-taking refl _ _))))
 
-  kind-ends : (f : _) → Ending (15 ∷ []) (call.setRerunKind f d)
+  kind-ends : (f : FlakyOrRerun) → Ending (15 ∷ []) (call.setRerunKind f d)
   unfolding call.setRerunKind
   kind-ends f = ending (within-asks _ cause.NotLayout refl completes)
 
@@ -106,31 +113,31 @@ module _ (d : Draft) where
       within-then (within-keeping refl refl false value e) λ f.
       within-cond (ltb (call.oldPlace κ (filtered key) (f .text) d) (placeFor d)) completes (within-then (within-taking refl κ f) λ g. completes))
 
-  property-ends : (h : _) (key value : List ℕ) → Ending (2 ∷ 12 ∷ 13 ∷ 15 ∷ []) (call.addProperty h key value d)
+  property-ends : (h : Holder) (key value : List ℕ) → Ending (2 ∷ 12 ∷ 13 ∷ 15 ∷ []) (call.addProperty h key value d)
   unfolding call.addProperty
   property-ends h key value = ending (pair-ends (call.propertyKind h) key value)
 
-  extra-ends : (h : _) (key value : List ℕ) → Ending (2 ∷ 12 ∷ 13 ∷ 15 ∷ []) (call.addExtra h key value d)
+  extra-ends : (h : Holder) (key value : List ℕ) → Ending (2 ∷ 12 ∷ 13 ∷ 15 ∷ []) (call.addExtra h key value d)
   unfolding call.addExtra
   extra-ends h key value = ending (pair-ends (call.extraKind h) key value)
 
-  text-ends : (e : _) (f : _) (s : List ℕ) → Ending (2 ∷ 13 ∷ 15 ∷ []) (call.setText e f s d)
+  text-ends : (e : Element) (f : TextField) (s : List ℕ) → Ending (2 ∷ 13 ∷ 15 ∷ []) (call.setText e f s d)
   unfolding call.setText
   text-ends e f s = ending (within-asks _ cause.NotLayout refl (within-putting refl refl refl _ _ _ s d))
 
-  lossy-ends : (e : _) (f : _) (s : List ℕ) → Ending (13 ∷ 15 ∷ []) (call.setOutputLossy e f s d)
+  lossy-ends : (e : Element) (f : TextField) (s : List ℕ) → Ending (13 ∷ 15 ∷ []) (call.setOutputLossy e f s d)
   unfolding call.setOutputLossy
   lossy-ends e f s = ending (within-asks _ cause.NotLayout refl (within-putting-lossy refl refl _ _ _ s d))
 
-  timestamp-ends : (e : _) (m : _) → Ending (4 ∷ 15 ∷ []) (call.setTimestamp e m d)
+  timestamp-ends : (e : Element) (m : Moment) → Ending (4 ∷ 15 ∷ []) (call.setTimestamp e m d)
   unfolding call.setTimestamp
   timestamp-ends e m = ending (within-asks _ cause.NotLayout refl (within-asks _ cause.BadTimestamp refl completes))
 
-  time-ends : (e : _) (seconds nanos : ℕ) → Ending (5 ∷ 15 ∷ []) (call.setTime e seconds nanos d)
+  time-ends : (e : Element) (seconds nanos : ℕ) → Ending (5 ∷ 15 ∷ []) (call.setTime e seconds nanos d)
   unfolding call.setTime
   time-ends e seconds nanos = ending (within-asks _ cause.NotLayout refl (within-asks _ cause.BadTime refl completes))
 
-  uuid-ends : (w : _) → Ending (15 ∷ []) (call.setUuid w d)
+  uuid-ends : (w : Words) → Ending (15 ∷ []) (call.setUuid w d)
   unfolding call.setUuid
   uuid-ends w = ending (within-asks _ cause.NotLayout refl completes)
 

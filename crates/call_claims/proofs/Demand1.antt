@@ -1,31 +1,22 @@
 -- Demand 1, whole: each of its claims holds. Assumes nothing.
-use Prim.Native.Nat.{ℕ, _≤_}
-use mathlib.Core.Path.{_≡_, refl, sym, ap, _∙_}
+use Prim.Native.Nat.{ℕ}
+use mathlib.Core.Path.{_≡_, refl, ap, _∙_}
 use mathlib.Core.List.{List, [], _∷_}
 use mathlib.Core.Bool.{Bool, true, false, cond}
-use mathlib.Core.Logic.{_⊎_, inl, inr}
 use native.Mathlib.Omega.{arith}
-use lib.Dec.{leb, lit≤}
+use lib.Dec.{leb}
 use lib.ListN.{length}
 use Rattle.area.specs.Area.{zeros, placing}
 use Rattle.area.specs.Answer.{Answer, gives, refuses as fails}
-use Rattle.refusal.specs.Refusal.{number, OfRules, Refused, Outcome, accepted, refused, late}
-use Rattle.refusal.specs.declared.Cause.{Cause}
+use Rattle.refusal.specs.Refusal.{Refused, Outcome, accepted, refused}
 use Rattle.refusal.specs.declared.Cause.the-variants as cause
 use Rattle.refusal.specs.declared.Refusal.{Refusal}
-use Rattle.table.specs.Event.{Event, resolve}
-use Rattle.table.specs.Table.{checkOf, checkedAnswer, tableOf}
-use Rattle.table.specs.declared.Checked.{Checked}
-use Rattle.table.specs.declared.Checked.the-variants.{Good, Bad}
+use Rattle.table.specs.Event.{resolve}
 use Rattle.tree_report.specs.Layout.{layout}
 use Rattle.tree_counts.specs.declared.Counts.{Counts}
-use Rattle.tree_counts.specs.declared.Outcome.{Outcome as Status}
-use Rattle.tree_counts.specs.Counts.{caseCounts, withSuite, withCase, kept}
-use Rattle.read_element.specs.Outcome.{_>>=_, roomsOf}
-use Rattle.read_element.proofs.Rooms.{IsShort}
-use Rattle.read_machine.specs.Machine.{Machine, run, begin}
-use Rattle.read_machine.specs.Reading.{Read, readAs, reading, deserialize}
-use Rattle.read_machine.proofs.RoomsReading.{reading-accepts, reading-refuses}
+use Rattle.tree_counts.specs.Counts.{caseCounts, withSuite, kept}
+use Rattle.read_machine.specs.Reading.{Read, readAs}
+use Rattle.read_machine.proofs.RoomsReading.{reading-accepts}
 use Rattle.read_machine.proofs.TreeReading.{reading-layout, resolve-fair}
 use Rattle.list_text.specs.Listing.{listingOf, listingAnswer, outcomeOf, listed, outputFor, outputOf}
 use Rattle.explain_text.specs.Explanation.{lineOf, lineAnswer, explained, explanationIn}
@@ -34,133 +25,10 @@ use Rattle.write_answer.specs.Answer.{Sizes, wrote, eventsLeft, attributesLeft,
 use Rattle.write_answer.specs.Answer as writing
 use Rattle.public_claims.specs.PublicListing.{refusedText, written, behindReading, publicListing}
 use Rattle.public_claims.specs.Demand3.{Table, Areas, answerTo, listing}
-use Rattle.call_claims.specs.Demand1.{allNumbers, readNumbers, isOneOf, Placed, Late, Ends, completes, refuses, readingOf, ReadZero, WriteZero, Demand1}
-use Rattle.call_claims.proofs.PathsElement.{Told, fine, told, told-path, told-bind}
-use Rattle.call_claims.proofs.Paths.{told-run}
-use Rattle.call_claims.proofs.LateCalls.{Within, ends, ends-leaving, within-late, within-cond, within-suite}
+use Rattle.call_claims.specs.Demand1.{readNumbers, isOneOf, Placed, Late, Ends, completes, readingOf, ReadZero, WriteZero, Demand1}
+use Rattle.call_claims.proofs.ReadCall.{numbered, read-zero, read-placed}
+use Rattle.call_claims.proofs.LateCalls.{Within, ends, ends-leaving, within-late, within-suite}
 use Rattle.call_claims.proofs.BuilderCalls.{unnamed-ends, new-ends, builder-calls}
-
--- ---- numbers
-numbered : (c : Cause) → isOneOf (number c) allNumbers ≡ true
-numbered cause.XmlFault = refl
-numbered cause.EofInSkip = refl
-numbered cause.NotUtf8 = refl
-numbered cause.BadInteger = refl
-numbered cause.BadTimestamp = refl
-numbered cause.BadTime = refl
-numbered cause.BadUuid = refl
-numbered cause.MissingAttribute = refl
-numbered cause.MissingReport = refl
-numbered cause.EofInElement = refl
-numbered cause.StatusRule = refl
-numbered cause.UnknownEntity = refl
-numbered cause.FaultyAttribute = refl
-numbered cause.RepeatedKey = refl
-numbered cause.BadReference = refl
-numbered cause.BadTable = refl
-numbered cause.RecordsSpent = refl
-numbered cause.TextFull = refl
-numbered cause.ScratchFull = refl
-numbered cause.NotLayout = refl
-numbered cause.OutputFull = refl
-numbered cause.CountLimit = refl
-
--- none of 15, 16 and 17
-not-of-rules : {A : Type 0} {n : ℕ} → 15 ≤ n → n ≤ 17 → OfRules n → A
-not-of-rules l m (inl h) = absurd (omega arith)
-not-of-rules l m (inr (inl e)) = absurd (omega arith)
-not-of-rules l m (inr (inr e)) = absurd (omega arith)
-
-of-rules : (c : Cause) → OfRules (number c) → isOneOf (number c) readNumbers ≡ true
-of-rules cause.XmlFault h = refl
-of-rules cause.EofInSkip h = refl
-of-rules cause.NotUtf8 h = refl
-of-rules cause.BadInteger h = refl
-of-rules cause.BadTimestamp h = refl
-of-rules cause.BadTime h = refl
-of-rules cause.BadUuid h = refl
-of-rules cause.MissingAttribute h = refl
-of-rules cause.MissingReport h = refl
-of-rules cause.EofInElement h = refl
-of-rules cause.StatusRule h = refl
-of-rules cause.UnknownEntity h = refl
-of-rules cause.FaultyAttribute h = refl
-of-rules cause.RepeatedKey h = refl
-of-rules cause.BadReference h = refl
-of-rules cause.BadTable h = refl
-of-rules cause.RecordsSpent h = refl
-of-rules cause.TextFull h = refl
-of-rules cause.ScratchFull h = refl
-of-rules cause.NotLayout h = not-of-rules (lit≤ tt) (lit≤ tt) h
-of-rules cause.OutputFull h = not-of-rules (lit≤ tt) (lit≤ tt) h
-of-rules cause.CountLimit h = not-of-rules (lit≤ tt) (lit≤ tt) h
-
-of-cause : {c d : Cause} → c ≡ d → isOneOf (number d) readNumbers ≡ true → isOneOf (number c) readNumbers ≡ true
-of-cause e h = ap (λ (x : Cause). isOneOf (number x) readNumbers) e ∙ h
-
-of-room : (c : Cause) → IsShort c → isOneOf (number c) readNumbers ≡ true
-of-room c (inl e) = of-cause e refl
-of-room c (inr (inl e)) = of-cause e refl
-of-room c (inr (inr e)) = of-cause e refl
-
-not-table : {A : Type 0} (c : Cause) → IsShort c ⊎ OfRules (number c) → number c ≡ 11 → A
-not-table c (inl (inl h)) e = let z : number c ≡ 12 = ap number h in absurd (omega arith)
-not-table c (inl (inr (inl h))) e = let z : number c ≡ 13 = ap number h in absurd (omega arith)
-not-table c (inl (inr (inr h))) e = let z : number c ≡ 14 = ap number h in absurd (omega arith)
-not-table c (inr (inl h)) e = absurd (omega arith)
-not-table c (inr (inr (inl h))) e = absurd (omega arith)
-not-table c (inr (inr (inr h))) e = absurd (omega arith)
-
--- ---- reading
-told-table : (c : Checked) → Told (checkedAnswer c)
-told-table Good = fine
-told-table (Bad i j) = told (lit≤ tt)
-
-pathless-table : (c : Checked) (why : Refused) → checkedAnswer c ≡ refused why → why .path ≡ []
-pathless-table Good why e = let z : _≡_ {A = ℕ} 0 1 = cc in absurd (omega arith)
-pathless-table (Bad i j) why e = let z : record { cause = cause.BadTable; path = []; event = i; attribute = j } ≡ why = cc in sym (ap (λ (x : Refused). x .path) z)
-
-told-as : (n m k : ℕ) {o : Outcome Machine} → Told o → Told (readAs n m k o .outcome)
-unfolding readAs
-told-as n m k fine = fine
-told-as n m k (told h) = told h
-
-cleared : (n m k : ℕ) (o : Outcome Machine) (why : Refused) → readAs n m k o .outcome ≡ refused why
-    → (readAs n m k o .words ≡ zeros n) × (readAs n m k o .text ≡ zeros m) × (readAs n m k o .scratch ≡ zeros k)
-unfolding readAs
-cleared n m k (accepted s) why e = let z : _≡_ {A = ℕ} 0 1 = cc in absurd (omega arith)
-cleared n m k (refused q) why e = (refl, refl, refl)
-
-module _ (t : Table) (a : Areas) where
-  abbrev table : Outcome (Unit {0})
-  table = tableOf (t .events) (t .attributes) (t .source)
-
-  abbrev whole : Outcome Machine
-  whole = table >>= λ _. run (roomsOf (a .words) (a .text) (a .scratch)) (resolve (t .events) (t .attributes) (t .source)) begin
-
-  read-zero : (why : Refused) → answerTo t a ≡ refused why → ReadZero t a
-  unfolding reading
-  read-zero why e = let h = cleared (a .words) (a .text) (a .scratch) whole why e in record { words = h .0; text = h .1; scratch = h .2 }
-
-  read-short : (why : Refused) → answerTo t a ≡ refused why → length (why .path) ≤ 6
-  unfolding reading
-  read-short why e =
-      told-path why
-      (told-as (a .words) (a .text) (a .scratch)
-      (told-bind (told-table (checkOf (t .events) (t .attributes) (t .source))) λ _.
-      told-run (roomsOf (a .words) (a .text) (a .scratch)) (resolve (t .events) (t .attributes) (t .source)) begin refl)) e
-
-  read-placed : (why : Refused) → answerTo t a ≡ refused why → Placed readNumbers why
-  read-placed why e = go (reading-refuses (t .events) (t .attributes) (t .source) (a .words) (a .text) (a .scratch) why e)
-    where
-      go : ((table ≡ refused why) × (why .cause ≡ cause.BadTable)) ⊎ (IsShort (why .cause) ⊎ ((deserialize (resolve (t .events) (t .attributes) (t .source)) ≡ refused why) × OfRules (number (why .cause)))) → Placed readNumbers why
-      go (inl h) =
-          record { known = of-cause (h .1) refl; short = read-short why e; ofTable = λ _. pathless-table (checkOf (t .events) (t .attributes) (t .source)) why (h .0) }
-      go (inr (inl h)) = record { known = of-room (why .cause) h; short = read-short why e; ofTable = not-table (why .cause) (inl h) }
-      go (inr (inr h)) = record { known = of-rules (why .cause) (h .1); short = read-short why e; ofTable = not-table (why .cause) (inr (h .1)) }
-
-  read-ends : Ends (Placed readNumbers) (ReadZero t a) (answerTo t a)
-  read-ends = ends (answerTo t a) read-placed read-zero
 
 -- ---- texts put into an output area: listing, explaining
 out-zero : (x : Answer ℕ) (n : ℕ) (f : List ℕ) (why : Refused) → outcomeOf x ≡ refused why → outputFor x n f ≡ zeros n
@@ -268,7 +136,7 @@ pub demand-1 : Demand1
 demand-1 =
     record {
       numbered = numbered;
-      read = read-ends;
+      read = λ t a. ends (answerTo t a) (read-placed t a) (read-zero t a);
       list = list-ends;
       write = write-ends;
       publicListing = public-ends;

@@ -2,4 +2,6 @@ pub mod PathsElement
 pub mod Paths
 pub mod LateCalls
 pub mod BuilderCalls
+pub mod ReadCall
 pub mod Demand1
+mod Examples

@@ -1,30 +1,33 @@
--- Demand 1, whole: every entry point takes every table and area, does nothing undefined, and completes or returns one of the refusals; a refusal
--- leaves each area lent for results zero throughout. The claims are types; proofs/Demand1.antt has a proof of each. Definitions only.
+-- Demand 1, whole: every entry point takes every table and area, does nothing undefined, and completes or returns one of the refusals of
+-- docs/REFUSALS.md; a refusal leaves each area lent for results zero throughout. The claims are types; proofs/Demand1.antt has a proof of each.
+-- Definitions only.
 --
--- "Takes every table and area, does nothing undefined, and completes": no entry point has a `requires`, and the checker proves the body of each, and
--- of all that it calls, safe and ending for every argument. What it answers and leaves in each lent area is then, by its contract, an equation with
--- one of these definitions, and the claims below speak of these. Whoever wants to be sure that the list is whole compares it with the functions that
--- other languages call (crate port_c), each of which calls one of these and answers the same:
---   reader::read                     reading (crate read_machine: Reading)
---   lister::list                     listed, outputOf (crate list_text: Listing)
---   writer::write                    wrote, eventsLeft, attributesLeft, bytesLeft (crate write_answer: Answer)
---   public_call::public_listing      publicListing (crate public_claims: PublicListing), and reading for the other three areas
---   explain::explain                 explained, explanationIn (crate explain_text: Explanation)
---   Counts::add_test_suite, add_test_case (crate tree_counts)
---                                    withSuite, withCase, kept (crate tree_counts: Counts)
---   the calls of builder and builder_set
---                                    the definition of the same name (crate build_draft: Calls), wordsLeft, textLeft (Draft)
---   tree_layout::is_layout           layout (crate tree_report: Layout): true or false, with no area lent for results and nothing to refuse
---   time_text::write_time            writtenTime (crate time_text: Written): a text put, or the area too short, which the call from C clears
--- The programs print what `print_input` puts (crates list_printing, write_printing: Printed); at a refusal that is `(refused)`.
+-- "Takes every table and area, does nothing undefined, and completes" is what a contract without a `requires` says: the checker proves the body of
+-- each entry point, and of all that it calls, safe and ending for every argument. What an entry point answers and leaves in each lent area is, by the
+-- same contract, equal to these definitions, and of them the claims speak:
+--   reader::read                       reading (crate read_machine: Reading)
+--   lister::list                       listed, outputOf (crate list_text: Listing)
+--   writer::write                      wrote, eventsLeft, attributesLeft, bytesLeft (crate write_answer: Answer)
+--   public_call::public_listing        publicListing (crate public_claims: PublicListing), and reading for the areas between
+--   explain::explain                   explained, explanationIn (crate explain_text: Explanation)
+--   tree_counts::Counts::add_test_suite, add_test_case
+--                                      withSuite, withCase, kept (crate tree_counts: Counts)
+--   builder, builder_set: each call    its namesake (crate build_draft: Calls), with wordsLeft and textLeft (Draft)
+-- The answer is the outcome as a struct, with `refusalFrom` (crate refusal: Refusal) of what a refusal carries: answerOf (crate reader: Answer),
+-- listingFrom (lister), writingFrom (writer), explainedFrom (explain), countedFrom (tree_counts: Counts), builtFrom (build_draft: Draft).
+-- Two calls refuse nothing: `tree_layout::is_layout` says whether areas are a layout (crate tree_report: Layout), and `time_text::write_time` puts a
+-- text, or says that it doesn't fit. The calls from C (crate port_c) pass on to these, and the programs (crates list_printing, write_printing: Printed)
+-- print what they come to, or `(refused)`. That the list is whole shows in the exports of port_c.
 --
--- Besides them, the claims rest on:
+-- Inputs are unchanged: they are lent as `&`, through which nothing can be stored, or go in by value.
+--
+-- Besides these, the claims rest on:
 --   number, Refused, Outcome, late (crate refusal: Refusal)     the number of each cause; what a refusal carries; a refusal that names no place
 --   zeros (crate area: Area)                                    an area that is zero throughout
 --   refusedText (crate public_claims: PublicListing)            `(refused)` and a newline
 --
--- Table, Areas, answerTo and listing are those of demand 3 (crate public_claims: Demand3). Inputs are unchanged: they are lent as `&`, through which
--- nothing can be stored, and counts and builders go in by value.
+-- Table, Areas, answerTo and listing are those of demand 3 (crate public_claims: Demand3). Of areas that are lent for results only the lengths count,
+-- but for a builder's, which hold what was built so far.
 use Prim.Native.Nat.{ℕ, _≤_}
 use mathlib.Core.Path.{_≡_}
 use mathlib.Core.List.{List, [], _∷_}
@@ -56,7 +59,7 @@ use Rattle.build_draft.specs.Draft.{Draft, wordsLeft, textLeft}
 use Rattle.build_draft.specs.Calls as call
 
 -- ---- refusals
--- docs/REFUSALS.md: the numbers of all refusals, and those that reading gives
+-- the numbers of all refusals, and those that reading gives
 abbrev pub allNumbers : List ℕ
 allNumbers = 1 ∷ 2 ∷ 3 ∷ 4 ∷ 5 ∷ 6 ∷ 7 ∷ 8 ∷ 9 ∷ 10 ∷ 11 ∷ 12 ∷ 13 ∷ 14 ∷ 15 ∷ 16 ∷ 17 ∷ 20 ∷ 21 ∷ []
 
@@ -67,13 +70,13 @@ abbrev pub isOneOf : ℕ → List ℕ → Bool
 isOneOf n [] = false
 isOneOf n (m ∷ ms) = eqb n m || isOneOf n ms
 
--- reading's refusals name a place: a path of at most six elements, and none with 11
+-- a refusal of reading names a place: its path has at most six elements, and none with 11
 pub record Placed (numbers : List ℕ) (why : Refused) : Type 0 where
   pub known : isOneOf (number (why .cause)) numbers ≡ true
   pub short : length (why .path) ≤ 6
   pub ofTable : number (why .cause) ≡ 11 → why .path ≡ []
 
--- those of all other calls, 15 to 17 among them, don't: the path is empty, and 4294967295 stands for event and attribute
+-- a refusal of any other call, with 15 to 17 or another number, names none: its path is empty, and 4294967295 stands for event and attribute
 pub record Late (numbers : List ℕ) (why : Refused) : Type 0 where
   pub known : isOneOf (number (why .cause)) numbers ≡ true
   pub placeless : why ≡ late (why .cause)
@@ -121,7 +124,7 @@ pub record BuilderCalls (d : Draft) : Type 0 where
   pub setNumber : (f : NumberField) (n : ℕ) → Builds (15 ∷ []) (length (d .words)) (length (d .text)) (call.setNumber f n d)
   pub finish : Builds (15 ∷ 17 ∷ []) (length (d .words)) (length (d .text)) (call.finish d)
 
--- ---- the claims: one for each entry point that has something to refuse
+-- ---- the claims, one for each entry point that refuses anything
 pub record Demand1 : Type 0 where
   -- Each cause has one of the numbers.
   pub numbered : (c : Cause) → isOneOf (number c) allNumbers ≡ true
@@ -143,7 +146,7 @@ pub record Demand1 : Type 0 where
   -- Counts: 17; the counts that come back are those that went in.
   pub addSuiteCounts : (c s : Counts) → Ends (Late (17 ∷ [])) (kept c (withSuite c s) ≡ c) (withSuite c s)
   pub addCaseCounts : (c : Counts) (s : Status) → Ends (Late (17 ∷ [])) (kept c (withCase c s) ≡ c) (withCase c s)
-  -- Builders: both areas are zero at a refusal; a new report has nothing that could be no layout.
+  -- Builders: a new report with 2, 12 and 13, and the other calls as listed above; both areas are zero then.
   pub unnamedReport : (words text : ℕ) → Builds (12 ∷ []) words text (call.unnamedReport words text)
   pub newReport : (name : List ℕ) (words text : ℕ) → Builds (2 ∷ 12 ∷ 13 ∷ []) words text (call.newReport name words text)
   pub builder : (d : Draft) → BuilderCalls d
