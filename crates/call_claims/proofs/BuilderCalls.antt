@@ -25,7 +25,7 @@ use Rattle.build_draft.specs.declared.NumberField.the-variants.{Assertions, Dis
 use Rattle.build_draft.specs.Draft.{Draft, _>>=_, asks, roomFor, isRecord, lastOf, withBuilder}
 use Rattle.build_draft.specs.Parts.{taking, placeFor}
 use Rattle.build_draft.specs.Calls as call
-use Rattle.call_claims.specs.Demand1.{isOneOf, completes, BuildZero, Builds, BuilderCalls}
+use Rattle.call_claims.specs.Demand1.{isOneOf, completes, BuildZero, Builds, Continues, BuilderCalls}
 use Rattle.call_claims.proofs.LateCalls.{Within, ends-leaving, within-late, within-asks, within-then, within-cond, within-taking, within-keeping, within-putting, within-putting-lossy, within-naming, within-naming-one, within-suite, within-counting, within-summing}
 
 both-zero : (n m : ℕ) (o : Outcome Draft) (why : Refused) → o ≡ refused why → BuildZero n m o
@@ -76,20 +76,17 @@ new-ends name words text = builds words text (within-opened refl (unnamed-opens 
 
 -- ---- calls on a builder
 module _ (d : Draft) where
-  abbrev Ending : List ℕ → Outcome Draft → Type 0
-  Ending ns o = Builds ns (length (d .words)) (length (d .text)) o
-
-  ending : {ns : List ℕ} {o : Outcome Draft} → Within ns o → Ending ns o
+  ending : {ns : List ℕ} {o : Outcome Draft} → Within ns o → Continues d ns o
   ending h = builds (length (d .words)) (length (d .text)) h
 
-  suite-ends : (name : List ℕ) → Ending (2 ∷ 12 ∷ 13 ∷ 15 ∷ 17 ∷ []) (call.addTestSuite name d)
+  suite-ends : (name : List ℕ) → Continues d (2 ∷ 12 ∷ 13 ∷ 15 ∷ 17 ∷ []) (call.addTestSuite name d)
   unfolding call.addTestSuite call.openSuite
   suite-ends name =
       ending (within-then
       (within-asks _ cause.NotLayout refl (within-then (within-summing refl d) λ e. within-then (within-taking refl kind.suite e) λ f. completes)) λ e.
       within-naming refl refl refl name e)
 
-  case-ends : (name : List ℕ) (s : Status) → Ending (2 ∷ 12 ∷ 13 ∷ 15 ∷ 17 ∷ []) (call.addTestCase name s d)
+  case-ends : (name : List ℕ) (s : Status) → Continues d (2 ∷ 12 ∷ 13 ∷ 15 ∷ 17 ∷ []) (call.addTestCase name s d)
   unfolding call.addTestCase call.openCase call.openMain
   case-ends name s =
       ending (within-then (within-then
@@ -97,11 +94,11 @@ module _ (d : Draft) where
       within-naming refl refl refl name e) λ e.
       within-cond (eqb (call.mainKind s) 0) completes (within-then (within-taking refl (call.mainKind s) e) λ f. completes))
 
-  run-ends : (k : NonSuccessKind) → Ending (12 ∷ 15 ∷ []) (call.addRerun k d)
+  run-ends : (k : NonSuccessKind) → Continues d (12 ∷ 15 ∷ []) (call.addRerun k d)
   unfolding call.addRerun
   run-ends k = ending (within-asks _ cause.NotLayout refl (within-cond (eqb (d .builder .main) nowhere) (within-taking refl _ _) (within-asks _ cause.NotLayout refl (within-taking refl _ _))))
 
-  kind-ends : (f : FlakyOrRerun) → Ending (15 ∷ []) (call.setRerunKind f d)
+  kind-ends : (f : FlakyOrRerun) → Continues d (15 ∷ []) (call.setRerunKind f d)
   unfolding call.setRerunKind
   kind-ends f = ending (within-asks _ cause.NotLayout refl completes)
 
@@ -113,40 +110,40 @@ module _ (d : Draft) where
       within-then (within-keeping refl refl false value e) λ f.
       within-cond (ltb (call.oldPlace κ (filtered key) (f .text) d) (placeFor d)) completes (within-then (within-taking refl κ f) λ g. completes))
 
-  property-ends : (h : Holder) (key value : List ℕ) → Ending (2 ∷ 12 ∷ 13 ∷ 15 ∷ []) (call.addProperty h key value d)
+  property-ends : (h : Holder) (key value : List ℕ) → Continues d (2 ∷ 12 ∷ 13 ∷ 15 ∷ []) (call.addProperty h key value d)
   unfolding call.addProperty
   property-ends h key value = ending (pair-ends (call.propertyKind h) key value)
 
-  extra-ends : (h : Holder) (key value : List ℕ) → Ending (2 ∷ 12 ∷ 13 ∷ 15 ∷ []) (call.addExtra h key value d)
+  extra-ends : (h : Holder) (key value : List ℕ) → Continues d (2 ∷ 12 ∷ 13 ∷ 15 ∷ []) (call.addExtra h key value d)
   unfolding call.addExtra
   extra-ends h key value = ending (pair-ends (call.extraKind h) key value)
 
-  text-ends : (e : Element) (f : TextField) (s : List ℕ) → Ending (2 ∷ 13 ∷ 15 ∷ []) (call.setText e f s d)
+  text-ends : (e : Element) (f : TextField) (s : List ℕ) → Continues d (2 ∷ 13 ∷ 15 ∷ []) (call.setText e f s d)
   unfolding call.setText
   text-ends e f s = ending (within-asks _ cause.NotLayout refl (within-putting refl refl refl _ _ _ s d))
 
-  lossy-ends : (e : Element) (f : TextField) (s : List ℕ) → Ending (13 ∷ 15 ∷ []) (call.setOutputLossy e f s d)
+  lossy-ends : (e : Element) (f : TextField) (s : List ℕ) → Continues d (13 ∷ 15 ∷ []) (call.setOutputLossy e f s d)
   unfolding call.setOutputLossy
   lossy-ends e f s = ending (within-asks _ cause.NotLayout refl (within-putting-lossy refl refl _ _ _ s d))
 
-  timestamp-ends : (e : Element) (m : Moment) → Ending (4 ∷ 15 ∷ []) (call.setTimestamp e m d)
+  timestamp-ends : (e : Element) (m : Moment) → Continues d (4 ∷ 15 ∷ []) (call.setTimestamp e m d)
   unfolding call.setTimestamp
   timestamp-ends e m = ending (within-asks _ cause.NotLayout refl (within-asks _ cause.BadTimestamp refl completes))
 
-  time-ends : (e : Element) (seconds nanos : ℕ) → Ending (5 ∷ 15 ∷ []) (call.setTime e seconds nanos d)
+  time-ends : (e : Element) (seconds nanos : ℕ) → Continues d (5 ∷ 15 ∷ []) (call.setTime e seconds nanos d)
   unfolding call.setTime
   time-ends e seconds nanos = ending (within-asks _ cause.NotLayout refl (within-asks _ cause.BadTime refl completes))
 
-  uuid-ends : (w : Words) → Ending (15 ∷ []) (call.setUuid w d)
+  uuid-ends : (w : Words) → Continues d (15 ∷ []) (call.setUuid w d)
   unfolding call.setUuid
   uuid-ends w = ending (within-asks _ cause.NotLayout refl completes)
 
-  number-ends : (f : NumberField) (n : ℕ) → Ending (15 ∷ []) (call.setNumber f n d)
+  number-ends : (f : NumberField) (n : ℕ) → Continues d (15 ∷ []) (call.setNumber f n d)
   unfolding call.setNumber
   number-ends Assertions n = ending (within-asks _ cause.NotLayout refl completes)
   number-ends Disabled n = ending (within-asks _ cause.NotLayout refl completes)
 
-  finish-ends : Ending (15 ∷ 17 ∷ []) (call.finish d)
+  finish-ends : Continues d (15 ∷ 17 ∷ []) (call.finish d)
   unfolding call.finish
   finish-ends = ending (within-asks _ cause.NotLayout refl (within-then (within-summing refl d) λ e. completes))
 

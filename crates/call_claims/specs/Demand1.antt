@@ -108,21 +108,25 @@ pub record BuildZero (n m : ℕ) (o : Outcome Draft) : Type 0 where
 abbrev pub Builds : List ℕ → (words text : ℕ) → Outcome Draft → Type 0
 Builds numbers words text o = Ends (Late numbers) (BuildZero words text o) o
 
+-- in the areas of a draft
+abbrev pub Continues : Draft → List ℕ → Outcome Draft → Type 0
+Continues d numbers o = Builds numbers (length (d .words)) (length (d .text)) o
+
 -- on any builder, also one that was made up, and any areas
 pub record BuilderCalls (d : Draft) : Type 0 where
-  pub addTestSuite : (name : List ℕ) → Builds (2 ∷ 12 ∷ 13 ∷ 15 ∷ 17 ∷ []) (length (d .words)) (length (d .text)) (call.addTestSuite name d)
-  pub addTestCase : (name : List ℕ) (s : Status) → Builds (2 ∷ 12 ∷ 13 ∷ 15 ∷ 17 ∷ []) (length (d .words)) (length (d .text)) (call.addTestCase name s d)
-  pub addRerun : (k : NonSuccessKind) → Builds (12 ∷ 15 ∷ []) (length (d .words)) (length (d .text)) (call.addRerun k d)
-  pub setRerunKind : (f : FlakyOrRerun) → Builds (15 ∷ []) (length (d .words)) (length (d .text)) (call.setRerunKind f d)
-  pub addProperty : (h : Holder) (key value : List ℕ) → Builds (2 ∷ 12 ∷ 13 ∷ 15 ∷ []) (length (d .words)) (length (d .text)) (call.addProperty h key value d)
-  pub addExtra : (h : Holder) (key value : List ℕ) → Builds (2 ∷ 12 ∷ 13 ∷ 15 ∷ []) (length (d .words)) (length (d .text)) (call.addExtra h key value d)
-  pub setText : (e : Element) (f : TextField) (s : List ℕ) → Builds (2 ∷ 13 ∷ 15 ∷ []) (length (d .words)) (length (d .text)) (call.setText e f s d)
-  pub setOutputLossy : (e : Element) (f : TextField) (s : List ℕ) → Builds (13 ∷ 15 ∷ []) (length (d .words)) (length (d .text)) (call.setOutputLossy e f s d)
-  pub setTimestamp : (e : Element) (m : Moment) → Builds (4 ∷ 15 ∷ []) (length (d .words)) (length (d .text)) (call.setTimestamp e m d)
-  pub setTime : (e : Element) (seconds nanos : ℕ) → Builds (5 ∷ 15 ∷ []) (length (d .words)) (length (d .text)) (call.setTime e seconds nanos d)
-  pub setUuid : (w : Words) → Builds (15 ∷ []) (length (d .words)) (length (d .text)) (call.setUuid w d)
-  pub setNumber : (f : NumberField) (n : ℕ) → Builds (15 ∷ []) (length (d .words)) (length (d .text)) (call.setNumber f n d)
-  pub finish : Builds (15 ∷ 17 ∷ []) (length (d .words)) (length (d .text)) (call.finish d)
+  pub addTestSuite : (name : List ℕ) → Continues d (2 ∷ 12 ∷ 13 ∷ 15 ∷ 17 ∷ []) (call.addTestSuite name d)
+  pub addTestCase : (name : List ℕ) (s : Status) → Continues d (2 ∷ 12 ∷ 13 ∷ 15 ∷ 17 ∷ []) (call.addTestCase name s d)
+  pub addRerun : (k : NonSuccessKind) → Continues d (12 ∷ 15 ∷ []) (call.addRerun k d)
+  pub setRerunKind : (f : FlakyOrRerun) → Continues d (15 ∷ []) (call.setRerunKind f d)
+  pub addProperty : (h : Holder) (key value : List ℕ) → Continues d (2 ∷ 12 ∷ 13 ∷ 15 ∷ []) (call.addProperty h key value d)
+  pub addExtra : (h : Holder) (key value : List ℕ) → Continues d (2 ∷ 12 ∷ 13 ∷ 15 ∷ []) (call.addExtra h key value d)
+  pub setText : (e : Element) (f : TextField) (s : List ℕ) → Continues d (2 ∷ 13 ∷ 15 ∷ []) (call.setText e f s d)
+  pub setOutputLossy : (e : Element) (f : TextField) (s : List ℕ) → Continues d (13 ∷ 15 ∷ []) (call.setOutputLossy e f s d)
+  pub setTimestamp : (e : Element) (m : Moment) → Continues d (4 ∷ 15 ∷ []) (call.setTimestamp e m d)
+  pub setTime : (e : Element) (seconds nanos : ℕ) → Continues d (5 ∷ 15 ∷ []) (call.setTime e seconds nanos d)
+  pub setUuid : (w : Words) → Continues d (15 ∷ []) (call.setUuid w d)
+  pub setNumber : (f : NumberField) (n : ℕ) → Continues d (15 ∷ []) (call.setNumber f n d)
+  pub finish : Continues d (15 ∷ 17 ∷ []) (call.finish d)
 
 -- ---- the claims, one for each entry point that refuses anything
 pub record Demand1 : Type 0 where
@@ -142,7 +146,8 @@ pub record Demand1 : Type 0 where
       → Ends (Late (16 ∷ [])) (listing t a ≡ refusedText) (listed (readingOf t a .words) (readingOf t a .text) (a .output))
   -- Explaining a refusal, also one that was made up, over any table: 16; the output area is zero then.
   pub explain : (t : Table) (r : Refusal) (output : ℕ)
-      → Ends (Late (16 ∷ [])) (explanationIn (t .events) (t .attributes) (t .source) r output ≡ zeros output) (explained (t .events) (t .attributes) (t .source) r output)
+      → Ends (Late (16 ∷ [])) (explanationIn (t .events) (t .attributes) (t .source) r output ≡ zeros output)
+      (explained (t .events) (t .attributes) (t .source) r output)
   -- Counts: 17; the counts that come back are those that went in.
   pub addSuiteCounts : (c s : Counts) → Ends (Late (17 ∷ [])) (kept c (withSuite c s) ≡ c) (withSuite c s)
   pub addCaseCounts : (c : Counts) (s : Status) → Ends (Late (17 ∷ [])) (kept c (withCase c s) ≡ c) (withCase c s)
