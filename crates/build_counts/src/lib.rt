@@ -89,7 +89,7 @@ fn put_counted(b: Builder, records: &mut [u32], i: u32, counted: Counted) -> Ste
     Step::Done(b)
 }
 
-// The open suite's counts are added to the report's, if one is open.
+// The open suite's counts are added to the report's, if one is open (rule B8).
 pub fn sum_suite(b: Builder, records: &mut [u32]) -> Step
     ensures { λ r. ⌜ ((text : List ℕ) → draftOf r (now (records .exit)) text ≡ summing (record { builder = b; words = now (records .entry); text = text })) ⌝ }
 {
@@ -101,7 +101,7 @@ pub fn sum_suite(b: Builder, records: &mut [u32]) -> Step
     put_counted(b, records, b.report, report.add_test_suite(suite))
 }
 
-// A case of this outcome is added to the open suite's counts.
+// A case of this outcome is added to the open suite's counts (rule B8).
 pub fn count_case(b: Builder, records: &mut [u32], outcome: Outcome) -> Step
     ensures { λ r. ⌜ ((text : List ℕ) → draftOf r (now (records .exit)) text ≡ counting (b .suite) (withCase (countsAt (now (records .entry)) (b .suite)) outcome) (record { builder = b; words = now (records .entry); text = text })) ⌝ }
 {

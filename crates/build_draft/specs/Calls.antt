@@ -38,13 +38,13 @@ use Rattle.build_draft.specs.Parts.{taking, keeping, putting, naming, co
 abbrev pub marks : ℕ → ℕ → ℕ → ℕ → Builder → Builder
 marks report suite case main b = record { records = b .records; bytes = b .bytes; report = report; suite = suite; case = case; main = main }
 
--- `Report::unnamed`, in areas of so many words and bytes, whatever they held
+-- `Report::unnamed`, in areas of so many words and bytes, whatever they held (rule B1)
 unfoldable pub unnamedReport : ℕ → ℕ → Outcome Draft
 unnamedReport words bytes =
     taking kind.report (record { builder = noBuilder; words = zeros words; text = zeros bytes }) >>= λ d.
     accepted (withBuilder d (marks 0 nowhere nowhere nowhere (d .builder)))
 
--- `Report::new`
+-- `Report::new` (rule B1)
 unfoldable pub newReport : List ℕ → ℕ → ℕ → Outcome Draft
 newReport name words bytes = unnamedReport words bytes >>= naming name
 
@@ -80,6 +80,7 @@ openMain s d =
     (taking (mainKind s) d >>= λ e.
     accepted (withBuilder e (marks (e .builder .report) (e .builder .suite) (e .builder .case) (lastOf (e .builder)) (e .builder))))
 
+-- rule B5
 unfoldable pub addTestCase : List ℕ → Status → Draft → Outcome Draft
 addTestCase name s d = openCase s d >>= naming name >>= openMain s
 
@@ -94,13 +95,13 @@ isNonSuccess d =
 abbrev pub hasRuns : Draft → Bool
 hasRuns d = not (eqb (d .builder .main + 1) (d .builder .records))
 
--- "failure or error [..] kind Rerun if there are none", unless the flaky bit says otherwise
+-- Rerun where there are no runs, unless the flaky bit says otherwise (rule B9)
 abbrev pub familyOf : Draft → FlakyOrRerun
 familyOf d =
     cond (hasRuns d) (cond (leb (kindAt (d .words) (lastOf (d .builder))) kind.flakyError) Flaky Rerun)
     (cond (hasBit bit.flaky (drop (d .builder .main * 32) (d .words))) Flaky Rerun)
 
--- `TestCaseStatus::add_rerun` on the open case: flaky on success, of its family on failure and error, none on skipped (15)
+-- `TestCaseStatus::add_rerun` on the open case (rule B9): flaky on success, of its family on failure and error, none on skipped (15)
 unfoldable pub addRerun : NonSuccessKind → Draft → Outcome Draft
 addRerun k d =
     let b = d .builder in
@@ -113,7 +114,7 @@ abbrev pub flagged : FlakyOrRerun → List ℕ → List ℕ
 flagged Flaky r = marked bit.flaky r
 flagged Rerun r = unmarked bit.flaky r
 
--- `TestCaseStatus::set_rerun_kind` on the open case's failure or error
+-- `TestCaseStatus::set_rerun_kind` on the open case's failure or error (rule B4)
 unfoldable pub setRerunKind : FlakyOrRerun → Draft → Outcome Draft
 setRerunKind f d =
     let b = d .builder in
@@ -129,7 +130,7 @@ isExtra κ = leb kind.suiteExtra κ
 abbrev pub holderOf : ℕ → Builder → ℕ
 holderOf κ b = cond (eqb κ kind.suiteExtra) (b .suite) (b .case)
 
--- the place of the record with this key among the element's extras, or no place before `placeFor`
+-- the place of the record with this key among the element's extras, or no place before `placeFor` (rule B7)
 abbrev pub oldPlace : ℕ → List ℕ → List ℕ → Draft → ℕ
 oldPlace κ key text d =
     cond (isExtra κ) (keyPlace text (d .words) key (holderOf κ (d .builder) + 1) (placeFor d - (holderOf κ (d .builder) + 1))) (placeFor d)
@@ -141,7 +142,7 @@ putPairIn place x y z d =
     let words = onRecord (lastOf b) (λ r. putText word.value bit.value y (z - y) (putText word.key bit.key x (y - x) r)) (d .words) in
     cond (ltb place (lastOf b)) (record { builder = marks (b .report) (b .suite) (b .case) (place + 1) b; words = exchanged place words; text = d .text }) (withWords d words)
 
--- both texts (2, 13 of the first, then of the second), then a record if the key is new (12)
+-- in the order of rule B5: both texts (2, 13 of the first, then of the second), then a record if the key is new (12)
 unfoldable pub addPair : ℕ → List ℕ → List ℕ → Draft → Outcome Draft
 addPair κ key value d =
     asks (isRecord (d .builder) (d .words) (lastOf (d .builder)) && mayStandBehind κ (kindAt (d .words) (placeFor d - 1))) cause.NotLayout
@@ -169,7 +170,7 @@ unfoldable pub addExtra : Holder → List ℕ → List ℕ → Draft → Outcome
 addExtra h key value d = addPair (extraKind h) key value d
 
 -- ---- setters
--- "a setter that the element doesn't have with 15"
+-- a field that the element doesn't have is refused with 15 (rule B4)
 unfoldable pub setText : Element → TextField → List ℕ → Draft → Outcome Draft
 setText e f s d =
     let i = markOf (d .builder) e in
@@ -185,11 +186,13 @@ setOutputLossy e f s d =
 abbrev pub isTimed : ℕ → Draft → Bool
 isTimed i d = isRecord (d .builder) (d .words) i && hasTimes (kindAt (d .words) i)
 
+-- rule B10
 unfoldable pub setTimestamp : Element → Moment → Draft → Outcome Draft
 setTimestamp e m d =
     let i = markOf (d .builder) e in
     asks (isTimed i d) cause.NotLayout (asks (inRange m) cause.BadTimestamp (accepted (withWords d (onRecord i (putMoment m) (d .words)))))
 
+-- rule B10
 unfoldable pub setTime : Element → ℕ → ℕ → Draft → Outcome Draft
 setTime e seconds nanos d =
     let i = markOf (d .builder) e in

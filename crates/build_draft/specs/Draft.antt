@@ -21,7 +21,7 @@ pub record Draft : Type 0 where
   pub words : List ℕ
   pub text : List ℕ
 
--- no record, no byte, nothing open
+-- no record, no byte, nothing open (rule B11)
 abbrev pub noBuilder : Builder
 noBuilder = record { records = 0; bytes = 0; report = nowhere; suite = nowhere; case = nowhere; main = nowhere }
 
@@ -36,7 +36,7 @@ _>>=_ (refused r) f = refused r
 abbrev pub next : {A B : Type 0} → Outcome A → (A → Outcome B) → Outcome B
 next o f = o >>= f
 
--- what follows where the test passes, and else the refusal, with an empty path and 4294967295
+-- what follows where the test passes, and else the refusal, with an empty path and 4294967295 (rule B11)
 unfoldable pub asks : {A : Type 0} → Bool → Cause → Outcome A → Outcome A
 asks true why m = m
 asks false why m = refused (late why)
@@ -46,12 +46,12 @@ unfoldable pub draftOf : Step → List ℕ → List ℕ → Outcome Draft
 draftOf (Done b) words text = accepted (record { builder = b; words = words; text = text })
 draftOf (Not why) words text = refused (late why)
 
--- ---- the whole answer of a call, and what it leaves in areas of so many words and bytes: "a refusal leaves each area lent for results
--- zero throughout"
+-- ---- the whole answer of a call, and what it leaves in areas of so many words and bytes: zeros at a refusal (rule B11)
 abbrev pub builderOf : Outcome Draft → Builder
 builderOf (accepted d) = d .builder
 builderOf (refused r) = noBuilder
 
+-- rule B11
 abbrev pub builtFrom : Outcome Draft → Built
 builtFrom o = record { verdict = verdictOf o; builder = builderOf o; refusal = refusalOf o }
 
@@ -64,7 +64,7 @@ textLeft n (accepted d) = d .text
 textLeft n (refused r) = zeros n
 
 -- ---- rooms and marks
--- "of longer areas only that much is used"
+-- beyond the limits an area isn't used (rule M1)
 abbrev pub roomFor : List ℕ → ℕ
 roomFor words = min (length words / 32) mostRecords
 
@@ -78,6 +78,7 @@ isRecord b words i = ltb i (b .records) && leb (b .records) (roomFor words)
 abbrev pub kindAt : List ℕ → ℕ → ℕ
 kindAt words i = getD words (i * 32) 0
 
+-- rule B4
 unfoldable pub isOf : Builder → List ℕ → ℕ → ℕ → Bool
 isOf b words i kind = isRecord b words i && eqb (kindAt words i) kind
 
@@ -88,6 +89,7 @@ onRecord i f words = take (i * 32) words ++ f (drop (i * 32) words)
 abbrev pub lastOf : Builder → ℕ
 lastOf b = b .records - 1
 
+-- rule B3
 abbrev pub markOf : Builder → Element → ℕ
 markOf b Report = b .report
 markOf b Suite = b .suite

@@ -38,7 +38,7 @@ taking k d =
     }))
 
 -- ---- texts
--- "UTF-8 or 2, then filtered as `XmlString::new` does"; lossily, what isn't UTF-8 becomes U+FFFD
+-- filtered as `XmlString::new` does; lossily, what isn't UTF-8 becomes U+FFFD before (rule B6)
 abbrev pub textFor : Bool → List ℕ → List ℕ
 textFor lossy s = cond lossy (lossyText s) (filtered s)
 
@@ -46,7 +46,7 @@ textFor lossy s = cond lossy (lossyText s) (filtered s)
 abbrev pub putAt : ℕ → List ℕ → List ℕ → List ℕ
 putAt x f text = take x text ++ (f ++ drop (x + length f) text)
 
--- "stored behind the texts already there (13)"
+-- UTF-8 (2), and room behind the texts that are there (13): rules B6 and M4
 unfoldable pub keeping : Bool → List ℕ → Draft → Outcome Draft
 keeping lossy s d =
     let b = d .builder in
@@ -87,7 +87,7 @@ countsAt words i = countsIn (drop (i * 32) words)
 abbrev pub putNumber : ℕ → ℕ → ℕ → List ℕ → List ℕ
 putNumber o k n r = marked k (putCount o n r)
 
--- "`disabled` only if the suite has it"
+-- only where the sum has a `disabled` (rule C2)
 abbrev pub putDisabled : Bool → ℕ → List ℕ → List ℕ
 putDisabled presence n r = cond presence (putNumber word.disabled bit.disabled n r) r
 
@@ -96,11 +96,11 @@ putCounts c r =
     putDisabled (c .presence) (c .disabled)
     (putCount word.skipped (c .skipped) (putCount word.errors (c .errors) (putCount word.failures (c .failures) (putCount word.tests (c .tests) r))))
 
--- the counts of record i, or 17
+-- the counts of record i, or 17 (rule B8)
 unfoldable pub counting : ℕ → Outcome Counts → Draft → Outcome Draft
 counting i o d = o >>= λ c. accepted (withWords d (onRecord i (putCounts c) (d .words)))
 
--- "a suite added raises the report's sums (when the next suite begins or the report ends)"
+-- the open suite, if there is one, is added to the report's counts (rule B8)
 unfoldable pub summing : Draft → Outcome Draft
 summing d =
     let b = d .builder in
@@ -114,7 +114,7 @@ isMainKind k = leb kind.failure k && leb k kind.skipped
 abbrev pub placeFor : Draft → ℕ
 placeFor d = cond (isMainKind (kindAt (d .words) (lastOf (d .builder)))) (lastOf (d .builder)) (d .builder .records)
 
--- docs/TREE.md: an element's extras stand directly behind it, and its properties, which stand together, behind its extras
+-- docs/TREE.md: an element's extras stand directly behind it, and its properties, which stand together, behind its extras (rule B3)
 abbrev pub mayStandBehind : ℕ → ℕ → Bool
 mayStandBehind κ k =
     cond (eqb κ kind.suiteExtra) (eqb k kind.suite || eqb k kind.suiteExtra)
@@ -161,6 +161,7 @@ isStatus k = leb kind.failure k && leb k kind.rerunError
 abbrev pub isRun : ℕ → Bool
 isRun k = leb kind.flakyFailure k && leb k kind.rerunError
 
+-- rule B4
 abbrev pub hasText : ℕ → TextField → Bool
 hasText k Classname = eqb k kind.case
 hasText k Message = isStatus k
@@ -198,6 +199,6 @@ isOutput Ty = false
 isOutput Description = false
 isOutput StackTrace = false
 
--- which kinds of records have a timestamp and a time
+-- which kinds of records have a timestamp and a time (rule B4)
 abbrev pub hasTimes : ℕ → Bool
 hasTimes k = eqb k kind.report || (eqb k kind.suite || (eqb k kind.case || isRun k))

@@ -81,6 +81,7 @@ pub enum FlakyOrRerun {
     Rerun,
 }
 
+// By rule B11.
 pub fn no_builder() -> Builder
     ensures { λ r. ⌜ r ≡ noBuilder ⌝ }
 {
@@ -115,6 +116,7 @@ pub fn kind_at(words: &[u32], i: u32) -> u32
     field(words, (i as usize) * 32)
 }
 
+// By rule B4.
 pub fn is_of(b: Builder, words: &[u32], i: u32, kind: u32) -> bool
     ensures { λ r. ⌜ r ≡ isOf b (now (words .entry)) i kind ⌝ }
 {
@@ -131,6 +133,7 @@ pub fn last_of(b: Builder) -> u32
     b.records - 1
 }
 
+// By rule B3.
 pub fn mark_of(b: Builder, element: Element) -> u32
     ensures { λ r. ⌜ r ≡ markOf b element ⌝ }
 {
@@ -151,7 +154,7 @@ fn clear_both(records: &mut [u32], text: &mut [u8])
     clear(text);
 }
 
-// The answer of a call whose last part came to this; at a refusal both areas become zero.
+// The answer of a call whose last part came to this; at a refusal both areas become zero (rule B11).
 pub fn settle(step: Step, records: &mut [u32], text: &mut [u8]) -> Built
     ensures { λ r. ⌜ r ≡ builtFrom (draftOf step (now (records .entry)) (now (text .entry))) ⌝ }
     ensures { λ r. ⌜ now (records .exit) ≡ wordsLeft (length (now (records .entry))) (draftOf step (now (records .entry)) (now (text .entry))) ⌝ }

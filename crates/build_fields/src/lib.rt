@@ -50,6 +50,7 @@ fn has_outputs(k: u32) -> bool
     (k == kind::SUITE) | ((k == kind::CASE) | is_run(k))
 }
 
+// By rule B4.
 pub fn has_text(k: u32, field: TextField) -> bool
     ensures { λ r. ⌜ r ≡ hasText k field ⌝ }
 {

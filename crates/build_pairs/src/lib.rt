@@ -50,7 +50,7 @@ fn place_for(b: Builder, words: &[u32]) -> u32
     b.records
 }
 
-// Whether a record of kind k, a property or extra, may stand behind one of kind `before`.
+// Whether a record of kind k, a property or extra, may stand behind one of kind `before` (rule B3).
 fn may_stand_behind(k: u32, before: u32) -> bool
     ensures { λ r. ⌜ r ≡ mayStandBehind k before ⌝ }
 {
@@ -91,7 +91,7 @@ fn key_place(records: &[u32], text: &[u8], key: &[u8], from: usize, to: usize) -
     i
 }
 
-// The place of the extra with this key, or none before `place`; a property's is never there.
+// The place of the extra with this key (rule B7), or none before `place`; a property's is never there.
 fn old_place(b: Builder, records: &[u32], text: &[u8], key: &[u8], k: u32, place: u32) -> usize
     requires { ⌜ place ≤ 65536 ⌝ }
     ensures { λ i. ⌜ ((t : List ℕ) → placeFor (record { builder = b; words = now (records .entry); text = t }) ≡ place → i ≡ oldPlace k (now (key .entry)) (now (text .entry)) (record { builder = b; words = now (records .entry); text = t })) ⌝ }
@@ -197,7 +197,7 @@ fn add_value(
     put_kept(b, d, records, text, k, c.bytes)
 }
 
-// A property or extra, by its record's kind.
+// A property or extra, by its record's kind (rules B5 and B7).
 pub fn add_pair(
     b: Builder,
     records: &mut [u32],

@@ -60,7 +60,7 @@ abbrev pub isSome : {A : Type 0} → Option A → Bool
 isSome none = false
 isSome (some a) = true
 
--- "17 where a count would pass its limit"
+-- not past the limit, else 17 (rule C3)
 abbrev pub isNumber : ℕ → Bool
 isNumber n = leb n 18446744073709551615
 
@@ -168,7 +168,7 @@ pairTests used key value text ts = textTests used key text (textTests (used + le
 abbrev pub pairOf : List ℕ → List ℕ → Pair
 pairOf key value = record { key = filtered key; value = filtered value }
 
--- ---- a builder that stands over a report
+-- ---- a builder that stands over a report (rule B2)
 pub record FromReport (b : Builder) (words text : List ℕ) (r : Report) : Type 0 where
   pub means : Holds words text r
   pub addTestSuite : (name : List ℕ)

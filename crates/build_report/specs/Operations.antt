@@ -39,7 +39,7 @@ lastIn (x ∷ (y ∷ ys)) = lastIn (y ∷ ys)
 abbrev pub noCounts : Counts
 noCounts = record { tests = 0; failures = 0; errors = 0; skipped = 0; disabled = none }
 
--- `Report::unnamed`, `Report::new`
+-- `Report::unnamed`, `Report::new` (rule B1)
 abbrev pub reportNamed : Option Text → Report
 reportNamed name = record { name = name; uuid = none; timestamp = none; time = none; counts = noCounts; suites = [] }
 
@@ -98,7 +98,7 @@ abbrev pub onStatus : (TestCaseStatus → TestCaseStatus) → Report → Report
 onStatus f r = onCase (λ c. withStatus c (f (c .status))) r
 
 -- ---- suites and cases
--- "`disabled` only if the suite has it"
+-- there if either is (rule C2)
 abbrev pub sumDisabled : Option ℕ → Option ℕ → Option ℕ
 sumDisabled a none = a
 sumDisabled none (some n) = some n
@@ -169,7 +169,7 @@ abbrev pub addProperty : Holder → Pair → Report → Report
 addProperty holder.Suite p r = onSuite (λ s. suitePairs (s .extra) (s .properties ++ (p ∷ [])) s) r
 addProperty holder.Case p r = onCase (λ c. casePairs (c .extra) (c .properties ++ (p ∷ [])) c) r
 
--- `IndexMap::insert`
+-- `IndexMap::insert` (rule B7)
 abbrev pub insert : Pair → List Pair → List Pair
 insert p [] = p ∷ []
 insert p (q ∷ qs) = cond (sameBytes (q .key) (p .key)) (record { key = q .key; value = p .value } ∷ qs) (q ∷ insert p qs)

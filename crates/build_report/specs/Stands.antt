@@ -77,11 +77,12 @@ pub record Stored (b : Builder) (words text : List ℕ) (r : Report) : Type 0 wh
   pub room : length placed ≤ roomFor words
   pub text-room : length texts ≤ bytesFor text
 
+-- rule B2
 pub record Stands (b : Builder) (words text : List ℕ) (r : Report) : Type 0 where
   pub stored : Stored b words text r
   pub marks : Marked b r
 
--- ---- what a call comes to: the first test that fails decides the refusal; where none fails, Q holds of the draft
+-- ---- what a call comes to: the first test that fails decides the refusal (rule B5); where none fails, Q holds of the draft
 pub data Comes (Q : Draft → Type 0) : List (Bool × Cause) → Outcome Draft → Type 0 where
   gives : {d : Draft} → Q d → Comes Q [] (accepted d)
   passes : {why : Cause} {ts : List (Bool × Cause)} {o : Outcome Draft} → Comes Q ts o → Comes Q ((true, why) ∷ ts) o

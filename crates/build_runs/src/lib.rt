@@ -77,7 +77,7 @@ fn family_by(is_flaky: bool) -> FlakyOrRerun
     FlakyOrRerun::Rerun
 }
 
-// The family of the runs that stand behind the failure or error, and without any by its flaky bit.
+// The family of the runs that stand behind the failure or error, and without any by its flaky bit (rule B9).
 fn family_of(b: Builder, words: &[u32]) -> FlakyOrRerun
     ensures { λ r. ⌜ ((text : List ℕ) → r ≡ familyOf (record { builder = b; words = now (words .entry); text = text })) ⌝ }
 {
@@ -101,7 +101,7 @@ fn take_run(b: Builder, records: &mut [u32], k: NonSuccessKind) -> Step
     take_record(b, records, run_kind(family, k))
 }
 
-// A run of the open case.
+// A run of the open case (rule B9).
 pub fn open_run(b: Builder, records: &mut [u32], k: NonSuccessKind) -> Step
     ensures { λ r. ⌜ ((text : List ℕ) → draftOf r (now (records .exit)) text ≡ addRerun k (record { builder = b; words = now (records .entry); text = text })) ⌝ }
 {
@@ -143,7 +143,7 @@ fn turn_runs(records: &mut [u32], family: FlakyOrRerun, from: usize, to: usize)
     }
 }
 
-// Sets the family of the runs of the open case's failure or error, also while there are none.
+// Sets the family of the runs of the open case's failure or error (rule B4), also while there are none.
 pub fn turn_case(b: Builder, records: &mut [u32], family: FlakyOrRerun) -> Step
     ensures { λ r. ⌜ ((text : List ℕ) → draftOf r (now (records .exit)) text ≡ setRerunKind family (record { builder = b; words = now (records .entry); text = text })) ⌝ }
 {

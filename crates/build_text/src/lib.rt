@@ -53,7 +53,7 @@ fn is_refused(s: &[u8], lossy: bool) -> bool
     !is_utf8(s)
 }
 
-// Stores a text behind the texts already there.
+// Stores a text behind the texts already there (rule B6).
 pub fn keep(b: Builder, text: &mut [u8], s: &[u8], lossy: bool) -> Step
     ensures { λ r. ⌜ ((words : List ℕ) → draftOf r words (now (text .exit)) ≡ keeping lossy (now (s .entry)) (record { builder = b; words = words; text = now (text .entry) })) ⌝ }
 {

@@ -20,6 +20,7 @@ ghost use lib.ListN.{length};
 ghost use Rattle.build_draft.specs.Draft.{builtFrom, wordsLeft, textLeft};
 ghost use Rattle.build_draft.specs.Calls.{unnamedReport, newReport, addTestSuite, addTestCase, addRerun, propertyKind, extraKind, addProperty, addExtra, finish};
 
+// By rule B1.
 pub fn unnamed_report(records: &mut [u32], text: &mut [u8]) -> Built
     ensures { λ r. ⌜ r ≡ builtFrom (unnamedReport (length (now (records .entry))) (length (now (text .entry)))) ⌝ }
     ensures { λ r. ⌜ now (records .exit) ≡ wordsLeft (length (now (records .entry))) (unnamedReport (length (now (records .entry))) (length (now (text .entry)))) ⌝ }
@@ -29,6 +30,7 @@ pub fn unnamed_report(records: &mut [u32], text: &mut [u8]) -> Built
     settle(step, records, text)
 }
 
+// By rule B1.
 pub fn new_report(records: &mut [u32], text: &mut [u8], name: &[u8]) -> Built
     ensures { λ r. ⌜ r ≡ builtFrom (newReport (now (name .entry)) (length (now (records .entry))) (length (now (text .entry)))) ⌝ }
     ensures { λ r. ⌜ now (records .exit) ≡ wordsLeft (length (now (records .entry))) (newReport (now (name .entry)) (length (now (records .entry))) (length (now (text .entry)))) ⌝ }
@@ -39,7 +41,7 @@ pub fn new_report(records: &mut [u32], text: &mut [u8], name: &[u8]) -> Built
     settle(named, records, text)
 }
 
-// The suite is open from then on; the one before is added to the report's sums.
+// By rule B2. The suite is open from then on; the one before is added to the report's sums (rule B8).
 pub fn add_test_suite(b: Builder, records: &mut [u32], text: &mut [u8], name: &[u8]) -> Built
     ensures { λ r. ⌜ r ≡ builtFrom (addTestSuite (now (name .entry)) (record { builder = b; words = now (records .entry); text = now (text .entry) })) ⌝ }
     ensures { λ r. ⌜ now (records .exit) ≡ wordsLeft (length (now (records .entry))) (addTestSuite (now (name .entry)) (record { builder = b; words = now (records .entry); text = now (text .entry) })) ⌝ }
@@ -50,7 +52,7 @@ pub fn add_test_suite(b: Builder, records: &mut [u32], text: &mut [u8], name: &[
     settle(named, records, text)
 }
 
-// The case is open from then on; its status counts at once.
+// By rules B2 and B5. The case is open from then on; its status counts at once (rule B8).
 pub fn add_test_case(
     b: Builder,
     records: &mut [u32],

@@ -57,7 +57,7 @@ fn write_field(
     )
 }
 
-// A text that was there stays as dead bytes.
+// By rule B2; a text that was there stays as dead bytes.
 pub fn set_text(
     b: Builder,
     records: &mut [u32],
@@ -74,7 +74,7 @@ pub fn set_text(
     settle(step, records, text)
 }
 
-// An output from any bytes: what isn't UTF-8 becomes U+FFFD.
+// An output from any bytes: what isn't UTF-8 becomes U+FFFD (rule B6).
 pub fn set_output_lossy(
     b: Builder,
     records: &mut [u32],
@@ -91,6 +91,7 @@ pub fn set_output_lossy(
     settle(step, records, text)
 }
 
+// By rule B10.
 pub fn set_timestamp(
     b: Builder,
     records: &mut [u32],
@@ -106,6 +107,7 @@ pub fn set_timestamp(
     settle(step, records, text)
 }
 
+// By rule B10.
 pub fn set_time(
     b: Builder,
     records: &mut [u32],

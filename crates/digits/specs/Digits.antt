@@ -50,6 +50,6 @@ placesIn (suc f) n = cond (ltb n 10) 1 (suc (placesIn f (n / 10)))
 unfoldable pub places : ℕ → ℕ
 places n = placesIn 19 n
 
--- n in decimal, without leading zeros
+-- n in decimal, without leading zeros (rule W9)
 unfoldable pub decimal : ℕ → List ℕ
 decimal n = lastDigits (places n) n

@@ -117,6 +117,7 @@ pub fn write_digits(out: &mut [u8], k: usize, n: u64) -> Stored
     area::copy_into(out, &bytes[..w])
 }
 
+// By rule W9.
 pub fn write_decimal(out: &mut [u8], n: u64) -> Stored
     ensures { λ r. ⌜ storedAnswer cause.OutputFull r ≡ placing cause.OutputFull (length (now (out .entry))) (decimal n) ⌝ }
     ensures { λ r. ⌜ now (out .exit) ≡ laid (now (out .entry)) (decimal n) ⌝ }

@@ -1,4 +1,4 @@
--- Text in the public listing: "`\` escapes `"`, `\`, and newline, tab, return as `\n \t \r`". Definitions only.
+-- Text in the public listing: where a backslash stands, and what newline, tab and return become (rule L8). Definitions only.
 use Prim.Native.Nat.{ℕ}
 use mathlib.Core.List.{List, [], _∷_, _++_}
 use mathlib.Core.Bool.{Bool, cond, _||_}
@@ -21,5 +21,6 @@ letter b = cond (eqb b 10) 110 (cond (eqb b 9) 116 (cond (eqb b 13) 114 b))
 unfoldable pub listed : ℕ → List ℕ
 listed b = cond (marked b) (92 ∷ letter b ∷ []) (letter b ∷ [])
 
+-- rule L8
 abbrev pub escaped : List ℕ → List ℕ
 escaped s = spelled listed s

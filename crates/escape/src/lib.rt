@@ -23,7 +23,7 @@ fn letter_of(b: u8) -> u8
     }
 }
 
-// Puts s, escaped, at the front of out.
+// Puts s, escaped, at the front of out (rule L8).
 pub fn escape_into(out: &mut [u8], s: &[u8]) -> Stored
     ensures { λ r. ⌜ storedAnswer cause.OutputFull r ≡ placing cause.OutputFull (length (now (out .entry))) (escaped (now (s .entry))) ⌝ }
     ensures { λ r. ⌜ now (out .exit) ≡ laid (now (out .entry)) (escaped (now (s .entry))) ⌝ }

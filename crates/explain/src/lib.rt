@@ -56,7 +56,7 @@ fn refuse(cause: Cause) -> Explained
     }
 }
 
-// Puts the line at the front of out, and zeros behind it; where it doesn't fit all of out becomes zero.
+// Puts the line at the front of out, and zeros behind it; where it doesn't fit all of out becomes zero (rules E1 and E5).
 pub fn explain(
     refusal: Refusal,
     events: &[u32],

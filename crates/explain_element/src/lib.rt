@@ -14,6 +14,7 @@ ghost use Rattle.explain_text.specs.Explanation.{kindNames, attributeNames, nam
 
 const ATTRIBUTE: usize = 16;
 
+// By rule E4.
 fn put_kind(out: &mut [u8], k: Stored, kind: usize) -> Stored
     ensures { λ r. ⌜ Puts (filled k (now (out .entry))) (named kindNames kind) (filled r (now (out .exit))) ⌝ }
 {
@@ -47,6 +48,7 @@ fn put_index(out: &mut [u8], k: Stored, kind: usize, index: u32) -> Stored
     k
 }
 
+// By rule E2.
 pub fn put_element(
     out: &mut [u8],
     k: Stored,

@@ -103,7 +103,7 @@ fn value_at<'a>(attributes: &[u32], source: &'a [u8], j: usize) -> &'a [u8]
     bytes_of(source, wide(word_of(words, 3)), wide(word_of(words, 4)))
 }
 
-// Puts the name of an event, if the table has it and it has one.
+// Puts the name of an event, if the table has it and it has one (rule E3).
 pub fn put_name(
     out: &mut [u8],
     k: Stored,

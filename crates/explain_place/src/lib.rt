@@ -33,6 +33,7 @@ fn put_step(
     put_element(out, mark, events, attributes, source, e)
 }
 
+// By rules E2 and E4.
 pub fn put_path(
     out: &mut [u8],
     k: Stored,
@@ -55,7 +56,7 @@ pub fn put_path(
     mark
 }
 
-// Nothing where no event is concerned.
+// Nothing where no event is concerned (rule E1).
 pub fn put_place(out: &mut [u8], k: Stored, event: u32, attribute: u32) -> Stored
     ensures { λ r. ⌜ Puts (filled k (now (out .entry))) (placeText event attribute) (filled r (now (out .exit))) ⌝ }
 {

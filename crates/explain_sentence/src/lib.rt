@@ -38,6 +38,7 @@ fn place_of(cause: Cause) -> usize
     }
 }
 
+// By rule E1.
 pub fn put_sentence(out: &mut [u8], k: Stored, cause: Cause) -> Stored
     ensures { λ r. ⌜ Puts (filled k (now (out .entry))) (sentence cause) (filled r (now (out .exit))) ⌝ }
 {

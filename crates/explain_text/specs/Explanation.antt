@@ -1,4 +1,5 @@
--- The line that explains a refusal: `refused 5 at testsuites/testsuite[0]("lab")/testcase[3]/@time: a time must be .. (event 12, attribute 31)`.
+-- The line that explains a refusal (rules E1 to E5):
+-- `refused 5 at testsuites/testsuite[0]("lab")/testcase[3]/@time: a time must be .. (event 12, attribute 31)`.
 -- It may hold private text, a name. Definitions only.
 use Prim.Native.Nat.{ℕ}
 use mathlib.Core.List.{List, [], _∷_, _++_}
@@ -69,6 +70,7 @@ kindNames =
 unfoldable pub attributeNames : List (List ℕ)
 attributeNames = bytes "?" ∷ (keys ++ (bytes "stackTrace" ∷ []))
 
+-- rule E4
 abbrev pub named : List (List ℕ) → ℕ → List ℕ
 named names code = getD names code (bytes "?")
 
@@ -85,6 +87,7 @@ hasIndex kind = hasName kind || eqb kind tag.property
 unfoldable pub indexText : ℕ → ℕ → List ℕ
 indexText kind index = cond (hasIndex kind) (bytes "[" ++ (decimal index ++ bytes "]")) []
 
+-- rule E3
 abbrev pub bracketed : Option (List ℕ) → List ℕ
 bracketed none = []
 bracketed (some name) = bytes "(" ++ (quoted name ++ bytes ")")
@@ -96,6 +99,7 @@ attributeText kind index = cond (eqb kind attribute) (named attributeNames index
 abbrev pub six : List PathElement → List PathElement
 six es = getD es 0 filler ∷ getD es 1 filler ∷ getD es 2 filler ∷ getD es 3 filler ∷ getD es 4 filler ∷ getD es 5 filler ∷ []
 
+-- rule E4
 abbrev pub elementsOf : Path → List PathElement
 elementsOf p = take (p .len) (six (p .elements))
 
@@ -103,18 +107,20 @@ elementsOf p = take (p .len) (six (p .elements))
 abbrev pub attributeShown : ℕ → List ℕ
 attributeShown a = cond (eqb a nowhere) [] (bytes ", attribute " ++ decimal a)
 
+-- rule E1
 unfoldable pub placeText : ℕ → ℕ → List ℕ
 placeText event a = cond (eqb event nowhere) [] (bytes " (event " ++ (decimal event ++ (attributeShown a ++ bytes ")")))
 
 -- ---- with the table that was refused
 module _ (events attributes source : List ℕ) where
-  -- the name of an event, if the table has the event and it has a name
+  -- the name of an event, if the table has the event and it has a name (rule E3)
   unfoldable pub nameAt : ℕ → Option (List ℕ)
   nameAt i = cond (eqb i nowhere || leb (countOf events) i) none (nameOf (eventAt events attributes source i))
 
   abbrev pub nameText : ℕ → ℕ → List ℕ
   nameText kind event = cond (hasName kind) (bracketed (nameAt event)) []
 
+  -- rule E2
   unfoldable pub elementText : PathElement → List ℕ
   elementText e =
       named kindNames (e .kind) ++ (indexText (e .kind) (e .index) ++ (nameText (e .kind) (e .event) ++ attributeText (e .kind) (e .index)))
@@ -124,16 +130,17 @@ module _ (events attributes source : List ℕ) where
   elementsText mark [] = []
   elementsText mark (e ∷ es) = mark ++ (elementText e ++ elementsText (bytes "/") es)
 
+  -- rule E2
   unfoldable pub pathText : Path → List ℕ
   pathText p = elementsText (bytes " at ") (elementsOf p)
 
-  -- ---- the line
+  -- ---- the line (rule E1)
   unfoldable pub lineOf : Refusal → List ℕ
   lineOf r =
       bytes "refused "
       ++ (decimal (number (r .cause)) ++ (pathText (r .path) ++ (bytes ": " ++ (sentence (r .cause) ++ (placeText (r .event) (r .attribute) ++ bytes "\n")))))
 
-  -- how many bytes the line has, or 16: an area of n bytes is too short
+  -- how many bytes the line has, or 16: an area of n bytes is too short (rule E5)
   unfoldable pub lineAnswer : Refusal → ℕ → Answer ℕ
   lineAnswer r n = placing cause.OutputFull n (lineOf r)
 
@@ -141,6 +148,6 @@ module _ (events attributes source : List ℕ) where
   abbrev pub explained : Refusal → ℕ → Outcome ℕ
   explained r n = outcomeOf (lineAnswer r n)
 
-  -- the area afterwards: the line with zeros behind it, or zeros
+  -- the area afterwards: the line with zeros behind it, or zeros (rule E5)
   unfoldable pub explanationIn : Refusal → ℕ → List ℕ
   explanationIn r n = outputFor (lineAnswer r n) n (lineOf r)

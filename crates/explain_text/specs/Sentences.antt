@@ -5,6 +5,7 @@ use Rattle.names.specs.Bytes.{bytes}
 use Rattle.refusal.specs.declared.Cause.{Cause}
 use Rattle.refusal.specs.declared.Cause.the-variants.{XmlFault, EofInSkip, NotUtf8, BadInteger, BadTimestamp, BadTime, BadUuid, MissingAttribute, MissingReport, EofInElement, StatusRule, UnknownEntity, FaultyAttribute, RepeatedKey, BadReference, BadTable, RecordsSpent, TextFull, ScratchFull, NotLayout, OutputFull, CountLimit}
 
+-- rule E1
 unfoldable pub sentence : Cause → List ℕ
 sentence XmlFault = bytes "the XML is broken here"
 sentence EofInSkip = bytes "the report ends inside an element that is passed over"

@@ -23,6 +23,7 @@ fn behind_plus(s: &[u8]) -> &[u8]
     s
 }
 
+// By rules V1 and V2.
 pub fn integer_of(s: &[u8]) -> Integer
     ensures { λ r. ⌜ integerAnswer r ≡ integerOf (now (s .entry)) ⌝ }
 {

@@ -7,6 +7,7 @@ fn write_front(out: &[u8; 65536], n: usize) {
     io::write_all(1, front(out, n));
 }
 
+// By rule P4.
 fn main() {
     let mut input = [0u8; 196620];
     let mut out = [0u8; 65536];

@@ -21,6 +21,7 @@ fn put_run_kind(out: &mut [u8], k: Stored, run: u32) -> Stored
     put(out, k, b"\n(run error")
 }
 
+// By rule L7.
 fn put_run(out: &mut [u8], k: Stored, r: &[u32]) -> Stored
     ensures { λ m. ⌜ Puts (filled k (now (out .entry))) (runText (runListed (now (r .entry)))) (filled m (now (out .exit))) ⌝ }
 {
@@ -60,6 +61,7 @@ fn put_case_line(out: &mut [u8], k: Stored, text: &[u8], r: &[u32]) -> Stored
     list_values::put_time(out, classname, r)
 }
 
+// By rules L5 and L7.
 pub fn put_case(out: &mut [u8], k: Stored, text: &[u8], r: &[u32], below: &[u32]) -> Stored
     ensures { λ m. ⌜ Puts (filled k (now (out .entry))) (caseShown (now (text .entry)) (now (r .entry)) (recordsIn (now (below .entry)))) (filled m (now (out .exit))) ⌝ }
 {

@@ -1,4 +1,4 @@
--- Document 01, "Public listing": the program's input. Definitions only.
+-- The program's input (rules P1 and P2). Definitions only.
 use Prim.Native.Nat.{ℕ, zero, suc, _+_, _*_, _≤_}
 use mathlib.Core.List.{List, [], _∷_}
 use mathlib.Core.Bool.{Bool, cond, _&&_}
@@ -9,7 +9,7 @@ use Rattle.area.specs.Area.{laid}
 use Rattle.list_input.specs.declared.Found.{Found}
 use Rattle.list_input.specs.declared.Found.the-variants.{Is, Not}
 
--- a little-endian word, of the four bytes at the front
+-- a little-endian word, of the four bytes at the front (rule P1)
 abbrev pub wordOf : List ℕ → ℕ
 wordOf s = getD s 0 0 + getD s 1 0 * 256 + getD s 2 0 * 65536 + getD s 3 0 * 16777216
 
@@ -24,7 +24,7 @@ pub record Table : Type 0 where
   pub attributes : List ℕ
   pub source : List ℕ
 
--- "three little-endian words, the numbers of events, attributes and source bytes"
+-- the three words at the front: how many events, attributes and source bytes (rule P1)
 abbrev pub eventsIn : List ℕ → ℕ
 eventsIn s = wordOf s
 
@@ -41,13 +41,13 @@ attributesAt s = 12 + eventsIn s * 20
 abbrev pub sourceAt : List ℕ → ℕ
 sourceAt s = attributesAt s + attributesIn s * 20
 
--- "input that is cut off or fills more than one buffer for events, attributes or source": a buffer has 65,536 bytes, and the
--- words of events and attributes go to areas of m and n words
+-- nothing is cut off, and each of the three fits its buffer (rule P2): that of the source has 65,536 bytes, and the words of
+-- events and attributes go to areas of m and n words
 unfoldable pub whole : ℕ → ℕ → List ℕ → Bool
 whole m n s =
     leb 12 (length s) && (leb (eventsIn s * 5) m && (leb (attributesIn s * 5) n && (leb (sourceIn s) 65536 && leb (sourceAt s + sourceIn s) (length s))))
 
--- "then the three; more is ignored"
+-- what stands behind the three words; anything further is ignored (rule P1)
 unfoldable pub inputOf : ℕ → ℕ → List ℕ → Option Table
 inputOf m n s =
     cond (whole m n s)

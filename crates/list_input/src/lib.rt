@@ -48,7 +48,7 @@ fn byte_at(s: &[u8], i: usize) -> u8
     0
 }
 
-// The little-endian word that s begins with.
+// The little-endian word that s begins with (rule P1).
 fn word_of(s: &[u8]) -> u32
     ensures { λ r. ⌜ r ≡ wordOf (now (s .entry)) ⌝ }
 {
@@ -100,7 +100,7 @@ fn fill_front(area: &mut [u32], n: usize, s: &[u8], at: usize)
     fill_words(&mut area[..n], &s[at..]);
 }
 
-// Whether the numbers are those of an input of that length, with areas of m and k words.
+// Whether the numbers are those of an input of that length, with areas of m and k words (rule P2).
 fn is_whole(n: Numbers, m: usize, k: usize, size: usize) -> bool
     requires { ⌜ (n .events < 4294967296) × (n .attributes < 4294967296) × (n .source < 4294967296) ⌝ }
     ensures { λ r. ⌜ r ≡ (leb (n .events * 5) m && (leb (n .attributes * 5) k && (leb (n .source) 65536 && leb (12 + n .events * 20 + n .attributes * 20 + n .source) size))) ⌝ }
@@ -110,8 +110,8 @@ fn is_whole(n: Numbers, m: usize, k: usize, size: usize) -> bool
             & ((n.source <= BUFFER) & (12 + n.events * 20 + n.attributes * 20 + n.source <= size)))
 }
 
-// Puts the words of the table that s begins with at the front of the two areas. "Input that is cut off or fills more than one
-// buffer for events, attributes or source" is no table, and leaves the areas as they are.
+// Puts the words of the table that s begins with at the front of the two areas (rule P1). An input that is cut off or too large
+// (rule P2) is no table, and leaves the areas as they are.
 pub fn input_of(s: &[u8], events: &mut [u32], attributes: &mut [u32]) -> Found
     ensures { λ r. ⌜ r ≡ partsIn (length (now (events .entry))) (length (now (attributes .entry))) (now (s .entry)) ⌝ }
     ensures { λ _. ⌜ now (events .exit) ≡ eventsLeft (inputOf (length (now (events .entry))) (length (now (attributes .entry))) (now (s .entry))) (now (events .entry)) ⌝ }

@@ -1,4 +1,4 @@
--- Document 01, "Public listing": what is printed for an input, and what the lent areas hold afterwards. Definitions only.
+-- What is printed for an input, and what the lent areas hold afterwards (rules P2 to P4). Definitions only.
 use Prim.Native.Nat.{ℕ}
 use mathlib.Core.List.{List}
 use mathlib.Core.Option.{Option, none, some}
@@ -18,7 +18,7 @@ pub record Buffers : Type 0 where
 abbrev pub lent : (records text scratch out : List ℕ) → Buffers
 lent records text scratch out = record { records = length records; text = length text; scratch = length scratch; out = length out }
 
--- the public listing of a table; "Any refusal prints `(refused)`, and so does input that is cut off or fills more than one buffer"
+-- the public listing of a table (rule L3); an input that is no table gets `(refused)`, too (rule P2)
 abbrev pub listingFor : Buffers → Option Table → List ℕ
 listingFor b none = refusedText
 listingFor b (some t) = publicListing (t .events) (t .attributes) (t .source) (b .records) (b .text) (b .scratch) (b .out)
@@ -27,10 +27,11 @@ listingFor b (some t) = publicListing (t .events) (t .attributes) (t .source) (b
 unfoldable pub printed : (m n : ℕ) → Buffers → List ℕ → List ℕ
 printed m n b input = listingFor b (inputOf m n input)
 
--- "The program's areas are a buffer each": 65,536 bytes or 16,384 words
+-- a buffer each: 65,536 bytes or 16,384 words (rule P3)
 abbrev pub buffers : Buffers
 buffers = record { records = 16384; text = 65536; scratch = 65536; out = 65536 }
 
+-- rule P4
 abbrev pub programPrints : List ℕ → List ℕ
 programPrints input = printed 16384 16384 buffers input
 

@@ -103,8 +103,8 @@ pub fn print_listing(
     k
 }
 
-// What the program prints for the n bytes that it read: its buffers are here, so that their sizes are in the promise. Its input has
-// room for three words, and a buffer each for events, attributes and source; "more is ignored".
+// What the program prints for the n bytes that it read (rules P3 and P4): its buffers are here, so that their sizes are in the
+// promise. Its input has room for three words, and a buffer each for events, attributes and source; what follows is ignored.
 pub fn print_input(input: &[u8; 196620], n: usize, out: &mut [u8; 65536]) -> usize
     ensures out { λ _. ⌜ now (out .exit) ≡ laid (zeros 65536) (programPrints (take n (now (input .entry)))) ⌝ }
     ensures count { λ r. ⌜ r ≡ min 65536 (length (programPrints (take n (now (input .entry))))) ⌝ }

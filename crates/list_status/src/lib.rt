@@ -28,6 +28,7 @@ fn is_flaky(s: Summary) -> bool
     s.run <= kind::FLAKY_ERROR
 }
 
+// By rule S10.
 fn runs_of(s: Summary) -> usize
     ensures { λ r. ⌜ r ≡ runsBy s ⌝ }
 {
@@ -48,6 +49,7 @@ fn put_main(out: &mut [u8], k: Stored, s: Summary) -> Stored
     }
 }
 
+// By rule S11.
 fn put_kind(out: &mut [u8], k: Stored, s: Summary) -> Stored
     ensures { λ r. ⌜ Puts (filled k (now (out .entry))) (32 ∷ kindWord (kindBy s)) (filled r (now (out .exit))) ⌝ }
 {
@@ -60,7 +62,7 @@ fn put_kind(out: &mut [u8], k: Stored, s: Summary) -> Stored
     put(out, k, b" rerun")
 }
 
-// Status, kind of the runs, and their number.
+// Status, kind of the runs, and their number (rule S10).
 pub fn put_status(out: &mut [u8], k: Stored, s: Summary) -> Stored
     ensures { λ r. ⌜ Puts (filled k (now (out .entry))) (fields (statusWord (statusBy s) ∷ kindWord (kindBy s) ∷ decimal (runsBy s) ∷ [])) (filled r (now (out .exit))) ⌝ }
 {

@@ -31,6 +31,7 @@ fn put_cases(out: &mut [u8], k: Stored, text: &[u8], words: &[u32]) -> Stored
     mark
 }
 
+// By rule L6.
 fn put_suite(out: &mut [u8], k: Stored, text: &[u8], r: &[u32], below: &[u32]) -> Stored
     ensures { λ m. ⌜ Puts (filled k (now (out .entry))) (suiteShown (now (text .entry)) (now (r .entry)) (recordsIn (now (below .entry)))) (filled m (now (out .exit))) ⌝ }
 {

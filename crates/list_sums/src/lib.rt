@@ -67,7 +67,7 @@ fn with_record(s: Summary, r: &[u32]) -> Summary
     s
 }
 
-// Of the case that stands before these words.
+// Of the case that stands before these words (rule S11).
 pub fn sum_up(words: &[u32]) -> Summary
     ensures { λ s. ⌜ s ≡ summary (recordsIn (now (words .entry))) ⌝ }
 {

@@ -1,4 +1,4 @@
--- Document 01, "Public listing": what is shown of a report, and its text. Definitions only.
+-- The public listing: what is shown of a report, and its text (rules L6 to L12). Definitions only.
 use Prim.Native.Nat.{ℕ}
 use mathlib.Core.List.{List, [], _∷_, _++_, map}
 use mathlib.Core.Bool.{cond}
@@ -23,12 +23,12 @@ pub data Status : Type 0 where
 pub data RunKind : Type 0 where
   noKind flakyKind rerunKind : RunKind
 
--- "Run: kind, time."
+-- rule L7
 pub record PublicRun : Type 0 where
   pub kind : NonSuccessKind
   pub time : Option Duration
 
--- "Case: name, classname, time, status, run kind (`none` for skipped), runs."
+-- rule L7; `kind` is that of the runs
 pub record PublicCase : Type 0 where
   pub name : Text
   pub classname : Option Text
@@ -37,7 +37,7 @@ pub record PublicCase : Type 0 where
   pub kind : RunKind
   pub runs : List PublicRun
 
--- "Report and suite: name, tests, failures, errors, skipped, disabled."
+-- rule L6, and so for the report
 pub record PublicSuite : Type 0 where
   pub name : Text
   pub counts : Counts
@@ -64,7 +64,7 @@ statusShown (success runs) = isSuccess
 statusShown (nonSuccess k reason f runs) = statusOfKind k
 statusShown (skipped reason) = isSkipped
 
--- "success with its flaky runs"; "`none` for skipped"
+-- a success has flaky runs, skipped has none (rule L7)
 abbrev pub runKindShown : TestCaseStatus → RunKind
 runKindShown (success runs) = flakyKind
 runKindShown (nonSuccess k reason f runs) = kindShown f
@@ -86,24 +86,25 @@ abbrev pub publicPart : Report → PublicReport
 publicPart r = record { name = r .name; counts = r .counts; suites = map publicSuite (r .suites) }
 
 -- ---- its text
--- "`\` escapes": a text in quotes
+-- rule L8
 abbrev pub quoted : Text → List ℕ
 quoted s = 34 ∷ (escaped s ++ (34 ∷ []))
 
--- "`-` is missing"
+-- rule L8
 abbrev pub orDash : {A : Type 0} → (A → List ℕ) → Option A → List ℕ
 orDash f none = bytes "-"
 orDash f (some a) = f a
 
--- "Times are as in Writing."
+-- as writing has it (rules L9 and W10)
 abbrev pub timed : Duration → List ℕ
 timed d = writtenTime (d .seconds) (d .nanos)
 
--- "One space parts fields": each field has one before it
+-- each with one space before it (rule L10)
 abbrev pub fields : List (List ℕ) → List ℕ
 fields [] = []
 fields (f ∷ fs) = 32 ∷ (f ++ fields fs)
 
+-- rules L6 and L9
 abbrev pub countFields : Counts → List (List ℕ)
 countFields c = decimal (c .tests) ∷ decimal (c .failures) ∷ decimal (c .errors) ∷ decimal (c .skipped) ∷ orDash decimal (c .disabled) ∷ []
 
@@ -122,10 +123,11 @@ abbrev pub runWord : NonSuccessKind → List ℕ
 runWord failure = bytes "failure"
 runWord error = bytes "error"
 
--- "suite, case and run start a line, brackets close without one"
+-- on the line that is there; only suites, cases and runs begin one (rule L10)
 abbrev pub close : List ℕ
 close = bytes ")"
 
+-- rule L7
 unfoldable pub runText : PublicRun → List ℕ
 runText r = 10 ∷ (bytes "(run" ++ (fields (runWord (r .kind) ∷ orDash timed (r .time) ∷ []) ++ close))
 
@@ -133,6 +135,7 @@ abbrev pub runTexts : List PublicRun → List ℕ
 runTexts [] = []
 runTexts (r ∷ rs) = runText r ++ runTexts rs
 
+-- rule L7
 abbrev pub caseFields : PublicCase → List (List ℕ)
 caseFields c =
     quoted (c .name)
@@ -150,6 +153,7 @@ abbrev pub caseTexts : List PublicCase → List ℕ
 caseTexts [] = []
 caseTexts (c ∷ cs) = caseText c ++ caseTexts cs
 
+-- rule L6
 unfoldable pub suiteText : PublicSuite → List ℕ
 suiteText s = 10 ∷ (bytes "(suite" ++ (fields (quoted (s .name) ∷ countFields (s .counts)) ++ (caseTexts (s .cases) ++ close)))
 
@@ -157,15 +161,15 @@ abbrev pub suiteTexts : List PublicSuite → List ℕ
 suiteTexts [] = []
 suiteTexts (s ∷ ss) = suiteText s ++ suiteTexts ss
 
--- the report's own line
+-- the report's own line (rule L6)
 unfoldable pub header : Option Text → Counts → List ℕ
 header name counts = bytes "(report" ++ fields (orDash quoted name ∷ countFields counts)
 
--- "one newline ends the output"
+-- with the newline that ends the listing (rule L10)
 abbrev pub ending : List ℕ
 ending = close ++ (10 ∷ [])
 
--- header, the suites one behind the other, closing bracket
+-- header, the suites one behind the other, closing bracket (rule L10)
 unfoldable pub renderPublic : PublicReport → List ℕ
 renderPublic r = header (r .name) (r .counts) ++ (suiteTexts (r .suites) ++ ending)
 
@@ -181,11 +185,11 @@ renderedOr (some r) = render r
 unfoldable pub listingOf : List ℕ → List ℕ → List ℕ
 listingOf words text = renderedOr (reportOf words text)
 
--- 15: not a layout, then 16: output area too short of n bytes; the final newline counts
+-- 15: not a layout, then 16: output area too short of n bytes; the final newline counts (rule L11)
 unfoldable pub listingAnswer : List ℕ → List ℕ → ℕ → Answer ℕ
 listingAnswer words text n = cond (layout words text) (placing cause.OutputFull n (listingOf words text)) (refuses cause.NotLayout)
 
--- the same with all that a refusal carries: "all from 15 on an empty one", no event and no attribute
+-- the same with all that a refusal carries: an empty path, no event and no attribute (rule F11)
 abbrev pub outcomeOf : Answer ℕ → Outcome ℕ
 outcomeOf (gives k) = accepted k
 outcomeOf (refuses c) = refused (late c)
@@ -193,10 +197,11 @@ outcomeOf (refuses c) = refused (late c)
 abbrev pub listed : List ℕ → List ℕ → ℕ → Outcome ℕ
 listed words text n = outcomeOf (listingAnswer words text n)
 
--- the output area afterwards: the listing with zeros behind it; "Result areas [..] become zero" at a refusal
+-- the output area afterwards: the listing with zeros behind it, or zeros throughout at a refusal (rule F13)
 abbrev pub outputFor : Answer ℕ → ℕ → List ℕ → List ℕ
 outputFor (gives k) n f = laid (zeros n) f
 outputFor (refuses k) n f = zeros n
 
+-- rule L12
 unfoldable pub outputOf : List ℕ → List ℕ → ℕ → List ℕ
 outputOf words text n = outputFor (listingAnswer words text n) n (listingOf words text)

@@ -47,6 +47,7 @@ pub fn put_escaped(out: &mut [u8], k: Stored, s: &[u8]) -> Stored
     Stored::Put(used + n)
 }
 
+// By rule L9.
 pub fn put_decimal(out: &mut [u8], k: Stored, n: u64) -> Stored
     ensures { λ r. ⌜ Puts (filled k (now (out .entry))) (decimal n) (filled r (now (out .exit))) ⌝ }
 {
@@ -61,6 +62,7 @@ pub fn put_decimal(out: &mut [u8], k: Stored, n: u64) -> Stored
     Stored::Put(used + more)
 }
 
+// By rule L9.
 pub fn put_time(out: &mut [u8], k: Stored, secs: u32, nanos: u32) -> Stored
     ensures { λ r. ⌜ Puts (filled k (now (out .entry))) (writtenTime secs nanos) (filled r (now (out .exit))) ⌝ }
 {

@@ -34,7 +34,7 @@ fn put_quoted(out: &mut [u8], k: Stored, s: &[u8]) -> Stored
     put(out, shown, b"\"")
 }
 
-// The name of a suite or case.
+// The name of a suite or case (rule L8).
 pub fn put_name(out: &mut [u8], k: Stored, text: &[u8], r: &[u32]) -> Stored
     ensures { λ s. ⌜ Puts (filled k (now (out .entry))) (32 ∷ quoted (tree.textAt (now (text .entry)) (now (r .entry)) word.name)) (filled s (now (out .exit))) ⌝ }
 {

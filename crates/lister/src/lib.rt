@@ -29,6 +29,7 @@ pub struct Listing {
     pub refusal: Refusal,
 }
 
+// By rule L10.
 fn put_whole(out: &mut [u8], text: &[u8], r: &[u32], below: &[u32]) -> Stored
     ensures { λ m. ⌜ Puts (filled (Put 0) (now (out .entry))) (wholeShown (now (text .entry)) (now (r .entry)) (recordsIn (now (below .entry)))) (filled m (now (out .exit))) ⌝ }
 {
@@ -39,7 +40,7 @@ fn put_whole(out: &mut [u8], text: &[u8], r: &[u32], below: &[u32]) -> Stored
     put(out, suites, b")\n")
 }
 
-// The report is the first live record; there is one in every layout.
+// By rule L6. The report is the first live record; there is one in every layout.
 fn put_report(out: &mut [u8], text: &[u8], words: &[u32]) -> Stored
     ensures { λ m. ⌜ Puts (filled (Put 0) (now (out .entry))) (reportShown (now (text .entry)) (recordsIn (now (words .entry)))) (filled m (now (out .exit))) ⌝ }
 {
@@ -55,6 +56,7 @@ fn put_report(out: &mut [u8], text: &[u8], words: &[u32]) -> Stored
     Stored::Put(0)
 }
 
+// By rule F13.
 fn refuse(cause: Cause) -> Listing
     ensures { λ r. ⌜ r ≡ listingFrom (refused (late cause)) ⌝ }
 {
@@ -65,7 +67,7 @@ fn refuse(cause: Cause) -> Listing
     }
 }
 
-// Puts the listing at the front of out, and zeros behind it; at a refusal all of out becomes zero.
+// Puts the listing (rule L5) at the front of out, and zeros behind it; at a refusal all of out becomes zero (rules L11 and L12).
 pub fn list(records: &[u32], text: &[u8], out: &mut [u8]) -> Listing
     ensures { λ r. ⌜ r ≡ listingFrom (listed (now (records .entry)) (now (text .entry)) (length (now (out .entry)))) ⌝ }
     ensures { λ r. ⌜ now (out .exit) ≡ outputOf (now (records .entry)) (now (text .entry)) (length (now (out .entry))) ⌝ }

@@ -59,8 +59,7 @@ pub record Row : Type 0 where
 abbrev pub row : String → ℕ → Bool → Row
 row text code public = record { text = bytes text; code = code; public = public }
 
--- "Public keys: name, classname, uuid, timestamp, time, tests, failures, errors, skipped, disabled, assertions",
--- then the other keys of deserialize.rs. A code is the place in the table, from 1
+-- the public keys up to assertions (rule L1), then the other keys of deserialize.rs. A code is the place in the table, from 1
 abbrev pub table : List Row
 table =
     row "name" name true
@@ -82,7 +81,7 @@ table =
 unfoldable pub keys : List (List ℕ)
 keys = map (λ (r : Row). r .text) table
 
--- the code of a key, 0 for one that reading doesn't know
+-- the code of a key, 0 for one that reading doesn't know (rule A4)
 abbrev pub keyOf : List ℕ → ℕ
 keyOf s = codeIn keys s
 
@@ -91,6 +90,6 @@ abbrev pub publicIn : List Row → ℕ → Bool
 publicIn [] c = false
 publicIn (r ∷ rs) c = cond (eqb (r .code) c) (r .public) (publicIn rs c)
 
--- whether a code is that of a public key
+-- whether a code is that of a public key (rule L1)
 abbrev pub isPublic : ℕ → Bool
 isPublic c = publicIn table c

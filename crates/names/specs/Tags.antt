@@ -4,7 +4,7 @@ use mathlib.Core.List.{List, [], _∷_}
 use Rattle.names.specs.Bytes.{bytes}
 use Rattle.names.specs.Names.{codeIn}
 
--- the tags of serialize.rs; from failure to rerunError stand the seven status names
+-- the tags of serialize.rs (rule R2); from failure to rerunError stand the seven status names (rule S1)
 unfoldable pub tags : List (List ℕ)
 tags =
     bytes "testsuites"
@@ -24,7 +24,7 @@ tags =
     ∷ bytes "system-err"
     ∷ []
 
--- the code of a tag name, 0 for one that reports don't have
+-- the code of a tag name, 0 for one that reports don't have (rule R2)
 abbrev pub tagOf : List ℕ → ℕ
 tagOf s = codeIn tags s
 

@@ -43,6 +43,7 @@ pub fn code_in(names: &[u8], lengths: &[u8], s: &[u8]) -> usize
     0
 }
 
+// By rule R2.
 pub fn tag_of(name: &[u8]) -> usize
     ensures { λ r. ⌜ r ≡ tagOf (now (name .entry)) ⌝ }
 {
@@ -53,6 +54,7 @@ pub fn tag_of(name: &[u8]) -> usize
     )
 }
 
+// By rule A4.
 pub fn key_of(key: &[u8]) -> usize
     ensures { λ r. ⌜ r ≡ keyOf (now (key .entry)) ⌝ }
 {

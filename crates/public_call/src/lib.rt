@@ -12,7 +12,7 @@ ghost use Rattle.area.specs.Area.{zeros, laid};
 ghost use Rattle.public_claims.specs.PublicListing.{refusedText};
 ghost use Rattle.public_call.specs.Called.{listedInto, readInto, listingInto};
 
-// "Any refusal prints `(refused)`"; of a shorter area the part that fits.
+// Puts `(refused)`; of a shorter area the part that fits (rule L12).
 pub fn refuse(out: &mut [u8]) -> usize
     ensures area { λ _. ⌜ now (out .exit) ≡ laid (zeros (length (now (out .entry)))) refusedText ⌝ }
     ensures count { λ r. ⌜ r ≡ min (length (now (out .entry))) (length refusedText) ⌝ }
@@ -38,7 +38,7 @@ fn put_listing(records: &[u32], text: &[u8], out: &mut [u8]) -> usize
     }
 }
 
-// The public listing of a table, at the front of `out`, whose other bytes become zero: how many bytes of `out` it takes.
+// The public listing of a table, at the front of `out`, whose other bytes become zero: how many bytes of `out` it takes (rules L3 and L4).
 pub fn public_listing(
     events: &[u32],
     attributes: &[u32],

@@ -1,6 +1,5 @@
--- Document 01: "Proved cases: the listing above; the nine examples of rows 2–10; `+5` is 5; `8388607.999999999` read exactly; flaky
--- alone is success; an output U+0001, space, `a` keeps its space"; cases of requests 3 and 5; and cases of writing. What is expected is written down, not
--- computed.
+-- Cases that are proved: the worked listing, an example of each refusal from 2 to 10, of 20 and 21, values at their limits, statuses,
+-- outputs, references in texts, tables that agree; and cases of writing. What is expected is written down, not computed.
 -- Definitions only.
 use Prim.Native.Nat.{ℕ}
 use Prim.Native.String.{String}
@@ -92,7 +91,7 @@ system-out = record { kind = 14; index = nowhere; event = nowhere }
 abbrev pub attribute : ℕ → PathElement
 attribute k = record { kind = 16; index = k; event = nowhere }
 
--- ---- "the listing above"
+-- ---- the worked listing (rules L6 to L10)
 abbrev pub workedDocument : List Markup
 workedDocument =
     start "testsuites" ("name" ≔ "r" ∷ "tests" ≔ "2" ∷ [])
@@ -115,8 +114,8 @@ worked =
     ∷ "(run failure -))))"
     ∷ [])))
 
--- ---- "the nine examples of rows 2–10"
--- 2, "name FF": testsuites/testsuite[0]/@name
+-- ---- an example of each refusal from 2 to 10
+-- 2, a name FF (rule X2): testsuites/testsuite[0]/@name
 abbrev pub notUtf8 : Case
 notUtf8 =
     document (start "testsuites" []
@@ -125,7 +124,7 @@ notUtf8 =
     ∷ [])
     (refuses 2 cause.NotUtf8 (testsuites ∷ testsuite 0 nowhere ∷ attribute 1 ∷ []) 1 0)
 
--- 3, "tests `-0`": testsuites/@tests
+-- 3, tests `-0` (rule V2): testsuites/@tests
 abbrev pub badInteger : Case
 badInteger =
     document (empty "testsuites" ("tests" ≔ "-0" ∷ []) ∷ [])
@@ -169,11 +168,11 @@ missingName =
     ∷ [])
     (refuses 7 cause.MissingAttribute (testsuites ∷ testsuite 0 1 ∷ testcase 0 nowhere ∷ attribute 1 ∷ []) 2 nowhere)
 
--- 8, "no events": not even an Eof
+-- 8, no events (rule R9): not even an Eof
 abbrev pub noEvents : Case
 noEvents = table [] [] [] (refuses 8 cause.MissingReport [] 0 nowhere)
 
--- 9, "`a` twice": testsuites/testsuite[0]("s")/testcase[0], no Attribute
+-- 9, `a` twice (rule A3): testsuites/testsuite[0]("s")/testcase[0], no Attribute
 abbrev pub twice : Case
 twice =
     document (start "testsuites" []
@@ -184,19 +183,19 @@ twice =
     ∷ [])
     (refuses 9 cause.RepeatedKey (testsuites ∷ testsuite 0 1 ∷ testcase 0 nowhere ∷ []) 2 3)
 
--- 10, "name `&x;`": testsuites/@name
+-- 10, a name `&x;` (rule X5): testsuites/@name
 abbrev pub badReference : Case
 badReference =
     document (empty "testsuites" ("name" ≔ "&x;" ∷ []) ∷ [])
     (refuses 10 cause.BadReference (testsuites ∷ attribute 1 ∷ []) 0 0)
 
--- ---- "`+5` is 5"
+-- ---- a count with a sign (rule V2)
 abbrev pub plusFive : Case
 plusFive =
     document (empty "testsuites" ("tests" ≔ "+5" ∷ []) ∷ [])
     (lists (lines ("(report - 5 0 0 0 -)" ∷ [])))
 
--- ---- "`8388607.999999999` read exactly"
+-- ---- the last time, to the nanosecond (rule V4)
 abbrev pub exact : Case
 exact =
     document (empty "testsuites" ("time" ≔ "8388607.999999999" ∷ []) ∷ [])
@@ -209,7 +208,7 @@ exact =
       suites = [];
     }))
 
--- ---- "flaky alone is success"
+-- ---- a success with a flaky run (rule S10)
 abbrev pub flakyAlone : Case
 flakyAlone =
     document (start "testsuites" []
@@ -226,7 +225,7 @@ flakyAlone =
     ∷ "(run failure -))))"
     ∷ [])))
 
--- ---- "an output U+0001, space, `a` keeps its space"
+-- ---- white space behind a filtered character stays (rule X10)
 abbrev pub spaceKept : TestSuite
 spaceKept =
     record {
@@ -253,7 +252,7 @@ output =
     ∷ [])
     (reads (ofSuites (spaceKept ∷ [])))
 
--- ---- request 5: "Keep 8 for a missing report and for Eof inside an element. 20 when the status rule refuses; 21 where a Ref event gave 8"
+-- ---- 20 and 21, and what remains 8: no report, and the table's end inside an element (rules S6 to S9, X7, R9 and R18)
 -- a case with these status elements
 abbrev pub withStatuses : List Markup → List Markup
 withStatuses ms =
@@ -266,19 +265,19 @@ withStatuses ms =
 abbrev pub muddled : ℕ → Expected
 muddled e = refuses 20 cause.StatusRule (testsuites ∷ testsuite 0 1 ∷ testcase 0 2 ∷ []) e nowhere
 
--- "two of the mains"
+-- rule S6
 abbrev pub twoMains : Case
 twoMains = document (withStatuses (empty "failure" [] ∷ empty "error" [] ∷ [])) (muddled 5)
 
--- "reruns alone"
+-- rule S7
 abbrev pub rerunsAlone : Case
 rerunsAlone = document (withStatuses (empty "rerunFailure" [] ∷ [])) (muddled 4)
 
--- "`skipped` with a flaky or rerun"
+-- rule S8
 abbrev pub skippedFlaky : Case
 skippedFlaky = document (withStatuses (empty "skipped" [] ∷ empty "flakyError" [] ∷ [])) (muddled 5)
 
--- "flaky and rerun together"
+-- rule S9
 abbrev pub flakyAndRerun : Case
 flakyAndRerun = document (withStatuses (empty "failure" [] ∷ empty "flakyFailure" [] ∷ empty "rerunFailure" [] ∷ [])) (muddled 6)
 
@@ -309,7 +308,7 @@ cutOff =
     ∷ [])
     (refuses 8 cause.EofInElement (testsuites ∷ testsuite 0 1 ∷ testcase 0 2 ∷ []) 4 nowhere)
 
--- ---- request 3: "a Ref event whose name begins with `#` is read as in an attribute value"
+-- ---- numbers in a Ref (rule X6)
 abbrev pub numbered : List Markup → Expected → Case
 numbered ms e =
     document (start "testsuites" []
@@ -334,7 +333,7 @@ twoAccents =
       extra = [];
     }
 
--- "A bad number is 10 instead of 8"
+-- a bad number is 10, and not 21 (rule X6)
 abbrev pub references : List Case
 references =
     numbered (ref "#233" ∷ ref "#xe9" ∷ []) (reads (ofSuites (twoAccents ∷ [])))
@@ -342,7 +341,7 @@ references =
     ∷ numbered (ref "#" ∷ []) (refuses 10 cause.BadReference (testsuites ∷ testsuite 0 1 ∷ system-out ∷ []) 3 nowhere)
     ∷ []
 
--- ---- "Two tables agree if, after the removals, they have equally many events, with the same kinds, tag names and attributes in order"
+-- ---- two tables that agree (rule L2)
 -- the other table has Text, CData, Ref, Other and Indent, another message, and all else at other places of its source
 abbrev pub agreeing : Case
 agreeing =

@@ -1,5 +1,5 @@
--- A document by its tags, and the table that "The table handed in" makes of it: the source is the document's text, and words say where
--- in it names, keys, values and texts stand. Definitions only.
+-- A document by its tags, and its table (rules T1 to T4): the source is the document's text, and words say where in it names, keys,
+-- values and texts stand. Definitions only.
 use Prim.Native.Nat.{ℕ, _+_}
 use Prim.Native.String.{String}
 use mathlib.Core.List.{List, [], _∷_, _++_}
@@ -61,9 +61,7 @@ abbrev pub first : ℕ → List Named → ℕ
 first j [] = 0
 first j (x ∷ xs) = j
 
--- "An event is five words: kind, start and length in the source, first attribute, attribute count. Kinds: 0 Start, 1 Empty, 2 End (the
--- bytes are the tag name), 3 Text, 4 CData, 5 Ref (the name between `&` and `;`), 6 Other [..] 9 Indent"; the text of the tag begins at
--- place p of the source, j attributes come before it
+-- five words (rules T1 and T3); the text of the tag begins at place p of the source, j attributes come before it
 abbrev pub event : ℕ → ℕ → Markup → List ℕ
 event p j (start n xs) = 0 ∷ (p + 1) ∷ size n ∷ first j xs ∷ length xs ∷ []
 event p j (empty n xs) = 1 ∷ (p + 1) ∷ size n ∷ first j xs ∷ length xs ∷ []
@@ -83,8 +81,7 @@ abbrev pub eventsOf : List Markup → List ℕ
 eventsOf ms = eventsFrom 0 0 ms
 
 -- ---- attributes
--- "An attribute is five words: mark (0 good, 1 faulty), key start, key length, value start, value length."; the text of the first
--- begins, with its space, at place p of the source
+-- five words each (rule T2); the text of the first begins, with its space, at place p of the source
 abbrev pub namedFrom : ℕ → List Named → List ℕ
 namedFrom p [] = []
 namedFrom p (x ∷ xs) = 0 ∷ (p + 1) ∷ length (x .key) ∷ (p + length (x .key) + 3) ∷ length (x .value) ∷ namedFrom (p + length (namedText x)) xs

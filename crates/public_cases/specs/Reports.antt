@@ -1,4 +1,4 @@
--- Reports, and the events that each is written as, by document 01, "Writing", and serialize.rs: written down, not computed.
+-- Reports, and the events that each is written as (rules W1 to W10), as serialize.rs has them: written down, not computed.
 -- Definitions only.
 use Prim.Native.Nat.{ℕ}
 use Prim.Native.String.{String}
@@ -73,7 +73,7 @@ ofCases cs =
       extra = [];
     }
 
--- ---- the worked report of document 01
+-- ---- the report of the worked listing
 abbrev pub workedEvents : List Event
 workedEvents =
     declares
@@ -92,7 +92,7 @@ workedEvents =
     ∷ []
 
 -- ---- a report with every field
--- "Timestamps truncate to three digits"
+-- of its nanoseconds three digits are written (rule W9)
 abbrev pub reportMoment : Moment
 reportMoment = record { year = 2023; month = 2; day = 28; hour = 23; minute = 59; second = 58; nanos = 123456789; offset = 1109 }
 
@@ -136,7 +136,7 @@ secondRun =
       description = some (bytes "ed");
     }
 
--- "ties to the even digit": 187.5 thousandths are written as 188, 62.5 as 62
+-- of two equally near the even one (rule W10): 187.5 thousandths are written as 188, 62.5 as 62
 abbrev pub fullCase : TestCase
 fullCase =
     record {

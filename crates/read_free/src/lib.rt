@@ -70,8 +70,8 @@ fn free_by_chains(
     found
 }
 
-// A number up to which no two attributes from number `first` on have the same key: that of the first whose key an earlier one
-// has, or `end`; or `first`, where nothing was looked for. The words lent are zero, and are so again afterwards.
+// A number up to which no two attributes from number `first` on have the same key (rule A3): that of the first whose key an earlier
+// one has, or `end`; or `first`, where nothing was looked for. The words lent are zero, and are so again afterwards.
 pub fn free_to(
     attributes: &[u32],
     source: &[u8],

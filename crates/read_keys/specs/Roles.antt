@@ -10,7 +10,7 @@ use Rattle.tree_record.specs.Kinds as kind
 use Rattle.read_keys.specs.declared.Role.{Role}
 use Rattle.read_keys.specs.declared.Role.the-variants.{Text, Count, Number, Uuid, Timestamp, Time, Extra, Ignored}
 
--- the role under a key's code in a list of codes with their roles; `other` is the role of all further keys
+-- the role under a key's code in a list of codes with their roles; `other` is the role of all further keys (rule A7)
 unfoldable pub roleIn : List (ℕ × Role) → Role → ℕ → Role
 roleIn [] other k = other
 roleIn (x ∷ xs) other k = cond (eqb k (x .0)) (x .1) (roleIn xs other k)
@@ -25,7 +25,7 @@ countKeys =
     ∷ (key.disabled, Number word.disabled bit.disabled)
     ∷ []
 
--- unknown attributes are ignored
+-- rule A5; any other key is passed over (rule A7)
 abbrev pub reportKeys : List (ℕ × Role)
 reportKeys =
     (key.name, Text word.name bit.name)
@@ -37,7 +37,7 @@ reportKeys =
 unfoldable pub reportRole : ℕ → Role
 reportRole = roleIn reportKeys Ignored
 
--- unknown attributes are extras, as on a case
+-- rule A5; any other key is an extra, as on a case (rule A7)
 abbrev pub suiteKeys : List (ℕ × Role)
 suiteKeys =
     (key.name, Text word.name bit.name)
@@ -45,9 +45,11 @@ suiteKeys =
     ∷ (key.time, Time true)
     ∷ countKeys
 
+-- rule A7
 unfoldable pub suiteRole : ℕ → Role
 suiteRole = roleIn suiteKeys Extra
 
+-- rule A5
 abbrev pub caseKeys : List (ℕ × Role)
 caseKeys =
     (key.name, Text word.name bit.name)
@@ -57,16 +59,18 @@ caseKeys =
     ∷ (key.assertions, Number word.assertions bit.assertions)
     ∷ []
 
+-- rule A7
 unfoldable pub caseRole : ℕ → Role
 caseRole = roleIn caseKeys Extra
 
+-- rule A6
 abbrev pub propertyKeys : List (ℕ × Role)
 propertyKeys = (key.name, Text word.name bit.name) ∷ (key.value, Text word.value bit.value) ∷ []
 
 unfoldable pub propertyRole : ℕ → Role
 propertyRole = roleIn propertyKeys Ignored
 
--- a status element, by whether it is a run: "The main's [..] time and timestamp are dropped"
+-- a status element, by whether it is a run (rule A6): a main's time and timestamp aren't kept (rule S12)
 abbrev pub statusKeys : Bool → List (ℕ × Role)
 statusKeys run =
     (key.timestamp, Timestamp run)
@@ -78,7 +82,7 @@ statusKeys run =
 unfoldable pub statusRole : Bool → ℕ → Role
 statusRole run = roleIn (statusKeys run) Ignored
 
--- the element by its record's kind; behind the properties stand the mains, then the runs
+-- the element by its record's kind (rule A1); behind the properties stand the mains, then the runs
 unfoldable pub roleOf : ℕ → ℕ → Role
 roleOf k key =
     cond (eqb k kind.report) (reportRole key)

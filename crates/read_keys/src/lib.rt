@@ -32,6 +32,7 @@ pub enum Role {
     Ignored,
 }
 
+// By rule A5.
 fn report_role(key: usize) -> Role
     ensures { λ r. ⌜ r ≡ reportRole key ⌝ }
 {
@@ -49,6 +50,7 @@ fn report_role(key: usize) -> Role
     }
 }
 
+// By rule A5.
 fn suite_role(key: usize) -> Role
     ensures { λ r. ⌜ r ≡ suiteRole key ⌝ }
 {
@@ -65,6 +67,7 @@ fn suite_role(key: usize) -> Role
     }
 }
 
+// By rule A5.
 fn case_role(key: usize) -> Role
     ensures { λ r. ⌜ r ≡ caseRole key ⌝ }
 {
@@ -78,6 +81,7 @@ fn case_role(key: usize) -> Role
     }
 }
 
+// By rule A6.
 fn property_role(key: usize) -> Role
     ensures { λ r. ⌜ r ≡ propertyRole key ⌝ }
 {
@@ -88,7 +92,7 @@ fn property_role(key: usize) -> Role
     }
 }
 
-// A main's time and timestamp are dropped.
+// By rule A6; a main's time and timestamp are dropped (rule S12).
 fn status_role(run: bool, key: usize) -> Role
     ensures { λ r. ⌜ r ≡ statusRole run key ⌝ }
 {
@@ -101,7 +105,7 @@ fn status_role(run: bool, key: usize) -> Role
     }
 }
 
-// The element by its record's kind; behind the properties stand the mains, then the runs.
+// By rule A7, and the element by its record's kind; behind the properties stand the mains, then the runs.
 pub fn role_of(k: u32, key: usize) -> Role
     ensures { λ r. ⌜ r ≡ roleOf k key ⌝ }
 {

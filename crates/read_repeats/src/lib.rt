@@ -36,8 +36,8 @@ fn is_among(attributes: &[u32], source: &[u8], first: usize, j: usize, key: &[u8
     false
 }
 
-// Whether an attribute from number `first` to before number j has the key of the one that `words` begins with. Where the keys are
-// known to be free of repeats they are not searched again.
+// Whether an attribute from number `first` to before number j has the key of the one that `words` begins with (rule A3). Where
+// the keys are known to be free of repeats they are not searched again.
 pub fn is_repeated(
     attributes: &[u32],
     source: &[u8],

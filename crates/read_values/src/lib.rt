@@ -37,6 +37,7 @@ pub enum Took {
     Not(Cause),
 }
 
+// By rules X1 and M4.
 pub fn read_text(
     value: &[u8],
     o: usize,

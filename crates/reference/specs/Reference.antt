@@ -1,4 +1,5 @@
--- References (XML 1.0, fifth edition, sections 2.2, 4.1 and 4.6), what a value with references stands for, and what refuses a Ref event's name. Definitions only.
+-- References (XML 1.0, fifth edition, sections 2.2, 4.1 and 4.6), what a value with references stands for, and what refuses a Ref
+-- event's name (rules X3 to X7). Definitions only.
 use Prim.Native.Nat.{ℕ, zero, suc, _-_}
 use mathlib.Core.List.{List, [], _∷_, _++_}
 use mathlib.Core.Bool.{Bool, true, false, cond, _&&_, _||_, not}
@@ -19,7 +20,7 @@ use Rattle.reference.specs.declared.Ref.the-variants.{Is, Not}
 use Rattle.refusal.specs.declared.Cause.{Cause}
 use Rattle.refusal.specs.declared.Cause.the-variants as cause
 
--- section 2.2: Char ::= #x9 | #xA | #xD | [#x20-#xD7FF] | [#xE000-#xFFFD] | [#x10000-#x10FFFF]
+-- section 2.2: Char ::= #x9 | #xA | #xD | [#x20-#xD7FF] | [#xE000-#xFFFD] | [#x10000-#x10FFFF], rule X4
 unfoldable pub xmlChar : ℕ → Bool
 xmlChar c =
     eqb c 0x9 || eqb c 0xA || eqb c 0xD || (leb 0x20 c && leb c 0xD7FF) || (leb 0xE000 c && leb c 0xFFFD) || (leb 0x10000 c && leb c 0x10FFFF)
@@ -42,7 +43,7 @@ abbrev pub entityAnswer : Entity → Answer ℕ
 entityAnswer (of-entity.Is c) = gives c
 entityAnswer of-entity.Unknown = refuses cause.UnknownEntity
 
--- one of the five names
+-- one of the five names (rule X3)
 abbrev pub entityOf : List ℕ → Answer ℕ
 entityOf name = cond (isEntity name) (gives (entityChar name)) (refuses cause.UnknownEntity)
 
@@ -60,7 +61,7 @@ number name = value (base name) (digitsIn name)
 abbrev pub isNumeric : List ℕ → Bool
 isNumeric name = eqb (getD name 0 0) 0x23
 
--- a character reference names a Char (section 4.1, its well-formedness constraint), of which U+10FFFF is the last
+-- a character reference names a Char (section 4.1, its well-formedness constraint), of which U+10FFFF is the last (rule X4)
 unfoldable pub isCharRef : List ℕ → Bool
 isCharRef name = isNumeric name && (isNumber (base name) 0x10FFFF (digitsIn name) && xmlChar (number name))
 
@@ -76,12 +77,11 @@ abbrev pub namedAnswer : Named → Answer ℕ
 namedAnswer (of-name.Is c) = gives c
 namedAnswer of-name.Not = refuses cause.BadReference
 
--- "References are the five predefined ones, decimal and `#x` hexadecimal naming an XML Char", else 10
+-- one of the five names, or the number of a Char (rules X3 and X4), else 10
 abbrev pub named : List ℕ → Answer ℕ
 named name = cond (isNamed name) (gives (charOf name)) (refuses cause.BadReference)
 
--- why a Ref event's name that stands for no character is refused: "a Ref event whose name begins with `#` is read as in an
--- attribute value. A bad number is 10 instead of 8" (request 3)
+-- why a Ref's name that stands for no character is refused: a bad number is 10 (rule X6), any other name 21 (rule X7)
 abbrev pub unnamed : List ℕ → Cause
 unnamed name = cond (isNumeric name) cause.BadReference cause.UnknownEntity
 
@@ -89,7 +89,7 @@ unnamed name = cond (isNumeric name) cause.BadReference cause.UnknownEntity
 abbrev pub semicolon : List ℕ → ℕ
 semicolon s = firstAt 0x3B s
 
--- the reference behind an ampersand: its character, and how many bytes it takes there, with its semicolon
+-- the reference behind an ampersand: its character, and how many bytes it takes there, with its semicolon (rule X3)
 unfoldable pub refAt : List ℕ → Ref
 refAt s = cond (ltb (semicolon s) (length s) && isNamed (take (semicolon s) s)) (Is (charOf (take (semicolon s) s)) (suc (semicolon s))) Not
 
@@ -105,7 +105,7 @@ abbrev pub bytesOf : Ref → ℕ
 bytesOf (Is c w) = w
 bytesOf Not = 0
 
--- every ampersand of s without its first k bytes begins a reference
+-- every ampersand of s without its first k bytes begins a reference (rule X5)
 abbrev pub refsOk : List ℕ → ℕ → Bool
 refsOk [] k = true
 refsOk (b ∷ s) zero = cond (eqb b 0x26) (isRef (refAt s) && refsOk s (bytesOf (refAt s))) (refsOk s 0)

@@ -27,6 +27,7 @@ pub enum Ref {
     Not,
 }
 
+// By rule X4.
 fn is_xml_char(c: u64) -> bool
     ensures { λ r. ⌜ r ≡ xmlChar c ⌝ }
 {
@@ -38,7 +39,7 @@ fn is_xml_char(c: u64) -> bool
         | ((0x10000 <= c) & (c <= 0x10ffff))
 }
 
-// One of the five names.
+// One of the five names (rule X3).
 fn entity_of(name: &[u8]) -> Entity
     ensures { λ r. ⌜ entityAnswer r ≡ entityOf (now (name .entry)) ⌝ }
 {
@@ -61,6 +62,7 @@ fn number_of(name: &[u8]) -> Number
     digits::decimal(&name[1..], 0x10ffff)
 }
 
+// By rule X4.
 fn char_ref_of(name: &[u8]) -> Named
     ensures { λ r. ⌜ namedAnswer r ≡ cond (isCharRef (now (name .entry))) (gives (number (now (name .entry)))) (refuses cause.BadReference) ⌝ }
 {
@@ -97,7 +99,7 @@ pub fn named_by(name: &[u8]) -> Named
     }
 }
 
-// The reference that s, which stands behind an ampersand, begins with.
+// The reference that s, which stands behind an ampersand, begins with (rule X3).
 pub fn ref_at(s: &[u8]) -> Ref
     ensures { λ r. ⌜ r ≡ refAt (now (s .entry)) ⌝ }
 {
@@ -112,8 +114,8 @@ pub fn ref_at(s: &[u8]) -> Ref
     Ref::Is(c, e + 1)
 }
 
-// Whether every ampersand of s begins a reference. A reference is passed over whole, and the first ampersand that begins none ends
-// the search, so the time is linear.
+// Whether every ampersand of s begins a reference (rule X5). A reference is passed over whole, and the first ampersand that begins
+// none ends the search, so the time is linear.
 pub fn refs_ok(s: &[u8]) -> bool
     ensures { λ r. ⌜ r ≡ refsOk (now (s .entry)) 0 ⌝ }
 {

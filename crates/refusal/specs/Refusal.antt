@@ -1,5 +1,4 @@
--- Document 01, "Seventeen refusals", and request 5: the number of each cause, the path, event and attribute that a refusal carries.
--- Definitions only.
+-- The number of each cause, and the path, event and attribute that a refusal carries (rules F1, F3, F6 and F11). Definitions only.
 use Prim.Native.Nat.{ℕ, _+_, _-_, _≤_}
 use mathlib.Core.Path.{_≡_}
 use mathlib.Core.List.{List, [], _++_}
@@ -15,10 +14,11 @@ use Rattle.refusal.specs.declared.Refusal.{Refusal}
 use Rattle.refusal.specs.declared.Verdict.{Verdict}
 use Rattle.refusal.specs.declared.Verdict.the-variants.{Accepted, Refused as IsRefused}
 
--- "4294967295 stands where none is concerned"
+-- where no event or attribute is concerned (rule F6)
 abbrev pub nowhere : ℕ
 nowhere = 4294967295
 
+-- rule F1
 abbrev pub number : Cause → ℕ
 number XmlFault = 1
 number EofInSkip = 1
@@ -43,25 +43,26 @@ number NotLayout = 15
 number OutputFull = 16
 number CountLimit = 17
 
--- the numbers that the rules of reading give: 1 to 10 and, by request 5, "20 when the status rule refuses; 21 where a Ref event gave 8"
+-- the numbers that the rules of reading give: 1 to 10, 20 for statuses (rules S6 to S9) and 21 for the name of a Ref (rule X7)
 abbrev pub OfRules : ℕ → Type 0
 OfRules n = (n ≤ 10) ⊎ ((n ≡ 20) ⊎ (n ≡ 21))
 
--- "a path of at most six elements": behind them stand fillers
+-- stands behind the elements of a path, up to six (rule F3)
 abbrev pub filler : PathElement
 filler = record { kind = 0; index = 0; event = 0 }
 
+-- rule F3
 abbrev pub pathFrom : List PathElement → Path
 pathFrom es = record { elements = es ++ replicate (6 - length es) filler; len = length es }
 
 abbrev pub emptyPath : Path
 emptyPath = pathFrom []
 
--- the path with one element more, where there is room
+-- the path with one element more, where there is room (rule F3)
 abbrev pub longer : Path → PathElement → Path
 longer p e = cond (ltb (p .len) 6) (record { elements = set (p .elements) (p .len) e; len = p .len + 1 }) p
 
--- "Each returns its number, a path of at most six elements, the event and attribute number"; the number is the cause's
+-- rule F1; the number is the cause's
 pub record Refused : Type 0 where
   pub cause : Cause
   pub path : List PathElement
@@ -76,7 +77,7 @@ pub data Outcome (A : Type 0) : Type 0 where
 abbrev pub refusalFrom : Refused → Refusal
 refusalFrom r = record { cause = r .cause; path = pathFrom (r .path); event = r .event; attribute = r .attribute }
 
--- "4294967295 stands where none is concerned, for both from 15 on", with an empty path; 20 and 21 "keep 8's path, numbers"
+-- an empty path, no event and no attribute: 15 to 17 (rule F11)
 abbrev pub late : Cause → Refused
 late cause = record { cause = cause; path = []; event = nowhere; attribute = nowhere }
 

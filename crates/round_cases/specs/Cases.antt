@@ -1,4 +1,4 @@
--- Document 01, "Writing": a plain report is read back as itself, and each condition of a plain report is needed. What is expected is
+-- A plain report is read back as itself (rule W16), and each condition of a plain report is needed (rule W15). What is expected is
 -- written down, not computed. Definitions only.
 use Prim.Native.Nat.{ℕ}
 use mathlib.Core.Path.{_≡_}

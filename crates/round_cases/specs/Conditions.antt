@@ -1,4 +1,4 @@
--- The conditions of a plain report, one by one, and those that a report violates. Definitions only.
+-- The conditions of a plain report (rule W15), one by one, and those that a report violates. Definitions only.
 use Prim.Native.Nat.{_*_}
 use mathlib.Core.List.{List, [], _∷_, _++_}
 use mathlib.Core.Bool.{Bool, not, cond}
@@ -10,18 +10,18 @@ use Rattle.write_table.specs.Laid.{laidOut, fits}
 use Rattle.round_elements.specs.Plain.{casesOf, descriptions, outputs, times, timestamps, keysOf, bare, wholeTime, wholeMoment, isIn, distinct, holds, suiteKeys, caseKeys, isRuled}
 
 pub data Condition : Type 0 where
-  -- "its gathered texts have no outer White_Space"
+  -- no White_Space at the ends of a gathered text
   bareTexts : Condition
-  -- "descriptions aren't empty"
+  -- no description is empty
   givenDescriptions : Condition
-  -- "times and timestamps are whole milliseconds"
+  -- whole milliseconds
   wholeTimes wholeTimestamps : Condition
-  -- "extra keys are distinct, hold no `&` and aren't the element's own keys"
+  -- extra keys: distinct, without `&`, none of the element's own
   distinctOnSuites unescapedOnSuites othersOnSuites : Condition
   distinctOnCases unescapedOnCases othersOnCases : Condition
-  -- "failure or error without runs has kind Rerun"
+  -- without runs the kind is Rerun
   ruledStatus : Condition
-  -- "its written events, attributes and bytes stay within the limits at the end"
+  -- the written table has no more than rule T8 allows
   withinLimits : Condition
 
 abbrev pub conditions : List Condition

@@ -1,7 +1,7 @@
--- Demand 2, whole: what is claimed of reading and of writing, and that a plain report comes back. The claims are types; proofs/Demand2.antt has a
--- proof of each. Definitions only.
+-- Demand 2, whole: what is claimed of reading and of writing, and that a plain report comes back. The claims are types;
+-- proofs/Demand2.antt has a proof of each. Definitions only.
 --
--- Whoever wants to be sure that this is what document 01 asks for reads these definitions, each beside the sentence of 01 that it states:
+-- Whoever wants to be sure that this is what the rules ask for reads these definitions, with docs/RULES.md beside them:
 --   tableOf, resolve (crate table: Table, Event)                 refusal 11; a table's events with their bytes and attributes
 --   deserialize (crate read_machine: Reading)                    the report that the rules of reading give for events, with no areas
 --   reading (crate read_machine: Reading)                        what reading answers and leaves in its areas: the promise of the call
@@ -18,8 +18,8 @@
 --   render, publicListing (crates list_text, public_claims: Listing, PublicListing)
 --                                                                the text of a report's listing; the public listing of a table
 --
--- Table, Areas, eventsOf, answerTo, listing, IsReport and the three reasons to refuse are those of demand 3 (crate public_claims: Demand3). Of the
--- areas that are lent only the lengths count: no claim depends on old contents.
+-- Table, Areas, eventsOf, answerTo, listing, IsReport and the three reasons to refuse are those of demand 3 (crate public_claims:
+-- Demand3). Of the areas that are lent only the lengths count: no claim depends on old contents.
 use Prim.Native.Nat.{ℕ, _*_, _/_, min, _≤_}
 use mathlib.Core.Path.{_≡_}
 use mathlib.Core.List.{List}
@@ -72,8 +72,8 @@ pub record Accepted (t : Table) (a : Areas) : Type 0 where
   pub given : IsReport t report
   pub left : Holds report (readingOf t a .words) (readingOf t a .text)
 
--- areas that suffice for an accepted table: for the records, dead ones too, and the texts that reading leaves where areas have no limit, and for the
--- pieces of all texts
+-- areas that suffice for an accepted table: for the records, dead ones too, and the texts that reading leaves where areas have no
+-- limit, and for the pieces of all texts
 pub record Suffice (t : Table) (a : Areas) : Type 0 where
   pub last : Machine
   pub ends : run unlimited (eventsOf t) begin ≡ accepted last
@@ -124,7 +124,7 @@ pub record Wrote (words text : List ℕ) (r : Report) (a : Lent) : Type 0 where
   pub passes : Passes (inUse words text a numbers)
   pub events : eventsOf (inUse words text a numbers) ≡ written r
 
--- "areas of the limits' size"; the output area is the listing's
+-- areas of the limits' size (rule W16); the output area is the listing's
 abbrev pub lentLimits : Lent
 lentLimits = record { events = mostEntries * 5; attributes = mostEntries * 5; bytes = mostBytes }
 
@@ -159,9 +159,9 @@ pub record Demand2 : Type 0 where
   pub longer : (t : Table) (a b : Areas) → Longer a b → ¬ Short t a → answerTo t b ≡ answerTo t a
   -- D. Writing lays a report's events out as a table, wherever it fits into the areas.
   pub writes : (words text : List ℕ) (r : Report) (a : Lent) → Holds r words text → fits (laidOut (written r)) (a .events) (a .attributes) (a .bytes) ≡ true → Wrote words text r a
-  -- E. The theorem on lists: a plain report is read back from its own events.
+  -- E. The theorem on lists: a plain report is read back from its own events (rule W16).
   pub onLists : (r : Report) → sound r ≡ true → plain r ≡ true → deserialize (written r) ≡ accepted (some r)
-  -- E. The theorem on areas: so it is through the areas of both calls.
+  -- E. The theorem on areas: so it is through the areas of both calls (rule W16).
   pub onAreas : (words text : List ℕ) (r : Report) → areWords words ≡ true → Holds r words text → plain r ≡ true → Back words text r
   -- F. The public listing of a plain report's own table is the listing of its tree.
   pub ownListing : (words text : List ℕ) (r : Report) (output : ℕ) → areWords words ≡ true → Holds r words text → plain r ≡ true → length (render r) ≤ output → listing (ownTable r) (limits output) ≡ render r

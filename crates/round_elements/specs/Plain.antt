@@ -1,4 +1,4 @@
--- Document 01, "Writing": when a report is plain, and what its values are. Definitions only.
+-- When a report is plain (rule W15), and what its values are (rule M10). Definitions only.
 use Prim.Native.Nat.{ℕ, _%_, _*_}
 use mathlib.Core.List.{List, [], _∷_, _++_, map}
 use mathlib.Core.Bool.{Bool, true, false, not, _&&_, _||_}
@@ -94,7 +94,7 @@ suiteKeys =
 abbrev pub caseKeys : List Text
 caseKeys = bytes "name" ∷ bytes "classname" ∷ bytes "assertions" ∷ bytes "timestamp" ∷ bytes "time" ∷ []
 
--- "extra keys are distinct, hold no `&` and aren't the element's own keys"
+-- of the extra keys of an element: distinct, without `&`, none of its own
 abbrev pub goodKeys : List Text → List Text → Bool
 goodKeys own ks = distinct ks && every (λ (k : Text). not (holds 0x26 k) && not (isIn k own)) ks
 
@@ -105,25 +105,24 @@ isRuled (nonSuccess kind reason flaky (r ∷ rs)) = true
 isRuled (nonSuccess kind reason rerun runs) = true
 isRuled (skipped reason) = true
 
--- "A report is plain if": one line for each condition
+-- one line for each condition (rule W15)
 unfoldable pub plain : Report → Bool
 plain r =
-    -- "its gathered texts have no outer White_Space"
+    -- no White_Space at the ends of a gathered text
     every bare (descriptions r ++ outputs r)
-    -- "descriptions aren't empty"
+    -- no description is empty
     && (every (λ (t : Text). not (isEmpty t)) (descriptions r)
-    -- "times and timestamps are whole milliseconds"
+    -- whole milliseconds
     && (every wholeTime (times r)
     && (every wholeMoment (timestamps r)
-    -- "extra keys are distinct, hold no `&` and aren't the element's own keys"
+    -- extra keys
     && (every (λ (s : TestSuite). goodKeys suiteKeys (keysOf (s .extra))) (r .suites)
     && (every (λ (c : TestCase). goodKeys caseKeys (keysOf (c .extra))) (casesOf r)
-    -- "failure or error without runs has kind Rerun"
+    -- without runs the kind is Rerun
     && (every (λ (c : TestCase). isRuled (c .status)) (casesOf r)
-    -- "its written events, attributes and bytes stay within the limits at the end"
+    -- the written table has no more than rule T8 allows
     && fits (laidOut (written r)) (mostEntries * 5) (mostEntries * 5) mostBytes))))))
 
--- "a layout's texts are UTF-8 without filtered characters, its times and timestamps in the ranges above": what each report that a
--- layout holds has
+-- what each report that a layout holds has (rule M10)
 unfoldable pub sound : Report → Bool
 sound r = every fitsRow (rowsOf r)

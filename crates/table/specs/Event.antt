@@ -25,26 +25,30 @@ pub data Event : Type 0 where
   Piece : PieceKind → List ℕ → Event
   Eof Fault : Event
 
--- "the bytes from the event's start for its length"
+-- bytes of the source, by their start and length (rule T1)
 abbrev pub part : List ℕ → ℕ → ℕ → List ℕ
 part source start len = take len (drop start source)
 
 abbrev pub kindAt : List ℕ → ℕ → ℕ
 kindAt events i = word events i 0
 
+-- rule T1
 abbrev pub bytesAt : List ℕ → List ℕ → ℕ → List ℕ
 bytesAt events source i = part source (word events i 1) (word events i 2)
 
--- "mark (0 good, 1 faulty)"
+-- 0 is good (rule T2)
 abbrev pub markAt : List ℕ → ℕ → Bool
 markAt attributes j = eqb (word attributes j 0) 0
 
+-- rule T2
 abbrev pub keyAt : List ℕ → List ℕ → ℕ → List ℕ
 keyAt attributes source j = part source (word attributes j 1) (word attributes j 2)
 
+-- rule T2
 abbrev pub valueAt : List ℕ → List ℕ → ℕ → List ℕ
 valueAt attributes source j = part source (word attributes j 3) (word attributes j 4)
 
+-- rule T2
 abbrev pub attributeAt : List ℕ → List ℕ → ℕ → Attribute
 attributeAt attributes source j = record { good = markAt attributes j; key = keyAt attributes source j; value = valueAt attributes source j }
 
@@ -60,10 +64,11 @@ tagKind k = cond (eqb k kind.start) Start (cond (eqb k kind.empty) Empty End)
 abbrev pub pieceKind : ℕ → PieceKind
 pieceKind k = cond (eqb k kind.text) Text (cond (eqb k kind.cdata) CData (cond (eqb k kind.ref) Ref (cond (eqb k kind.indent) Indent Other)))
 
--- an Indent is "read as a Text of one newline; its own bytes are never read"
+-- an Indent's own bytes are never read (rule T4)
 abbrev pub pieceBytes : ℕ → List ℕ → List ℕ
 pieceBytes k bytes = cond (eqb k kind.indent) (10 ∷ []) bytes
 
+-- rule T3
 unfoldable pub eventOf : ℕ → List ℕ → ℕ → List Attribute → Event
 eventOf k bytes first attributes =
     cond (eqb k kind.start) (Tag Start bytes first attributes)

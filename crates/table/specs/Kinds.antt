@@ -1,5 +1,4 @@
--- The kinds of events by name, as src/kind.rt has them: "Kinds: 0 Start, 1 Empty, 2 End (the bytes are the tag name), 3 Text, 4 CData, 5 Ref
--- (the name between `&` and `;`), 6 Other, 7 Eof, 8 Fault (the XML reader failed), 9 Indent". Definitions only.
+-- The kinds of events by name (rule T3), as src/kind.rt has them. Definitions only.
 use Prim.Native.Nat.{ℕ}
 
 abbrev pub start : ℕ

@@ -1,4 +1,4 @@
--- Document 01, "The table handed in": what refusal 11 looks at, in its order. Definitions only.
+-- What refusal 11 looks at, in its order (rules T6 to T12). Definitions only.
 use Prim.Native.Nat.{ℕ, zero, suc, _+_, _*_, _/_, _%_}
 use mathlib.Core.List.{List, []}
 use mathlib.Core.Bool.{Bool, cond, _&&_, _||_}
@@ -11,7 +11,7 @@ use Rattle.table.specs.declared.Checked.{Checked}
 use Rattle.table.specs.declared.Checked.the-variants.{Good, Bad}
 use Rattle.refusal.specs.declared.Cause.the-variants as cause
 
--- "An event is five words", "An attribute is five words": word k of entry i
+-- word k of entry i, an event (rule T1) or an attribute (rule T2)
 abbrev pub word : List ℕ → ℕ → ℕ → ℕ
 word table i k = getD table (i * 5 + k) 0
 
@@ -19,26 +19,25 @@ word table i k = getD table (i * 5 + k) 0
 abbrev pub countOf : List ℕ → ℕ
 countOf table = length table / 5
 
--- "byte range": it lies in a source of `size` bytes
+-- a range lies in a source of `size` bytes (rule T10)
 abbrev pub within : ℕ → ℕ → ℕ → Bool
 within size start len = leb (start + len) size
 
--- "its attributes": mark, key range, value range, of the entry at the front of `words`
+-- mark, key range, value range, of the entry at the front of `words` (rule T12)
 unfoldable pub goodAttribute : List ℕ → ℕ → Bool
 goodAttribute words size = leb (getD words 0 0) 1 && (within size (getD words 1 0) (getD words 2 0) && within size (getD words 3 0) (getD words 4 0))
 
--- "kind, byte range, attribute range (none allowed unless kind 0 or 1; with count 0 the first is ignored)", of the
--- entry at the front of `words`, where there are n attributes
+-- kind, byte range, attribute range, of the entry at the front of `words`, where there are n attributes (rules T9 to T11)
 unfoldable pub goodShape : List ℕ → ℕ → ℕ → Bool
 goodShape words n size =
     leb (getD words 0 0) kind.indent && (within size (getD words 1 0) (getD words 2 0) && (eqb (getD words 4 0) 0 || (leb (getD words 0 0) kind.empty && within n (getD words 3 0) (getD words 4 0))))
 
--- of `count` attributes from number j on, the first that is bad, or the number behind them
+-- of `count` attributes from number j on, the first that is bad, or the number behind them (rule T12)
 unfoldable pub badFrom : List ℕ → ℕ → ℕ → ℕ → ℕ
 badFrom attributes size zero j = j
 badFrom attributes size (suc count) j = cond (goodAttribute (drop (j * 5) attributes) size) (badFrom attributes size count (j + 1)) j
 
--- event i with its attributes: a bad attribute has its number, a bad kind or range concerns none
+-- event i with its attributes: a bad attribute has its number, a bad kind or range concerns none (rules T12 and F10)
 unfoldable pub checkEvent : List ℕ → List ℕ → ℕ → ℕ → Checked
 checkEvent events attributes size i =
     let bad = badFrom attributes size (word events i 4) (word events i 3) in
@@ -50,12 +49,12 @@ abbrev pub andThen : Checked → Checked → Checked
 andThen Good c = c
 andThen (Bad e a) c = Bad e a
 
--- "event by event": n events from number i on
+-- n events from number i on (rules T9 to T12)
 unfoldable pub checkFrom : List ℕ → List ℕ → ℕ → ℕ → ℕ → Checked
 checkFrom events attributes size zero i = Good
 checkFrom events attributes size (suc n) i = andThen (checkEvent events attributes size i) (checkFrom events attributes size n (i + 1))
 
--- "tables not a multiple of five words, then over the limits (source too)"
+-- whole entries, then the limits (rules T7 and T8)
 unfoldable pub goodSizes : ℕ → ℕ → ℕ → Bool
 goodSizes events attributes size =
     (eqb (events % 5) 0 && eqb (attributes % 5) 0) && (leb (events / 5) mostEntries && (leb (attributes / 5) mostEntries && leb size mostBytes))
@@ -66,11 +65,11 @@ checkOf events attributes source =
     (checkFrom events attributes (length source) (countOf events) 0)
     (Bad nowhere nowhere)
 
--- 01's values: 11 with an empty path
+-- 11 has an empty path (rule F10)
 abbrev pub checkedAnswer : Checked → Outcome (Unit {0})
 checkedAnswer Good = accepted tt
 checkedAnswer (Bad e a) = refused (record { cause = cause.BadTable; path = []; event = e; attribute = a })
 
--- "Refusal 11 comes first"
+-- rule T6
 abbrev pub tableOf : List ℕ → List ℕ → List ℕ → Outcome (Unit {0})
 tableOf events attributes source = checkedAnswer (checkOf events attributes source)

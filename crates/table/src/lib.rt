@@ -17,12 +17,14 @@ pub enum Checked {
     Bad(u32, u32),
 }
 
+// By rule T10.
 fn is_within(size: usize, start: u32, len: u32) -> bool
     ensures { λ r. ⌜ r ≡ within size start len ⌝ }
 {
     wide(start) + wide(len) <= size
 }
 
+// By rule T12.
 fn is_attribute(words: &[u32], size: usize) -> bool
     requires { ⌜ 5 ≤ length (now words) ⌝ }
     ensures { λ r. ⌜ r ≡ goodAttribute (now (words .entry)) size ⌝ }
@@ -30,6 +32,7 @@ fn is_attribute(words: &[u32], size: usize) -> bool
     (words[0] <= 1) & (is_within(size, words[1], words[2]) & is_within(size, words[3], words[4]))
 }
 
+// By rules T9 to T11.
 fn is_shape(words: &[u32], n: usize, size: usize) -> bool
     requires { ⌜ 5 ≤ length (now words) ⌝ }
     ensures { λ r. ⌜ r ≡ goodShape (now (words .entry)) n size ⌝ }
@@ -39,7 +42,7 @@ fn is_shape(words: &[u32], n: usize, size: usize) -> bool
             & ((words[4] == 0) | ((words[0] <= kind::EMPTY) & is_within(n, words[3], words[4]))))
 }
 
-// The first bad attribute from number `first` to before number `end`, or `end`.
+// The first bad attribute from number `first` to before number `end`, or `end` (rule T12).
 fn first_bad(attributes: &[u32], first: usize, end: usize, size: usize) -> usize
     requires { ⌜ (first ≤ end) × (end * 5 ≤ length (now attributes)) ⌝ }
     ensures { λ r. ⌜ r ≡ badFrom (now (attributes .entry)) size (end - first) first ⌝ }
@@ -68,7 +71,8 @@ struct Seen {
     known: Range,
 }
 
-// Event i with its attributes. Events may share attributes: those within `known`, which are good, are not looked at again.
+// Event i with its attributes (rules T12 and F10). Events may share attributes: those within `known`, which are good, are not looked
+// at again.
 fn check_event(events: &[u32], attributes: &[u32], size: usize, i: usize, known: Range) -> Seen
     requires { ⌜ (i < length (now events) / 5) × (i < 65536) × (length (now attributes) / 5 ≤ 65536) ⌝ }
     requires { ⌜ badFrom (now attributes) size (known .end - known .first) (known .first) ≡ known .end ⌝ }
@@ -99,6 +103,7 @@ fn check_event(events: &[u32], attributes: &[u32], size: usize, i: usize, known:
     Seen { found, known }
 }
 
+// By rules T7 and T8.
 fn is_sized(events: usize, attributes: usize, size: usize) -> bool
     ensures { λ r. ⌜ r ≡ goodSizes events attributes size ⌝ }
 {
@@ -107,6 +112,7 @@ fn is_sized(events: usize, attributes: usize, size: usize) -> bool
             & ((attributes / 5 <= limit::ENTRIES) & (size <= limit::BYTES)))
 }
 
+// By rule T6.
 pub fn check_table(events: &[u32], attributes: &[u32], source: &[u8]) -> Checked
     ensures { λ r. ⌜ checkedAnswer r ≡ tableOf (now (events .entry)) (now (attributes .entry)) (now (source .entry)) ⌝ }
 {

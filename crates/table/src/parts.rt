@@ -3,7 +3,7 @@ ghost use mathlib.Core.Path.{_≡_};
 ghost use lib.ListN.{getD};
 ghost use Rattle.table.specs.Event.{part};
 
-// Word k of the entry that `words` begins with, 0 behind its end.
+// Word k of the entry that `words` begins with, 0 behind its end (rule T1).
 pub fn word_of(words: &[u32], k: usize) -> u32
     ensures { λ r. ⌜ r ≡ getD (now (words .entry)) k 0 ⌝ }
 {
@@ -13,7 +13,7 @@ pub fn word_of(words: &[u32], k: usize) -> u32
     0
 }
 
-// The bytes of `source` from `start` for `len`, as far as there are any.
+// The bytes of `source` from `start` for `len`, as far as there are any (rule T1).
 pub fn bytes_of(source: &[u8], start: usize, len: usize) -> &[u8]
     ensures { λ r. ⌜ now r ≡ part (now (source .entry)) start len ⌝ }
 {

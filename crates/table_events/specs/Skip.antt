@@ -1,4 +1,4 @@
--- Document 01, "Suite and case": an unknown element is skipped. Definitions only.
+-- An unknown element is skipped (rules R11 and R19). Definitions only.
 use Prim.Native.Nat.{ℕ, zero, suc, _+_, _-_}
 use mathlib.Core.List.{List, [], _∷_}
 use mathlib.Core.Bool.{Bool, cond, _&&_}
@@ -21,8 +21,8 @@ abbrev pub upFrom : ℕ → Skip → (ℕ → Skip) → Skip
 upFrom zero out on = out
 upFrom (suc depth) out on = on depth
 
--- "one reads on to the End of the same name at depth 0, each Start of that name adding one; Eof there is refusal 1", and so
--- is a Fault; "The table's end counts as Eof." Event i is the first of those given.
+-- on to the End of that name at depth 0 (rule R11); a Fault is refused, and so is an Eof or the table's end (rule R19). Event i is
+-- the first of those given.
 unfoldable pub skipOf : List ℕ → ℕ → ℕ → List Event → Skip
 skipOf name depth i [] = brokenAt cause.EofInSkip i
 skipOf name depth i (Tag Start tag j xs ∷ es) = skipOf name (cond (sameBytes tag name) (suc depth) depth) (i + 1) es

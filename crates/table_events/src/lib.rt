@@ -29,7 +29,7 @@ fn words_at(events: &[u32], i: usize) -> &[u32]
     &events[at..]
 }
 
-// "The table's end counts as Eof."
+// Behind the last event stands an Eof (rule T5).
 pub fn kind_at(events: &[u32], i: usize) -> u32
     ensures { λ r. ⌜ r ≡ cond (leb (countOf (now (events .entry))) i) kind.eof (kindAt (now (events .entry)) i) ⌝ }
 {
@@ -89,7 +89,7 @@ fn depth_after(kind: u32, own: bool, depth: usize) -> usize
     depth
 }
 
-// Skips the element that event `start` begins.
+// Skips the element that event `start` begins (rules R11 and R19).
 pub fn skip_from(events: &[u32], source: &[u8], start: usize) -> Skipped
     requires { ⌜ start < countOf (now events) ⌝ }
     ensures { λ r. ⌜ ((attributes : List ℕ) → skipAnswer r ≡ skipOf (bytesAt (now (events .entry)) (now (source .entry)) start) 0 (start + 1) (resolveFrom (now (events .entry)) attributes (now (source .entry)) (countOf (now (events .entry)) - (start + 1)) (start + 1))) ⌝ }

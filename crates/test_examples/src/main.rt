@@ -1,4 +1,4 @@
-// Examples of document 01 that are run: the limit of events, offsets of a timestamp, and rows 1 and 11 to 17 of "Seventeen refusals".
+// Examples that are run: the limit of events, offsets of a timestamp, and the refusals 1 and 11 to 17.
 // Each is told as crate `tell` does, behind a few words that name it.
 use refusal::Verdict;
 use test_tell::tell_listing;

@@ -22,7 +22,8 @@ cleaned clean l = cond clean (filtered l) l
 abbrev pub isValue : List ℕ → Bool
 isValue s = utf8 s && refsOk s 0
 
--- the answer of an area of n bytes, for which "too short" has the cause short. The whole value is "UTF-8 (2), references (10)" before it is too long
+-- the answer of an area of n bytes; short is its cause where it is too short. The whole value is tested for UTF-8 (2) and for
+-- references (10) before (rules X5 and M7)
 abbrev pub decodedOf : Cause → Bool → ℕ → List ℕ → Answer ℕ
 decodedOf short clean n s = cond (utf8 s) (cond (refsOk s 0) (placing short n (cleaned clean (decoded s 0))) (refuses cause.BadReference)) (refuses cause.NotUtf8)
 

@@ -6,7 +6,7 @@ use Rattle.text.specs.declared.kept.Kept.the-variants.{Put, Full, NotUtf
 use Rattle.refusal.specs.declared.Cause.the-variants as cause
 use Rattle.refusal.specs.declared.Cause.{Cause}
 
--- the bytes it took, or the refusal; short is the cause that "too short" has for that area, TextFull or ScratchFull
+-- the bytes it took, or the refusal; short is the cause where that area is too short, TextFull or ScratchFull
 abbrev pub keptAnswer : Cause → Kept → Answer ℕ
 keptAnswer short (Put n) = gives n
 keptAnswer short Full = refuses short

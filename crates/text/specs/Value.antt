@@ -1,4 +1,4 @@
--- Attribute text (document 01, "Attribute text: UTF-8 (2), references (10), filter, store"). Definitions only.
+-- Attribute text (rule X1). Definitions only.
 use Prim.Native.Nat.{ℕ}
 use mathlib.Core.List.{List}
 use mathlib.Core.Bool.{true, cond}
@@ -11,7 +11,7 @@ use Rattle.text.specs.declared.value.Checked.{Checked}
 use Rattle.text.specs.declared.value.Checked.the-variants.{Good, NotUtf8, BadReference}
 use Rattle.refusal.specs.declared.Cause.the-variants as cause
 
--- the text that is stored for a value
+-- the text that is stored for a value (rule X1)
 abbrev pub valueText : List ℕ → List ℕ
 valueText s = filtered (decoded s 0)
 
@@ -20,6 +20,7 @@ checkedAnswer Good = gives tt
 checkedAnswer NotUtf8 = refuses cause.NotUtf8
 checkedAnswer BadReference = refuses cause.BadReference
 
+-- rule X1
 abbrev pub checkedOf : List ℕ → Answer (Unit {0})
 checkedOf s = cond (utf8 s) (cond (refsOk s 0) (gives tt) (refuses cause.BadReference)) (refuses cause.NotUtf8)
 

@@ -86,7 +86,7 @@ fn put_piece(out: &mut [u8], k: usize, p: Piece) -> Stored
     copy_into(&mut out[k..], &bytes[..n])
 }
 
-// Puts what s stands for at the front of out, filtered where `clean` asks for it.
+// Puts what s stands for at the front of out, filtered where `clean` asks for it; only what is put needs room (rule M7).
 pub fn write_decoded(out: &mut [u8], s: &[u8], clean: bool) -> Stored
     ensures { λ r. ⌜ storedAnswer cause.TextFull r ≡ placing cause.TextFull (length (now (out .entry))) (cleaned clean (decoded (now (s .entry)) 0)) ⌝ }
     ensures { λ r. ⌜ now (out .exit) ≡ laid (now (out .entry)) (cleaned clean (decoded (now (s .entry)) 0)) ⌝ }
@@ -105,7 +105,7 @@ pub fn write_decoded(out: &mut [u8], s: &[u8], clean: bool) -> Stored
     Stored::Put(k)
 }
 
-// 2 and 10 come before "too short": the whole value is checked before any of it is put.
+// 2 and 10 come before a refusal for want of room (rule M7): the whole value is checked before any of it is put.
 pub fn put_decoded(out: &mut [u8], s: &[u8], clean: bool) -> Kept
     ensures { λ r. ⌜ ((short : Cause) → keptAnswer short r ≡ decodedOf short clean (length (now (out .entry))) (now (s .entry))) ⌝ }
     ensures { λ r. ⌜ now (out .exit) ≡ decodedLaid clean (now (out .entry)) (now (s .entry)) ⌝ }

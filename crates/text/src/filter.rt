@@ -6,13 +6,14 @@ ghost use Rattle.area.specs.Area.{storedAnswer, placing, laid};
 ghost use Rattle.text.specs.Filter.{dropped, filtered};
 ghost use Rattle.refusal.specs.declared.Cause.the-variants as cause;
 
+// By rule X8.
 pub fn is_dropped(b: u8) -> bool
     ensures { λ r. ⌜ r ≡ dropped b ⌝ }
 {
     (b <= 0x08) | (b == 0x0b) | (b == 0x0c) | ((0x0e <= b) & (b <= 0x1f))
 }
 
-// Puts s without the dropped bytes at the front of out.
+// Puts s without the dropped bytes at the front of out (rule X8).
 pub fn store(out: &mut [u8], s: &[u8]) -> Stored
     ensures { λ r. ⌜ storedAnswer cause.TextFull r ≡ placing cause.TextFull (length (now (out .entry))) (filtered (now (s .entry))) ⌝ }
     ensures { λ r. ⌜ now (out .exit) ≡ laid (now (out .entry)) (filtered (now (s .entry))) ⌝ }

@@ -15,6 +15,7 @@ pub enum Checked {
     BadReference,
 }
 
+// By rule X5.
 pub fn check_value(s: &[u8]) -> Checked
     ensures { λ r. ⌜ checkedAnswer r ≡ checkedOf (now (s .entry)) ⌝ }
 {
@@ -27,6 +28,7 @@ pub fn check_value(s: &[u8]) -> Checked
     Checked::BadReference
 }
 
+// By rule X1.
 pub fn store_value(out: &mut [u8], s: &[u8]) -> Kept
     ensures { λ r. ⌜ keptAnswer cause.TextFull r ≡ valueOf (length (now (out .entry))) (now (s .entry)) ⌝ }
     ensures { λ r. ⌜ now (out .exit) ≡ valueLaid (now (out .entry)) (now (s .entry)) ⌝ }

@@ -25,7 +25,7 @@ fn store_part(out: &mut [u8], s: &[u8], p: Part) -> Stored
     put_part(out, s, p)
 }
 
-// Puts s, read lossily and filtered, at the front of out.
+// Puts s, read lossily and filtered, at the front of out (rule B6).
 pub fn store_lossy(out: &mut [u8], s: &[u8]) -> Stored
     ensures { λ r. ⌜ storedAnswer cause.TextFull r ≡ placing cause.TextFull (length (now (out .entry))) (lossyText (now (s .entry))) ⌝ }
     ensures { λ r. ⌜ now (out .exit) ≡ laid (now (out .entry)) (lossyText (now (s .entry))) ⌝ }

@@ -1,4 +1,4 @@
--- Gathered text: a piece of it put into scratch from its mark on (document 01, "pieces decoded one by one (2, 10, 14; CData has no references)"). Definitions only.
+-- Gathered text: a piece of it put into scratch from its mark on (rules X9 and M6). Definitions only.
 use Prim.Native.Nat.{ℕ}
 use mathlib.Core.List.{List, [], _∷_}
 use mathlib.Core.Bool.{false, cond, _&&_}
@@ -24,17 +24,18 @@ cdataOf n s = cond (utf8 s) (placing cause.ScratchFull n s) (refuses cause.NotUt
 abbrev pub cdataLaid : List ℕ → List ℕ → List ℕ
 cdataLaid out s = cond (utf8 s) (laid out s) out
 
--- a Ref's name: what it stands for in a value, else 21 (request 5), or 10 for a number (request 3)
+-- a Ref's name: what it stands for in a value, else 10 for a number (rule X6), or 21 (rule X7)
 abbrev pub referenceText : List ℕ → List ℕ
 referenceText name = encode (charOf name)
 
+-- rule M7
 abbrev pub referenceOf : ℕ → List ℕ → Answer ℕ
 referenceOf n name = cond (utf8 name) (cond (isNamed name) (placing cause.ScratchFull n (referenceText name)) (refuses (unnamed name))) (refuses cause.NotUtf8)
 
 abbrev pub referenceLaid : List ℕ → List ℕ → List ℕ
 referenceLaid out name = cond (utf8 name && isNamed name) (laid out (referenceText name)) out
 
--- "9 Indent (read as a Text of one newline; its own bytes are never read)"
+-- what an Indent is (rule T4)
 abbrev pub newline : List ℕ
 newline = 0x0A ∷ []
 

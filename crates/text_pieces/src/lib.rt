@@ -15,6 +15,7 @@ ghost use Rattle.text.specs.Kept.{keptAnswer};
 ghost use Rattle.text_pieces.specs.Gather.{textOf, textLaid, cdataOf, cdataLaid, referenceOf, referenceLaid, indentOf, indentLaid};
 ghost use Rattle.refusal.specs.declared.Cause.the-variants as cause;
 
+// By rule X9.
 pub fn gather_text(out: &mut [u8], s: &[u8]) -> Kept
     ensures { λ r. ⌜ keptAnswer cause.ScratchFull r ≡ textOf (length (now (out .entry))) (now (s .entry)) ⌝ }
     ensures { λ r. ⌜ now (out .exit) ≡ textLaid (now (out .entry)) (now (s .entry)) ⌝ }
@@ -22,6 +23,7 @@ pub fn gather_text(out: &mut [u8], s: &[u8]) -> Kept
     put_decoded(out, s, false)
 }
 
+// By rule X9.
 pub fn gather_cdata(out: &mut [u8], s: &[u8]) -> Kept
     ensures { λ r. ⌜ keptAnswer cause.ScratchFull r ≡ cdataOf (length (now (out .entry))) (now (s .entry)) ⌝ }
     ensures { λ r. ⌜ now (out .exit) ≡ cdataLaid (now (out .entry)) (now (s .entry)) ⌝ }
@@ -32,7 +34,7 @@ pub fn gather_cdata(out: &mut [u8], s: &[u8]) -> Kept
     Kept::NotUtf8
 }
 
-// Why a name that stands for no character is refused.
+// Why a name that stands for no character is refused (rules X6 and X7).
 fn unnamed_by(name: &[u8]) -> Kept
     ensures { λ r. ⌜ keptAnswer cause.ScratchFull r ≡ refuses (unnamed (now (name .entry))) ⌝ }
 {
@@ -45,7 +47,7 @@ fn unnamed_by(name: &[u8]) -> Kept
     Kept::UnknownName
 }
 
-// The name of a Ref event.
+// The name of a Ref event (rules X6 and X7).
 pub fn gather_reference(out: &mut [u8], name: &[u8]) -> Kept
     ensures { λ r. ⌜ keptAnswer cause.ScratchFull r ≡ referenceOf (length (now (out .entry))) (now (name .entry)) ⌝ }
     ensures { λ r. ⌜ now (out .exit) ≡ referenceLaid (now (out .entry)) (now (name .entry)) ⌝ }
@@ -63,6 +65,7 @@ pub fn gather_reference(out: &mut [u8], name: &[u8]) -> Kept
     kept_of(copy_into(out, &bytes[..n]))
 }
 
+// By rule T4.
 pub fn gather_indent(out: &mut [u8]) -> Kept
     ensures { λ r. ⌜ keptAnswer cause.ScratchFull r ≡ indentOf (length (now (out .entry))) ⌝ }
     ensures { λ r. ⌜ now (out .exit) ≡ indentLaid (now (out .entry)) ⌝ }

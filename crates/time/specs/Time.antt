@@ -1,5 +1,4 @@
--- A time as it is read: "digits, optional `.`, at most nine fraction digits, one digit somewhere, under 8388608 seconds; exact
--- nanoseconds" (document 01, Text and numbers). Definitions only.
+-- A time as it is read (rules V1, V3 and V4). Definitions only.
 use Prim.Native.Nat.{ℕ, suc, _+_}
 use mathlib.Core.List.{List}
 use mathlib.Core.Bool.{Bool, cond, _&&_}
@@ -18,7 +17,7 @@ use Rattle.time.specs.declared.read.Time.{Time}
 use Rattle.time.specs.declared.read.Time.the-variants.{Is, NotUtf8, Bad}
 use Rattle.refusal.specs.declared.Cause.the-variants as cause
 
--- seconds and nanoseconds, or 2 for "not UTF-8", 5 for "time"
+-- seconds and nanoseconds, or 2 for what isn't UTF-8, 5 for what is no time
 abbrev pub timeAnswer : Time → Answer (ℕ × ℕ)
 timeAnswer (Is secs nanos) = gives (secs, nanos)
 timeAnswer NotUtf8 = refuses cause.NotUtf8
@@ -35,21 +34,24 @@ whole s = take (point s) s
 abbrev pub fraction : List ℕ → List ℕ
 fraction s = drop (suc (point s)) s
 
--- the whole part w and the fraction f make a time: "digits [..] at most nine fraction digits, one digit somewhere, under 8388608 seconds"
+-- the whole part w and the fraction f make a time (rules V3 and V4)
 unfoldable pub makeTime : List ℕ → List ℕ → Bool
 makeTime w f =
     allDigits 10 w && (allDigits 10 f && (leb (length f) 9 && (ltb 0 (length w + length f) && ltb (value 10 w) 8388608)))
 
+-- rule V3
 abbrev pub isTime : List ℕ → Bool
 isTime s = makeTime (whole s) (fraction s)
 
+-- rule V4
 abbrev pub secondsOf : List ℕ → ℕ
 secondsOf s = value 10 (whole s)
 
--- "exact nanoseconds"
+-- rule V4
 abbrev pub nanosOf : List ℕ → ℕ
 nanosOf s = billionths (fraction s)
 
+-- rule V1
 abbrev pub timeOf : List ℕ → Answer (ℕ × ℕ)
 timeOf s = cond (utf8 s) (cond (isTime s) (gives (secondsOf s, nanosOf s)) (refuses cause.BadTime)) (refuses cause.NotUtf8)
 

@@ -26,7 +26,7 @@ fn up_to(s: &[u8], most: u64) -> Number
     digits::decimal(s, most)
 }
 
-// The time that a whole part and the digits behind the point make.
+// The time that a whole part and the digits behind the point make (rule V4).
 fn time_in(whole: &[u8], digits: &[u8]) -> Formed
     ensures { λ r. ⌜ r ≡ formedTime (now (whole .entry)) (now (digits .entry)) ⌝ }
 {
@@ -44,6 +44,7 @@ fn time_in(whole: &[u8], digits: &[u8]) -> Formed
     Formed::Is(seconds as u32, nanos as u32)
 }
 
+// By rule V3.
 fn formed_time(s: &[u8]) -> Formed
     ensures { λ r. ⌜ r ≡ formedTime (whole (now (s .entry))) (fraction (now (s .entry))) ⌝ }
 {
@@ -55,7 +56,7 @@ fn formed_time(s: &[u8]) -> Formed
     time_in(s, &s[p..])
 }
 
-// What has the form of a time is ASCII, so only other texts are looked at for UTF-8.
+// What has the form of a time is ASCII, so only other texts are looked at for UTF-8 (rule V1).
 pub fn read_time(s: &[u8]) -> Time
     ensures { λ r. ⌜ timeAnswer r ≡ timeOf (now (s .entry)) ⌝ }
 {

@@ -1,10 +1,10 @@
--- How far a written time may be off (document 02, request 4): what is claimed of the text that is written for a stored time. The claims are types;
--- proofs/Distance.antt has a proof of each, and proofs/DistanceExamples.antt computes that the bound is reached and what decides a tie. Definitions
--- only.
+-- How far a written time may be off (rule W11): what is claimed of the text that is written for a stored time. The claims are types;
+-- proofs/Distance.antt has a proof of each, and proofs/DistanceExamples.antt computes that the bound is reached and what decides a
+-- tie. Definitions only.
 --
--- Whoever wants to be sure that this is what the request asks for reads these definitions:
---   writtenTime (Written)                         the text that is written for seconds and nanoseconds: the promise of `write_time`, and the text
---                                                 that writing and listing put (crates write_report, list_text: `timed`)
+-- Whoever wants to be sure that this is what the rule asks for reads these definitions:
+--   writtenTime (Written)                         the text that is written for seconds and nanoseconds: the promise of `write_time`,
+--                                                 and the text that writing and listing put (crates write_report, list_text: `timed`)
 --   floatSum, thousandthsOf (Written)             the float sum, and its nearest thousandth, which that text spells
 --   whole, fraction (crate time: Time)            what stands before a text's point, and what behind it
 --   allDigits, value (crate digits: Digits)       whether bytes are digits; the number that digits stand for
@@ -20,7 +20,7 @@ use Rattle.time.specs.Time.{whole, fraction, timeOf}
 use Rattle.time_text.specs.Written.{floatSum, thousandthsOf, writtenTime}
 
 -- ---- what the claims speak of
--- "stored times under 8,388,608 seconds"
+-- stored times (rule V4)
 pub record InRange (secs nanos : ℕ) : Type 0 where
   pub seconds : secs < 8388608
   pub nanoseconds : nanos < 1000000000
@@ -72,9 +72,9 @@ pub record Distance : Type 0 where
   -- A. The text is digits, a point and three digits, and its number of thousandths is the one nearest to the float sum.
   pub form : (secs nanos : ℕ) → Form (writtenTime secs nanos)
   pub counts : (secs nanos : ℕ) → InRange secs nanos → thousandthsIn (writtenTime secs nanos) ≡ thousandthsOf (floatSum secs nanos)
-  -- B. "the written time differs from the stored one by at most 500,000 nanoseconds"
+  -- B. The written time is off by half a millisecond at most (rule W11).
   pub bounded : (secs nanos : ℕ) → InRange secs nanos → Within 500000 (writtenNanoseconds secs nanos) (storedNanoseconds secs nanos)
-  -- B. "and by nothing if the stored time is a whole number of milliseconds"
+  -- B. Whole milliseconds are written exactly (rule W11).
   pub exact : (secs nanos : ℕ) → InRange secs nanos → nanos % 1000000 ≡ 0 → writtenNanoseconds secs nanos ≡ storedNanoseconds secs nanos
   -- C. The sum of n written times differs from the sum of the stored ones by at most n times as much.
   pub summed : (times : List (ℕ × ℕ)) → AllInRange times → Within (length times * 500000) (writtenSum times) (storedSum times)

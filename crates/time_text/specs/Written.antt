@@ -1,5 +1,4 @@
--- What a time is written as: "the float sum, seconds as a float plus nanoseconds divided by 1,000,000,000, at the nearest thousandth
--- of the float's exact value, ties to the even digit" (document 01, Writing). A float is a value of `lib.Ieee`. Definitions only.
+-- What a time is written as (rule W10). A float is a value of `lib.Ieee`. Definitions only.
 use Prim.Native.Nat.{ℕ, _*_, _/_, _^_}
 use mathlib.Core.List.{List, _∷_, _++_}
 use mathlib.Core.Bool.{Bool, false, cond, not, _&&_}
@@ -16,11 +15,11 @@ use Rattle.digits.specs.Digits.{decimal, lastDigits}
 abbrev pub billion : Float
 billion = fin false 1953125 (pos 9)
 
--- "the float sum, seconds as a float plus nanoseconds divided by 1,000,000,000"
+-- rule W10
 unfoldable pub floatSum : ℕ → ℕ → Float
 floatSum secs nanos = add binary64 (ofInt binary64 (pos secs)) (div binary64 (ofInt binary64 (pos nanos)) billion)
 
--- "the nearest thousandth of the float's exact value, ties to the even digit": the whole number nearest to 1000 * m * 2 ^ e
+-- the whole number nearest to 1000 * m * 2 ^ e, and of two equally near the even one (rule W10)
 unfoldable pub thousandthsOf : Float → ℕ
 thousandthsOf nan = 0
 thousandthsOf (inf s) = 0
@@ -36,6 +35,7 @@ small (fin s m e) = not s && ltb (m * up e) (2 ^ 53 * down e)
 unfoldable pub timeText : ℕ → List ℕ
 timeText ms = decimal (ms / 1000) ++ (0x2E ∷ lastDigits 3 ms)
 
+-- rule W10
 abbrev pub writtenTime : ℕ → ℕ → List ℕ
 writtenTime secs nanos = timeText (thousandthsOf (floatSum secs nanos))
 

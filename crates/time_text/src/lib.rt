@@ -7,7 +7,7 @@ ghost use Rattle.area.specs.Area.{storedAnswer, placing, laid};
 ghost use Rattle.time_text.specs.Written.{floatSum, small, thousandthsOf, writtenTime, count, whole};
 ghost use Rattle.refusal.specs.declared.Cause.the-variants as cause;
 
-// Seconds as a float plus nanoseconds divided by a billion.
+// Seconds as a float plus nanoseconds divided by a billion (rule W10).
 pub fn float_sum(secs: u32, nanos: u32) -> f64
     ensures { λ r. ⌜ r ≡ floatSum secs nanos ⌝ }
 {
@@ -40,14 +40,14 @@ fn nearest_thousandth(x: f64) -> u64
     whole + whole % 2
 }
 
-// The written time in thousandths of a second.
+// The written time in thousandths of a second (rule W10).
 pub fn thousandths(secs: u32, nanos: u32) -> u64
     ensures { λ r. ⌜ r ≡ thousandthsOf (floatSum secs nanos) ⌝ }
 {
     nearest_thousandth(float_sum(secs, nanos))
 }
 
-// Puts a time at the front of out: seconds, a point, and three digits.
+// Puts a time at the front of out: seconds, a point, and three digits (rules W10 and W11).
 pub fn write_time(out: &mut [u8], secs: u32, nanos: u32) -> Stored
     ensures { λ r. ⌜ storedAnswer cause.OutputFull r ≡ placing cause.OutputFull (length (now (out .entry))) (writtenTime secs nanos) ⌝ }
     ensures { λ r. ⌜ now (out .exit) ≡ laid (now (out .entry)) (writtenTime secs nanos) ⌝ }

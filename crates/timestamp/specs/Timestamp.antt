@@ -25,7 +25,7 @@ monthOf s = value 10 (part 5 2 s)
 abbrev pub dayOf : List ℕ → ℕ
 dayOf s = value 10 (part 8 2 s)
 
--- dates that there are, in every year from 0000 to 9999
+-- dates that there are, in every year from 0000 to 9999 (rule V6)
 abbrev pub dateTests : List ℕ → List Bool
 dateTests s =
     isNumber 10 9999 (part 0 4 s) ∷ eqb (getD s 4 0) 0x2D
@@ -44,7 +44,7 @@ minuteOf s = value 10 (part 14 2 s)
 abbrev pub secondOf : List ℕ → ℕ
 secondOf s = value 10 (part 17 2 s)
 
--- "`T` `t`", "second 60 refused"
+-- `t` is taken (rule V5), second 60 isn't (rule V7)
 abbrev pub clockTests : List ℕ → List Bool
 clockTests s =
     (eqb (getD s 10 0) 0x54 || eqb (getD s 10 0) 0x74)
@@ -58,13 +58,14 @@ abbrev pub digitRun : List ℕ → ℕ
 digitRun [] = 0
 digitRun (b ∷ s) = cond (isDigit 10 b) (suc (digitRun s)) 0
 
--- time-secfrac = "." 1*DIGIT, which t may begin with: "up to nine fraction digits"
+-- time-secfrac = "." 1*DIGIT, which t may begin with; nine digits at most (rule V7)
 abbrev pub hasPoint : List ℕ → Bool
 hasPoint t = eqb (getD t 0 0) 0x2E
 
 unfoldable pub places : List ℕ → ℕ
 places t = cond (hasPoint t) (digitRun (drop 1 t)) 0
 
+-- rule V7
 abbrev pub fractionTests : List ℕ → List Bool
 fractionTests t = (not (hasPoint t) || leb 1 (places t)) ∷ leb (places t) 9 ∷ []
 
@@ -74,10 +75,11 @@ nanosOf t = billionths (part 1 (places t) t)
 abbrev pub fractionWidth : List ℕ → ℕ
 fractionWidth t = cond (hasPoint t) (places t + 1) 0
 
--- time-offset = "Z" / time-numoffset, time-numoffset = ("+" / "-") time-hour ":" time-minute, which z is: "`Z` `z`"
+-- time-offset = "Z" / time-numoffset, time-numoffset = ("+" / "-") time-hour ":" time-minute, which z is; `z` is taken (rule V5)
 unfoldable pub isUtc : List ℕ → Bool
 isUtc z = eqb (length z) 1 && (eqb (getD z 0 0) 0x5A || eqb (getD z 0 0) 0x7A)
 
+-- rule V8
 abbrev pub offsetTests : List ℕ → List Bool
 offsetTests z =
     eqb (length z) 6 ∷ (eqb (getD z 0 0) 0x2B || eqb (getD z 0 0) 0x2D)
@@ -87,7 +89,7 @@ offsetTests z =
 abbrev pub awayOf : List ℕ → ℕ
 awayOf z = value 10 (part 1 2 z) * 60 + value 10 (part 4 2 z)
 
--- minutes east of UTC, and 1439: "`-00:00` is `+00:00`"
+-- minutes east of UTC, and 1439; the sign of 00:00 doesn't count (rule V8)
 abbrev pub offsetOf : List ℕ → ℕ
 offsetOf z = cond (isUtc z) 1439 (cond (eqb (getD z 0 0) 0x2B) (1439 + awayOf z) (1439 - awayOf z))
 
@@ -98,11 +100,13 @@ tail s = drop 19 s
 abbrev pub zone : List ℕ → List ℕ
 zone s = drop (fractionWidth (tail s)) (tail s)
 
+-- rule V5
 abbrev pub timestampTests : List ℕ → List Bool
 timestampTests s =
     leb 20 (length s) ∷ all (dateTests s) ∷ all (clockTests s) ∷ all (fractionTests (tail s))
     ∷ (isUtc (zone s) || all (offsetTests (zone s))) ∷ []
 
+-- rule V5
 unfoldable pub isTimestamp : List ℕ → Bool
 isTimestamp s = all (timestampTests s)
 
@@ -123,14 +127,16 @@ timestampAnswer (Is m) = gives m
 timestampAnswer NotUtf8 = refuses cause.NotUtf8
 timestampAnswer Bad = refuses cause.BadTimestamp
 
+-- rule V1
 unfoldable pub timestampOf : List ℕ → Answer Moment
 timestampOf s = cond (utf8 s) (cond (isTimestamp s) (gives (momentOf s)) (refuses cause.BadTimestamp)) (refuses cause.NotUtf8)
 
--- "timestamps in the ranges above"
+-- the ranges of rules V6 to V8
 abbrev pub rangeTests : Moment → List Bool
 rangeTests m =
     leb (m .year) 9999 ∷ leb 1 (m .month) ∷ leb (m .month) 12 ∷ leb 1 (m .day) ∷ leb (m .day) (monthLength (m .year) (m .month))
     ∷ leb (m .hour) 23 ∷ leb (m .minute) 59 ∷ leb (m .second) 59 ∷ ltb (m .nanos) 1000000000 ∷ leb (m .offset) 2878 ∷ []
 
+-- rule B10
 unfoldable pub inRange : Moment → Bool
 inRange m = all (rangeTests m)

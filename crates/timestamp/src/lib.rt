@@ -33,6 +33,7 @@ enum Form {
     Wrong,
 }
 
+// By rule V5.
 fn form_of(s: &[u8]) -> Form
     ensures { λ r. ⌜ r ≡ formOf (now (s .entry)) ⌝ }
 {
@@ -64,7 +65,7 @@ fn form_of(s: &[u8]) -> Form
     })
 }
 
-// A timestamp is ASCII, so only what is none has to be tested for UTF-8.
+// A timestamp is ASCII, so only what is none has to be tested for UTF-8 (rule V1).
 pub fn timestamp_of(s: &[u8]) -> Timestamp
     ensures { λ r. ⌜ timestampAnswer r ≡ timestampOf (now (s .entry)) ⌝ }
 {
@@ -78,6 +79,7 @@ pub fn timestamp_of(s: &[u8]) -> Timestamp
     Timestamp::Is(m)
 }
 
+// By rule B10.
 pub fn in_range(m: Moment) -> bool
     ensures { λ r. ⌜ r ≡ inRange m ⌝ }
 {

@@ -33,6 +33,7 @@ pub enum Zone {
     NoZone,
 }
 
+// By rule V6.
 pub fn date_of(s: &[u8]) -> Date
     requires { ⌜ 20 ≤ length (now s) ⌝ }
     ensures { λ r. ⌜ r ≡ dateOf (now (s .entry)) ⌝ }
@@ -50,6 +51,7 @@ pub fn date_of(s: &[u8]) -> Date
     Date::NoDate
 }
 
+// By rule V7.
 pub fn clock_of(s: &[u8]) -> Clock
     requires { ⌜ 20 ≤ length (now s) ⌝ }
     ensures { λ r. ⌜ r ≡ clockOf (now (s .entry)) ⌝ }
@@ -80,6 +82,7 @@ fn digit_run(s: &[u8]) -> usize
     i
 }
 
+// By rule V7.
 pub fn fraction_of(t: &[u8]) -> Fraction
     requires { ⌜ 1 ≤ length (now t) ⌝ }
     ensures { λ r. ⌜ r ≡ fractionOf (now (t .entry)) ⌝ }
@@ -99,6 +102,7 @@ pub fn fraction_of(t: &[u8]) -> Fraction
     Fraction::Of(nanos as u32, end)
 }
 
+// By rule V8.
 pub fn zone_of(z: &[u8]) -> Zone
     ensures { λ r. ⌜ r ≡ zoneOf (now (z .entry)) ⌝ }
 {

@@ -64,6 +64,7 @@ fn good_records(texts: &[u8], words: &[u32], limit: usize) -> bool
     tree_order::may_stop(state) & tree_slots::is_zero(&words[at..limit])
 }
 
+// By rules M8 and M9.
 pub fn is_layout(records: &[u32], text: &[u8]) -> bool
     ensures { λ r. ⌜ r ≡ layout (now (records .entry)) (now (text .entry)) ⌝ }
 {

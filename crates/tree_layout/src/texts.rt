@@ -31,6 +31,7 @@ fn is_zero(s: &[u8]) -> bool
     true
 }
 
+// By rule M10.
 pub fn is_good(s: &[u8], fill: usize) -> bool
     requires { ⌜ fill ≡ length (filled (now s)) ⌝ }
     ensures { λ r. ⌜ r ≡ goodText (now (s .entry)) ⌝ }

@@ -41,6 +41,7 @@ fn in_range(r: &[u32]) -> bool
     })
 }
 
+// By rule M10.
 pub fn moment_slot(r: &[u32]) -> bool
     requires { ⌜ 32 ≤ length (now r) ⌝ }
     ensures { λ b. ⌜ b ≡ momentSlot (now (r .entry)) ⌝ }
@@ -51,6 +52,7 @@ pub fn moment_slot(r: &[u32]) -> bool
     is_zero(&r[word::TIMESTAMP..word::TIME])
 }
 
+// By rule M10.
 pub fn time_slot(r: &[u32]) -> bool
     requires { ⌜ 32 ≤ length (now r) ⌝ }
     ensures { λ b. ⌜ b ≡ timeSlot (now (r .entry)) ⌝ }

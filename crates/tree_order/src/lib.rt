@@ -61,7 +61,7 @@ pub fn may_stop(o: State) -> bool
     (1 <= o.level) & may_end(o)
 }
 
-// A live record may stand here.
+// A live record may stand here (rule M10).
 pub fn may_follow(o: State, r: &[u32]) -> bool
     requires { ⌜ 32 ≤ length (now r) ⌝ }
     ensures { λ b. ⌜ b ≡ tree.mayFollow (stateOf o) (now (r .entry)) ⌝ }

@@ -296,10 +296,11 @@ pub record Encoding : Type 0 where
 unfoldable pub encode : Report → Encoding
 encode r = record { records = recordsAt 0 (rowsOf r); texts = storedIn (cellsIn (rowsOf r)) }
 
--- areas of so many words or bytes, zero behind the encoding
+-- areas of so many words or bytes, zero behind the encoding (rule M9)
 unfoldable pub wordsOf : Report → ℕ → List ℕ
 wordsOf r n = laid (zeros n) (joined (encode r .records))
 
+-- rule M9
 unfoldable pub textOf : Report → ℕ → List ℕ
 textOf r n = laid (zeros n) (encode r .texts)
 
@@ -329,7 +330,7 @@ fitsRow r =
     && (fitsMoment (r .timestamp) && fitsTime (r .time))
 
 -- its records, one for each suite, case, status element, property, extra and the report, and its texts fit the areas
--- and the limits; its texts, times and timestamps are such as a layout may have
+-- and the limits; its texts, times and timestamps are such as a layout may have (rule M9)
 unfoldable pub fits : Report → ℕ → ℕ → Bool
 fits r words bytes =
     let rows = rowsOf r in

@@ -17,7 +17,7 @@ use Rattle.tree_status.specs.declared.Tally.{Tally}
 use Rattle.tree_status.specs.Status.{noStatus, tallied, ruled}
 use Rattle.tree_report.specs.Fields.{kindOf, live, isReport, isSuite, isCase, isSuiteProperty, isCaseProperty, isSuiteExtra, isCaseExtra, hasBit, momentOf}
 
--- "of longer areas only that much is used"
+-- beyond the limits an area isn't used (rule M1)
 abbrev pub usedWords : List ℕ → List ℕ
 usedWords words = take mostWords words
 
@@ -34,7 +34,7 @@ abbrev pub filled : List ℕ → List ℕ
 filled [] = []
 filled (b ∷ s) = cond (eqb b 0) [] (b ∷ filled s)
 
--- "a layout's texts are UTF-8 without filtered characters"; zero bytes behind them
+-- UTF-8 without filtered characters (rule M10); zero bytes behind them
 unfoldable pub goodText : List ℕ → Bool
 goodText text = utf8 (filled text) && (unfiltered (filled text) && allZero (drop (length (filled text)) text))
 
@@ -55,10 +55,11 @@ slot present good absent = cond present good absent
 abbrev pub textSlot : List ℕ → List ℕ → ℕ → ℕ → Bool
 textSlot texts r k o = slot (hasBit k r) (goodTextAt texts r o) (zeroAt r o 2)
 
--- "its times and timestamps in the ranges above"
+-- in their ranges (rule M10)
 abbrev pub momentSlot : List ℕ → Bool
 momentSlot r = slot (hasBit bit.timestamp r) (inRange (momentOf r)) (zeroAt r word.timestamp 8)
 
+-- rule M10
 abbrev pub timeSlot : List ℕ → Bool
 timeSlot r = slot (hasBit bit.time r) (leb (getD r word.seconds 0) 8388607 && leb (getD r word.timeNanos 0) 999999999) (zeroAt r word.time 2)
 
@@ -167,7 +168,7 @@ nothing = record { level = 0; extras = false; suiteList = 0; caseList = 0; tally
 abbrev pub over : ℕ → ℕ
 over n = cond (eqb n 1) 2 n
 
--- an open case may end: its status elements are ruled, and only a failure or error without runs has the flaky bit
+-- an open case may end: its status elements are ruled, and only a failure or error without runs has the flaky bit (rule M10)
 unfoldable pub mayEnd : Open → Bool
 mayEnd o = ruled (o .tally) && (not (o .flagged) || eqb (o .tally .flaky + o .tally .reruns) 0)
 
@@ -210,6 +211,7 @@ recordsFrom (suc n) words = cond (eqb (getD words 0 0) 0) [] (take 32 words ∷ 
 unfoldable pub recordsOf : List ℕ → List (List ℕ)
 recordsOf words = recordsFrom (length (usedWords words) / 32) words
 
+-- rule M8
 unfoldable pub layout : List ℕ → List ℕ → Bool
 layout words text =
     let rs = recordsOf words in

@@ -55,12 +55,12 @@ module _ (text : List ℕ) where
         description = description text r;
       }
 
-  -- the kind of a failure's or error's runs: by the first of them, and without any by the flaky bit
+  -- the kind of a failure's or error's runs: by the first of them, and without any by the flaky bit (rule S11)
   abbrev pub kindOfRuns : List ℕ → List (List ℕ) → FlakyOrRerun
   kindOfRuns main [] = cond (hasBit bit.flaky main) flaky rerun
   kindOfRuns main (r ∷ rs) = cond (leb (kindOf r) kind.flakyError) flaky rerun
 
-  -- no main is success
+  -- no main is success (rule S10); a failure or error has the runs (rule S11)
   abbrev pub statusOf : List (List ℕ) → List (List ℕ) → TestCaseStatus
   statusOf [] runs = success (map runOf runs)
   statusOf (m ∷ ms) runs =
@@ -109,6 +109,6 @@ module _ (text : List ℕ) where
         suites = map suiteOf (branches isSuite rs);
       })
 
--- the report of two areas; there is one wherever they are a layout
+-- the report of two areas; there is one wherever they are a layout (rule M8)
 unfoldable pub reportOf : List ℕ → List ℕ → Option Report
 reportOf words text = reportFrom (usedText text) (only live (recordsOf words))

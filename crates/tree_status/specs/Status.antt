@@ -1,4 +1,4 @@
--- Document 01, "Status rule", as a function of what a case's own status elements come to. Definitions only.
+-- The status rule (rules S6 to S9), as a function of what a case's own status elements come to. Definitions only.
 use Prim.Native.Nat.{ℕ, suc, _+_, _≤_}
 use mathlib.Core.Bool.{Bool, cond, not, _&&_}
 use lib.Dec.{leb, eqb, ltb}
@@ -8,14 +8,14 @@ use Rattle.tree_status.specs.declared.Tally.{Tally}
 abbrev pub noStatus : Tally
 noStatus = record { mains = 0; main = 0; flaky = 0; reruns = 0 }
 
--- one status element more, by its kind: up to `skipped` mains, up to `flakyError` flaky runs, then reruns
+-- one status element more, by its kind: up to `skipped` mains, up to `flakyError` flaky runs, then reruns (rules S1 and S5)
 unfoldable pub tallied : Tally → ℕ → Tally
 tallied t k =
     cond (leb k kind.skipped) (record { mains = suc (t .mains); main = k; flaky = t .flaky; reruns = t .reruns })
     (cond (leb k kind.flakyError) (record { mains = t .mains; main = t .main; flaky = suc (t .flaky); reruns = t .reruns })
     (record { mains = t .mains; main = t .main; flaky = t .flaky; reruns = suc (t .reruns) }))
 
--- "Refused (8)", by request 5 20: "two of the mains [..]; reruns [..] alone; `skipped` with a flaky [..] or rerun; flaky and rerun together"
+-- at most one main, no reruns without one, nothing beside `skipped`, one kind of runs (rules S6 to S9); else 20
 unfoldable pub ruled : Tally → Bool
 ruled t =
     leb (t .mains) 1

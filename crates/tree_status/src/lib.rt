@@ -1,4 +1,4 @@
-// The status rule, and the tally of a case's status elements that it goes by.
+// The status rule (rules S6 to S9), and the tally of a case's status elements that it goes by.
 use tree_record::kind::FLAKY_ERROR;
 use tree_record::kind::SKIPPED;
 ghost use mathlib.Core.Path.{_≡_};
@@ -23,7 +23,7 @@ pub fn no_status() -> Tally
     }
 }
 
-// One status element more. The counts are below the top of a word.
+// One status element more (rules S1 and S5). The counts are below the top of a word.
 pub fn tallied(t: Tally, kind: u32) -> Tally
     requires { ⌜ rule.Few 4294967294 t ⌝ }
     ensures { λ r. ⌜ r ≡ rule.tallied t kind ⌝ }
@@ -52,7 +52,7 @@ pub fn tallied(t: Tally, kind: u32) -> Tally
     }
 }
 
-// The status rule.
+// The status rule (rules S6 to S9).
 pub fn is_ruled(t: Tally) -> bool
     ensures { λ r. ⌜ r ≡ rule.ruled t ⌝ }
 {

@@ -6,7 +6,7 @@ use lib.Dec.{leb, eqb}
 use Rattle.utf8.specs.Characters.{chars, joined, scalar}
 use Rattle.utf8.specs.Utf8.{utf8}
 
--- White_Space of Unicode's PropList.txt
+-- White_Space of Unicode's PropList.txt (rule X10)
 abbrev pub white : ℕ → Bool
 white c =
     (leb 0x09 c && leb c 0x0D) || eqb c 0x20 || eqb c 0x85 || eqb c 0xA0 || eqb c 0x1680 || (leb 0x2000 c && leb c 0x200A) || eqb c 0x2028 || eqb c 0x2029 || eqb c 0x202F || eqb c 0x205F || eqb c 0x3000
@@ -27,6 +27,6 @@ abbrev pub noEnd : List (List ℕ) → List (List ℕ)
 noEnd [] = []
 noEnd (c ∷ cs) = cond (blank c && empty (noEnd cs)) [] (c ∷ noEnd cs)
 
--- "Unicode White_Space trimmed at both ends"
+-- at both ends (rule X10)
 abbrev pub trimmed : List ℕ → List ℕ
 trimmed s = joined (noEnd (noStart (chars s)))

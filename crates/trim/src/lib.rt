@@ -78,6 +78,7 @@ fn end_of(s: &[u8]) -> usize
     to
 }
 
+// By rule X10.
 pub fn trim(s: &[u8]) -> &[u8]
     ensures { λ r. ⌜ now r ≡ trimmed (now (s .entry)) ⌝ }
 {

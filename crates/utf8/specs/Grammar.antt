@@ -26,7 +26,7 @@ pub data Char : List ℕ → Type 0 where
   four-f1 : {a b c d : ℕ} → In 0xF1 0xF3 a → Tail b → Tail c → Tail d → Char (a ∷ b ∷ c ∷ d ∷ [])
   four-f4 : {a b c d : ℕ} → In 0xF4 0xF4 a → In 0x80 0x8F b → Tail c → Tail d → Char (a ∷ b ∷ c ∷ d ∷ [])
 
--- UTF8-octets = *( UTF8-char )
+-- UTF8-octets = *( UTF8-char ), rule X2
 pub data Text : List ℕ → Type 0 where
   none : Text []
   some : {c s : List ℕ} → Char c → Text s → Text (c ++ s)

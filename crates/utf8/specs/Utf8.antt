@@ -31,6 +31,7 @@ ok [] (suc n) lo hi = false
 ok (b ∷ s) zero lo hi = ok s (need b) (low b) (high b)
 ok (b ∷ s) (suc n) lo hi = within lo hi b && ok s n 0x80 0xBF
 
+-- rule X2
 abbrev pub utf8 : List ℕ → Bool
 utf8 s = ok s 0 0x80 0xBF
 

@@ -50,7 +50,7 @@ pub fn high_of(b: u8) -> u8
     0xbf
 }
 
-// One loop over the bytes: k bytes of a character are still to come, the next from lo to hi.
+// By rule X2, in one loop over the bytes: k bytes of a character are still to come, the next from lo to hi.
 pub fn is_utf8(s: &[u8]) -> bool
     ensures { λ r. ⌜ r ≡ utf8 (now (s .entry)) ⌝ }
 {

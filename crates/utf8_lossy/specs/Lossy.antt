@@ -44,6 +44,7 @@ lossyFrom [] k = []
 lossyFrom (b ∷ s) zero = partText (b ∷ s) ++ lossyFrom s (behind b s)
 lossyFrom (b ∷ s) (suc k) = lossyFrom s k
 
+-- rule B6
 abbrev pub lossy : List ℕ → List ℕ
 lossy s = lossyFrom s 0
 

@@ -15,7 +15,7 @@ use Rattle.uuid.specs.declared.Form.{Form}
 use Rattle.uuid.specs.declared.Form.the-variants.{Right, Wrong}
 use Rattle.refusal.specs.declared.Cause.the-variants as cause
 
--- "36 characters, hyphenated": UUID = 4hexOctet "-" 2hexOctet "-" 2hexOctet "-" 2hexOctet "-" 6hexOctet
+-- UUID = 4hexOctet "-" 2hexOctet "-" 2hexOctet "-" 2hexOctet "-" 6hexOctet, which are 36 characters (rule V9)
 abbrev pub uuidTests : List ℕ → List Bool
 uuidTests s =
     eqb (length s) 36
@@ -23,6 +23,7 @@ uuidTests s =
     ∷ allDigits 16 (part 0 8 s) ∷ allDigits 16 (part 9 4 s) ∷ allDigits 16 (part 14 4 s) ∷ allDigits 16 (part 19 4 s) ∷ allDigits 16 (part 24 12 s)
     ∷ []
 
+-- rule V9
 unfoldable pub isUuid : List ℕ → Bool
 isUuid s = all (uuidTests s)
 
@@ -43,5 +44,6 @@ uuidAnswer (Is w) = gives w
 uuidAnswer NotUtf8 = refuses cause.NotUtf8
 uuidAnswer Bad = refuses cause.BadUuid
 
+-- rule V1
 unfoldable pub uuidOf : List ℕ → Answer Words
 uuidOf s = cond (utf8 s) (cond (isUuid s) (gives (wordsOf s)) (refuses cause.BadUuid)) (refuses cause.NotUtf8)

@@ -21,6 +21,7 @@ enum Form {
     Wrong,
 }
 
+// By rule V9.
 fn form_of(s: &[u8]) -> Form
     ensures { λ r. ⌜ r ≡ formOf (now (s .entry)) ⌝ }
 {
@@ -47,7 +48,7 @@ fn form_of(s: &[u8]) -> Form
     Form::Wrong
 }
 
-// A UUID is ASCII, so only what is none has to be tested for UTF-8.
+// A UUID is ASCII, so only what is none has to be tested for UTF-8 (rule V1).
 pub fn uuid_of(s: &[u8]) -> Uuid
     ensures { λ r. ⌜ uuidAnswer r ≡ uuidOf (now (s .entry)) ⌝ }
 {

@@ -1,4 +1,4 @@
--- Document 01, "Writing" and "Seventeen refusals": what writing answers and leaves in the three areas. Definitions only.
+-- What writing answers and leaves in the three areas (rules W13 and F13). Definitions only.
 use Prim.Native.Nat.{ℕ, _/_}
 use mathlib.Core.List.{List, []}
 use mathlib.Core.Bool.{cond}
@@ -32,7 +32,7 @@ eventsOf words text = writtenOr (reportOf words text)
 unfoldable pub tableOf : List ℕ → List ℕ → Table
 tableOf words text = laidOut (eventsOf words text)
 
--- 15, "not a layout by docs/TREE.md", then 16, "output area too short", of so many words, words and bytes
+-- 15: not a layout, then 16: areas of so many words, words and bytes too short; any layout is written (rules W13 and W14)
 unfoldable pub writingAnswer : List ℕ → List ℕ → ℕ → ℕ → ℕ → Answer Sizes
 writingAnswer words text events attributes bytes =
     let t = tableOf words text in
@@ -49,11 +49,12 @@ outcomeOf (refuses c) = refused (late c)
 abbrev pub wrote : List ℕ → List ℕ → ℕ → ℕ → ℕ → Outcome Sizes
 wrote words text events attributes bytes = outcomeOf (writingAnswer words text events attributes bytes)
 
--- the areas afterwards: the table with zeros behind it; "Result areas [..] become zero" at a refusal
+-- the areas afterwards: the table with zeros behind it, or zeros throughout at a refusal (rule F13)
 abbrev pub leftFor : Answer Sizes → ℕ → List ℕ → List ℕ
 leftFor (gives s) n f = laid (zeros n) f
 leftFor (refuses k) n f = zeros n
 
+-- rule W13
 unfoldable pub eventsLeft : List ℕ → List ℕ → ℕ → ℕ → ℕ → List ℕ
 eventsLeft words text events attributes bytes = leftFor (writingAnswer words text events attributes bytes) events (tableOf words text .events)
 

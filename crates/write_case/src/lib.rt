@@ -33,7 +33,7 @@ fn is_childless(r: &[u32], words: &[u32]) -> bool
     (property == 0) & (element == 0)
 }
 
-// A case's tag with name, classname, assertions, timestamp and time, and its extras.
+// A case's tag with name, classname, assertions, timestamp and time, and its extras (rule W2).
 fn put_opening(
     events: &mut [u32],
     attributes: &mut [u32],
@@ -96,6 +96,7 @@ fn put_inside(
     put_elements(events, attributes, bytes, properties, text, words)
 }
 
+// By rule W3.
 pub fn put_case(
     events: &mut [u32],
     attributes: &mut [u32],

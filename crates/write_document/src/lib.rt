@@ -47,7 +47,7 @@ fn put_head(
     )
 }
 
-// The report's End, Eof and Indent.
+// The report's End, Eof and Indent (rule W7).
 fn put_tail(events: &mut [u32], bytes: &mut [u8], k: Marks) -> Marks
     ensures { λ m. ⌜ ((at : List ℕ) → Wrote (kept k (now (events .entry)) at (now (bytes .entry))) tailItems (kept m (now (events .exit)) at (now (bytes .exit)))) ⌝ }
 {
@@ -72,7 +72,7 @@ fn put_whole(
     put_tail(events, bytes, suites)
 }
 
-// The report is the first live record; there is one in every layout.
+// By rule W1. The report is the first live record; there is one in every layout.
 pub fn put_document(
     events: &mut [u32],
     attributes: &mut [u32],

@@ -26,7 +26,7 @@ ghost use Rattle.write_items.specs.inside.Case.{propertiesItems, closingItems, 
 // The level of what belongs to a case (write_walk).
 const CASE: u32 = 2;
 
-// The list of properties, only where there are any: those of one kind, which is a suite's or a case's.
+// The list of properties, only where there are any: those of one kind, which is a suite's or a case's (rule W4).
 pub fn put_properties(
     events: &mut [u32],
     attributes: &mut [u32],
@@ -127,7 +127,7 @@ fn put_main(
     )
 }
 
-// The main and then its runs; without a main the runs are flaky.
+// The main and then its runs; without a main the runs are flaky (rule W6).
 pub fn put_elements(
     events: &mut [u32],
     attributes: &mut [u32],

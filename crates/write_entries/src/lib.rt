@@ -63,7 +63,7 @@ pub fn put_bare(events: &mut [u32], k: Marks, kind: u32) -> Marks
     store_event(events, k, from, kind, 0)
 }
 
-// "declaration as Other"
+// An Other (rule W1).
 pub fn put_declaration(events: &mut [u32], bytes: &mut [u8], k: Marks) -> Marks
     ensures { λ m. ⌜ ((at : List ℕ) → Wrote (kept k (now (events .entry)) at (now (bytes .entry))) (entry event.other (names.bytes "xml version=\"1.0\" encoding=\"UTF-8\"") 0 ∷ []) (kept m (now (events .exit)) at (now (bytes .exit)))) ⌝ }
 {
@@ -89,7 +89,7 @@ pub fn put_attribute(
     store_attribute(attributes, k, middle, to)
 }
 
-// An extra: its key isn't escaped (serialize.rs pushes it as it is).
+// An extra (rule W8): its key isn't escaped (serialize.rs pushes it as it is).
 pub fn put_extra(
     attributes: &mut [u32],
     bytes: &mut [u8],

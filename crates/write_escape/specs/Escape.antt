@@ -1,5 +1,5 @@
--- Text and values as they are written: they "escape `& < > ' "`" (document 01, Writing), by the references that XML 1.0, section 4.6,
--- predefines. Definitions only.
+-- Text and values as they are written: five characters become the references that XML 1.0, section 4.6, predefines (rule W8).
+-- Definitions only.
 use Prim.Native.Nat.{ℕ}
 use mathlib.Core.List.{List, [], _∷_}
 use mathlib.Core.Bool.{Bool, true, cond, not, _&&_, _||_}
@@ -16,6 +16,7 @@ written b =
     (cond (eqb b 0x27) (bytes "&apos;")
     (cond (eqb b 0x22) (bytes "&quot;") (b ∷ [])))))
 
+-- rule W8
 abbrev pub escaped : List ℕ → List ℕ
 escaped s = spelled written s
 

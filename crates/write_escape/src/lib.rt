@@ -28,7 +28,7 @@ fn put_byte(out: &mut [u8], b: u8) -> Stored
     }
 }
 
-// Puts s, escaped, at the front of out.
+// Puts s, escaped, at the front of out (rule W8).
 pub fn escape_into(out: &mut [u8], s: &[u8]) -> Stored
     ensures { λ r. ⌜ storedAnswer cause.OutputFull r ≡ placing cause.OutputFull (length (now (out .entry))) (escaped (now (s .entry))) ⌝ }
     ensures { λ r. ⌜ now (out .exit) ≡ laid (now (out .entry)) (escaped (now (s .entry))) ⌝ }

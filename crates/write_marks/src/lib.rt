@@ -78,7 +78,7 @@ fn word(n: usize) -> u32
     0
 }
 
-// "a first attribute or start without count or length is 0"
+// 0 without length or count (rule W12).
 fn place(n: usize, at: usize) -> u32
     ensures { λ r. ⌜ (at ≤ 4294967295 → r ≡ laid.place n at) ⌝ }
 {
@@ -103,7 +103,7 @@ fn has_pair_room(attributes: usize, bytes: usize) -> bool
     (attributes < limit::ENTRIES) & (bytes <= limit::BYTES)
 }
 
-// An event whose bytes were put up to `to`, with so many attributes behind it.
+// An event whose bytes were put up to `to`, with so many attributes behind it (rule W12).
 pub fn store_event(events: &mut [u32], k: Marks, to: Stored, kind: u32, count: usize) -> Marks
     ensures { λ r. ⌜ ((at by by′ s : List ℕ) → Puts (filled (k .bytes) by) s (filled to by′) → Wrote (kept k (now (events .entry)) at by) (laid.entry kind s count ∷ []) (kept r (now (events .exit)) at by′)) ⌝ }
 {
@@ -128,7 +128,7 @@ pub fn store_event(events: &mut [u32], k: Marks, to: Stored, kind: u32, count: u
     event_more(k, to)
 }
 
-// An attribute whose key was put up to `middle`, and its value from there up to `to`.
+// An attribute whose key was put up to `middle`, and its value from there up to `to` (rule W12).
 pub fn store_attribute(attributes: &mut [u32], k: Marks, middle: Stored, to: Stored) -> Marks
     ensures { λ r. ⌜ ((ev by by′ by″ key value : List ℕ) → Puts (filled (k .bytes) by) key (filled middle by′) → Puts (filled middle by′) value (filled to by″) → Wrote (kept k ev (now (attributes .entry)) by) (laid.pair key value ∷ []) (kept r ev (now (attributes .exit)) by″)) ⌝ }
 {

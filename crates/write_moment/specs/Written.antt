@@ -1,5 +1,5 @@
--- A timestamp as it is written, by RFC 3339, section 5.6, always with a fraction and a numeric offset: "Timestamps truncate to three
--- digits" (document 01, Writing). Definitions only.
+-- A timestamp as it is written, by RFC 3339, section 5.6, always with a fraction, of which three digits are left, and a numeric
+-- offset (rule W9). Definitions only.
 use Prim.Native.Nat.{ℕ, _-_, _/_, _%_}
 use mathlib.Core.List.{List, _∷_, _++_}
 use mathlib.Core.Bool.{cond}
@@ -25,5 +25,6 @@ away offset = cond (ltb offset 1439) (1439 - offset) (offset - 1439)
 unfoldable pub offsetText : ℕ → List ℕ
 offsetText offset = sign offset ∷ lastDigits 2 (away offset / 60) ++ 0x3A ∷ lastDigits 2 (away offset % 60)
 
+-- rule W9
 unfoldable pub timestampText : Moment → List ℕ
 timestampText m = dateText m ++ 0x54 ∷ clockText m ++ offsetText (m .offset)

@@ -58,7 +58,7 @@ fn spell(m: Moment) -> [u8; 29]
     bytes
 }
 
-// Puts m at the front of out.
+// Puts m at the front of out (rule W9).
 pub fn write_timestamp(out: &mut [u8], m: Moment) -> Stored
     ensures { λ r. ⌜ storedAnswer cause.OutputFull r ≡ placing cause.OutputFull (length (now (out .entry))) (timestampText m) ⌝ }
     ensures { λ r. ⌜ now (out .exit) ≡ laid (now (out .entry)) (timestampText m) ⌝ }

@@ -1,5 +1,5 @@
--- Document 01, "Public listing", for the program that writes: it prints the table that its input's report is written as, in the form
--- of its input, or `(refused)`. Definitions only.
+-- What the program that writes prints: the table that its input's report is written as, in the form of its input, or `(refused)`
+-- (rules P2, P3 and P5). Definitions only.
 use Prim.Native.Nat.{ℕ}
 use mathlib.Core.List.{List}
 use mathlib.Core.Option.{Option, none, some}
@@ -11,14 +11,14 @@ use Rattle.write_table.specs.Laid.{Table}
 use Rattle.write_answer.specs.Answer.{Sizes, tableOf, writingAnswer}
 use Rattle.write_words.specs.Bytes.{tableBytes}
 
--- "The program's areas are a buffer each": 65,536 bytes or 16,384 words
+-- a buffer each: 65,536 bytes or 16,384 words (rule P3)
 abbrev pub bufferWords : ℕ
 bufferWords = 16384
 
 abbrev pub bufferBytes : ℕ
 bufferBytes = 65536
 
--- "Any refusal prints `(refused)`"
+-- `(refused)` where writing refuses (rule P5)
 abbrev pub answerBytes : Answer Sizes → Table → List ℕ
 answerBytes (gives s) t = tableBytes t
 answerBytes (refuses c) t = refusedText
@@ -27,15 +27,15 @@ answerBytes (refuses c) t = refusedText
 unfoldable pub treePrinted : (words text : List ℕ) → List ℕ
 treePrinted words text = answerBytes (writingAnswer words text bufferWords bufferWords bufferBytes) (tableOf words text)
 
--- "from the areas as reading left them [..], or `(refused)` if either call refuses"
+-- `(refused)` where reading refuses, and else by the areas as reading left them (rule P5)
 abbrev pub readPrinted : Read → List ℕ
 readPrinted r = behindReading (r .outcome) (treePrinted (r .words) (r .text))
 
--- "and so does input that is cut off or fills more than one buffer for events, attributes or source"
+-- an input that is no table gets `(refused)`, too (rule P2)
 unfoldable pub foundPrinted : Option input.Table → List ℕ
 foundPrinted none = refusedText
 foundPrinted (some t) = readPrinted (reading (t .events) (t .attributes) (t .source) bufferWords bufferBytes bufferBytes)
 
--- the whole: "more is ignored"
+-- the whole (rule P5); what stands behind the table is ignored (rule P1)
 abbrev pub programWrites : List ℕ → List ℕ
 programWrites s = foundPrinted (input.inputOf bufferWords bufferWords s)

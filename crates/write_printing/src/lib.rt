@@ -99,8 +99,8 @@ fn print_found(
     }
 }
 
-// What the program prints for the n bytes that it read: its buffers are here, so that their sizes are in the promise. Input and
-// output have room for three words, and a buffer each for events, attributes and bytes; "more is ignored".
+// What the program prints for the n bytes that it read (rules P3 and P5): its buffers are here, so that their sizes are in the
+// promise. Input and output have room for three words, and a buffer each for events, attributes and bytes; what follows is ignored.
 pub fn print_input(input: &[u8; 196620], n: usize, out: &mut [u8; 196620]) -> usize
     ensures out { λ _. ⌜ now (out .exit) ≡ laid (zeros 196620) (programWrites (take n (now (input .entry)))) ⌝ }
     ensures count { λ r. ⌜ r ≡ min 196620 (length (programWrites (take n (now (input .entry))))) ⌝ }

@@ -1,4 +1,4 @@
--- Document 01, "Writing": the events of a report, in the order of serialize.rs. Definitions only.
+-- The events of a report, in the order of serialize.rs (rules W1 to W8). Definitions only.
 use Prim.Native.Nat.{ℕ, _+_}
 use mathlib.Core.List.{List, [], _∷_, _++_, map}
 use mathlib.Core.Bool.{Bool, true, false, cond}
@@ -21,7 +21,7 @@ use Rattle.tree_report.specs.Report as report
 abbrev pub attribute : List ℕ → List ℕ → Attribute
 attribute key value = record { good = true; key = key; value = value }
 
--- "Text and values escape"
+-- escaped (rule W8)
 abbrev pub textual : List ℕ → report.Text → List Attribute
 textual key t = attribute key (escaped t) ∷ []
 
@@ -39,7 +39,7 @@ stamped m = optional (λ (x : Moment). attribute (bytes "timestamp") (timestampT
 abbrev pub timed : Option Duration → List Attribute
 timed d = optional (λ (x : Duration). attribute (bytes "time") (writtenTime (x .seconds) (x .nanos)) ∷ []) d
 
--- an extra's key isn't escaped
+-- an extra's key isn't escaped (rule W8)
 abbrev pub extraAttribute : Pair → Attribute
 extraAttribute p = attribute (p .key) (escaped (p .value))
 
@@ -53,7 +53,7 @@ endTag name = Tag End name 0 []
 abbrev pub textEvent : report.Text → Event
 textEvent t = Piece Text (escaped t)
 
--- "Indent, of length 0", which is read as one newline
+-- laid out with length 0 (rule W7), and read as one newline (rule T4)
 abbrev pub indent : Event
 indent = Piece Indent (10 ∷ [])
 
@@ -65,13 +65,14 @@ abbrev pub isEmpty : {A : Type 0} → List A → Bool
 isEmpty [] = true
 isEmpty (x ∷ xs) = false
 
+-- rule W4
 unfoldable pub serializeOutput : List ℕ → report.Text → List Event
 serializeOutput name t = startTag name [] ∷ textEvent t ∷ endTag name ∷ []
 
 unfoldable pub serializeProperty : Pair → List Event
 serializeProperty p = Tag Empty (bytes "property") 0 (textual (bytes "name") (p .key) ++ textual (bytes "value") (p .value)) ∷ []
 
--- a list of properties only where there are any
+-- a list of properties only where there are any (rule W4)
 unfoldable pub serializeProperties : List Pair → List Event
 serializeProperties [] = []
 serializeProperties (p ∷ ps) = startTag (bytes "properties") [] ∷ (each serializeProperty (p ∷ ps) ++ (endTag (bytes "properties") ∷ []))
@@ -83,10 +84,12 @@ serializeOutputs out err = optional (serializeOutput (bytes "system-out")) out +
 abbrev pub statusAttributes : Option report.Text → Option report.Text → List Attribute
 statusAttributes message type = optional (textual (bytes "message")) message ++ optional (textual (bytes "type")) type
 
+-- rule W5
 abbrev pub described : List ℕ → List Attribute → Option report.Text → List Event
 described name attributes none = Tag Empty name 0 attributes ∷ []
 described name attributes (some d) = startTag name attributes ∷ textEvent d ∷ endTag name ∷ []
 
+-- rule W5
 unfoldable pub serializeStatus : List ℕ → Reason → List Event
 serializeStatus name r = described name (statusAttributes (r .message) (r .type)) (r .description)
 
@@ -100,7 +103,7 @@ runName flaky error = bytes "flakyError"
 runName rerun failure = bytes "rerunFailure"
 runName rerun error = bytes "rerunError"
 
--- an Indent stands before the first child behind a description
+-- an Indent stands before the first child behind a description (rule W7)
 abbrev pub indented : Option report.Text → List Event → List Event
 indented none children = children
 indented (some d) [] = textEvent d ∷ []
@@ -109,23 +112,25 @@ indented (some d) (c ∷ cs) = textEvent d ∷ indent ∷ c ∷ cs
 abbrev pub runChildren : TestRerun → List Event
 runChildren r = optional (serializeOutput (bytes "stackTrace")) (r .stackTrace) ++ serializeOutputs (r .systemOut) (r .systemErr)
 
+-- rule W6
 unfoldable pub serializeRerun : FlakyOrRerun → TestRerun → List Event
 serializeRerun family r =
     startTag (runName family (r .kind)) (stamped (r .timestamp) ++ (timed (r .time) ++ statusAttributes (r .message) (r .type)))
     ∷ (indented (r .description) (runChildren r) ++ (endTag (runName family (r .kind)) ∷ []))
 
--- the main, and then its runs
+-- the main, and then its runs (rules W6 and W14)
 unfoldable pub serializeElements : TestCaseStatus → List Event
 serializeElements (success runs) = each (serializeRerun flaky) runs
 serializeElements (nonSuccess kind reason family runs) = serializeStatus (mainName kind) reason ++ each (serializeRerun family) runs
 serializeElements (skipped reason) = serializeStatus (bytes "skipped") reason
 
 -- ---- case, suite, report
--- a suite or case without children is Empty
+-- a suite or case without children is Empty (rule W3)
 abbrev pub element : List ℕ → List Attribute → List Event → List Event
 element name attributes [] = Tag Empty name 0 attributes ∷ []
 element name attributes (c ∷ cs) = startTag name attributes ∷ ((c ∷ cs) ++ (endTag name ∷ []))
 
+-- rule W2
 abbrev pub caseAttributes : TestCase → List Attribute
 caseAttributes c =
     textual (bytes "name") (c .name)
@@ -134,12 +139,13 @@ caseAttributes c =
     ++ (stamped (c .timestamp)
     ++ (timed (c .time) ++ map extraAttribute (c .extra)))))
 
+-- rule W3
 unfoldable pub serializeTestCase : TestCase → List Event
 serializeTestCase c =
     element (bytes "testcase") (caseAttributes c)
     (serializeProperties (c .properties) ++ (serializeElements (c .status) ++ serializeOutputs (c .systemOut) (c .systemErr)))
 
--- errors before failures, other than on the report
+-- errors before failures, other than on the report (rule W2)
 abbrev pub suiteAttributes : TestSuite → List Attribute
 suiteAttributes s =
     textual (bytes "name") (s .name)
@@ -151,11 +157,13 @@ suiteAttributes s =
     ++ (stamped (s .timestamp)
     ++ (timed (s .time) ++ map extraAttribute (s .extra))))))))
 
+-- rule W3
 unfoldable pub serializeTestSuite : TestSuite → List Event
 serializeTestSuite s =
     element (bytes "testsuite") (suiteAttributes s)
     (serializeProperties (s .properties) ++ (each serializeTestCase (s .cases) ++ serializeOutputs (s .systemOut) (s .systemErr)))
 
+-- rule W2
 abbrev pub reportAttributes : Report → List Attribute
 reportAttributes r =
     optional (textual (bytes "name")) (r .name)
@@ -167,17 +175,18 @@ reportAttributes r =
     ++ (optional (λ (u : Words). attribute (bytes "uuid") (uuidText u) ∷ []) (r .uuid)
     ++ (stamped (r .timestamp) ++ timed (r .time))))))))
 
--- "declaration as Other", "Start `testsuites` to its End, Eof, Indent"
+-- rule W1
 unfoldable pub declaration : Event
 declaration = Piece Other (bytes "xml version=\"1.0\" encoding=\"UTF-8\"")
 
+-- rule W1
 unfoldable pub serializeReport : Report → List Event
 serializeReport r =
     declaration
     ∷ startTag (bytes "testsuites") (reportAttributes r)
     ∷ (each serializeTestSuite (r .suites) ++ (endTag (bytes "testsuites") ∷ Eof ∷ indent ∷ []))
 
--- ---- the number of a tag's first attribute, of n that stand before it; "a first attribute or start without count or length is 0"
+-- ---- the number of a tag's first attribute, of n that stand before it; 0 where it has none (rule W12)
 abbrev pub numberedTag : ℕ → Event → Event
 numberedTag n (Tag kind name first attributes) = Tag kind name (cond (eqb (length attributes) 0) 0 n) attributes
 numberedTag n (Piece kind s) = Piece kind s

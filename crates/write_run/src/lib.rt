@@ -25,7 +25,7 @@ ghost use Rattle.write_marks.specs.inside.Kept.{kept};
 ghost use Rattle.write_items.specs.inside.Values.{tagName};
 ghost use Rattle.write_items.specs.inside.Status.{family, runTag, describedRun, tracedRun, closedRun};
 
-// The description, with an Indent behind it where a child follows.
+// The description, with an Indent behind it where a child follows (rule W7).
 fn put_description(events: &mut [u32], bytes: &mut [u8], k: Marks, text: &[u8], r: &[u32]) -> Marks
     ensures { λ m. ⌜ ((at : List ℕ) → Wrote (kept k (now (events .entry)) at (now (bytes .entry))) (itemsOf (describedRun (now (text .entry)) (now (r .entry)))) (kept m (now (events .exit)) at (now (bytes .exit)))) ⌝ }
 {
@@ -88,7 +88,7 @@ fn run_tag(k: u32, flaky: bool) -> u8
     }
 }
 
-// With timestamp, time, message and type.
+// With timestamp, time, message and type (rule W6).
 pub fn put_run(
     events: &mut [u32],
     attributes: &mut [u32],

@@ -99,7 +99,7 @@ fn put_slots(
     mark
 }
 
-// A Start or Empty of that tag name, with the attributes of these codes, and so many more to come.
+// A Start or Empty of that tag name, with the attributes of these codes, and so many more to come (rule W2).
 pub fn put_element(
     events: &mut [u32],
     attributes: &mut [u32],

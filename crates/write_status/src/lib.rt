@@ -56,7 +56,7 @@ pub fn put_optional(
     k
 }
 
-// system-out and system-err.
+// system-out and system-err (rule W4).
 pub fn put_outputs(events: &mut [u32], bytes: &mut [u8], k: Marks, text: &[u8], r: &[u32]) -> Marks
     ensures { λ m. ⌜ ((at : List ℕ) → Wrote (kept k (now (events .entry)) at (now (bytes .entry))) (itemsOf (serializeOutputs (tree.systemOut (now (text .entry)) (now (r .entry))) (tree.systemErr (now (text .entry)) (now (r .entry))))) (kept m (now (events .exit)) at (now (bytes .exit)))) ⌝ }
 {
@@ -107,7 +107,7 @@ pub fn put_property(
     )
 }
 
-// A main, with message and type: its text is its description.
+// A main, with message and type: its text is its description (rule W5).
 pub fn put_status(
     events: &mut [u32],
     attributes: &mut [u32],

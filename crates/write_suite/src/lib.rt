@@ -65,7 +65,7 @@ fn is_childless(r: &[u32], words: &[u32]) -> bool
     (property == 0) & (case == 0)
 }
 
-// A suite's tag with name, tests, skipped, errors, failures, disabled, timestamp and time, and its extras.
+// A suite's tag with name, tests, skipped, errors, failures, disabled, timestamp and time, and its extras (rule W2).
 fn put_opening(
     events: &mut [u32],
     attributes: &mut [u32],
@@ -128,6 +128,7 @@ fn put_inside(
     put_cases(events, attributes, bytes, properties, text, words)
 }
 
+// By rule W3.
 fn put_suite(
     events: &mut [u32],
     attributes: &mut [u32],

@@ -1,4 +1,4 @@
--- Document 01, "Writing": the three areas that hold a list of events. Definitions only.
+-- The three areas that hold a list of events (rules W12 and W13). Definitions only.
 use Prim.Native.Nat.{ℕ, _+_, _*_, min}
 use mathlib.Core.List.{List, [], _∷_, _++_}
 use mathlib.Core.Bool.{Bool, cond, _&&_}
@@ -21,7 +21,7 @@ pieceNumber Ref = kind.ref
 pieceNumber Other = kind.other
 pieceNumber Indent = kind.indent
 
--- "Indent, of length 0"
+-- an Indent has length 0 (rule W7)
 abbrev pub pieceBytes : PieceKind → List ℕ → List ℕ
 pieceBytes Text s = s
 pieceBytes CData s = s
@@ -48,14 +48,15 @@ unfoldable pub itemsOf : List Event → List Item
 itemsOf [] = []
 itemsOf (e ∷ es) = itemsOfEvent e ++ itemsOf es
 
--- "a first attribute or start without count or length is 0"
+-- 0 without length or count (rule W12)
 abbrev pub place : ℕ → ℕ → ℕ
 place n at = cond (eqb n 0) 0 at
 
--- five words each, with a attributes and b bytes before
+-- five words each, with a attributes and b bytes before (rule W12)
 abbrev pub entryWords : ℕ → ℕ → ℕ → List ℕ → ℕ → List ℕ
 entryWords a b k s n = k ∷ place (length s) b ∷ length s ∷ place n a ∷ n ∷ []
 
+-- rule W12
 abbrev pub pairWords : ℕ → List ℕ → List ℕ → List ℕ
 pairWords b key value = 0 ∷ place (length key) b ∷ length key ∷ place (length value) (b + length key) ∷ length value ∷ []
 
@@ -69,7 +70,7 @@ attributeWords b [] = []
 attributeWords b (entry k s n ∷ is) = attributeWords (b + length s) is
 attributeWords b (pair key value ∷ is) = pairWords b key value ++ attributeWords (b + length (key ++ value)) is
 
--- "Tag name, then each key and value, then text lie one behind the other"
+-- one directly behind the other, nothing shared (rule W12)
 unfoldable pub laidBytes : List Item → List ℕ
 laidBytes [] = []
 laidBytes (entry k s n ∷ is) = s ++ laidBytes is
@@ -80,10 +81,11 @@ pub record Table : Type 0 where
   pub attributes : List ℕ
   pub bytes : List ℕ
 
+-- rule W12
 unfoldable pub laidOut : List Event → Table
 laidOut es = record { events = eventWords 0 0 (itemsOf es); attributes = attributeWords 0 (itemsOf es); bytes = laidBytes (itemsOf es) }
 
--- "of longer areas only that much is used": the table in areas of so many words, words and bytes
+-- the table in areas of so many words, words and bytes, used up to the limits (rule W13)
 abbrev pub fits : Table → ℕ → ℕ → ℕ → Bool
 fits t events attributes bytes =
     leb (length (t .events)) (min events (mostEntries * 5))

@@ -14,7 +14,7 @@ abbrev pub hexOctets : ℕ → ℕ → List ℕ
 hexOctets zero n = []
 hexOctets (suc k) n = hexOctets k (n / 256) ++ hexDigit (n / 16 % 16) ∷ hexDigit (n % 16) ∷ []
 
--- UUID = 4hexOctet "-" 2hexOctet "-" 2hexOctet "-" 2hexOctet "-" 6hexOctet
+-- UUID = 4hexOctet "-" 2hexOctet "-" 2hexOctet "-" 2hexOctet "-" 6hexOctet (rule W9)
 unfoldable pub uuidText : Words → List ℕ
 uuidText w =
     hexOctets 4 (w .a) ++ 0x2D ∷ hexOctets 2 (w .b / 65536) ++ 0x2D ∷ hexOctets 2 (w .b)

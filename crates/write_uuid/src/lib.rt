@@ -44,7 +44,7 @@ fn spell(w: Words) -> [u8; 36]
     bytes
 }
 
-// Puts w at the front of out.
+// Puts w at the front of out (rule W9).
 pub fn write_uuid(out: &mut [u8], w: Words) -> Stored
     ensures { λ r. ⌜ storedAnswer cause.OutputFull r ≡ placing cause.OutputFull (length (now (out .entry))) (uuidText w) ⌝ }
     ensures { λ r. ⌜ now (out .exit) ≡ laid (now (out .entry)) (uuidText w) ⌝ }

@@ -30,7 +30,7 @@ fn put_words(out: &mut [u8], k: Stored, words: &[u32]) -> Stored
     mark
 }
 
-// "three little-endian words, the numbers of events, attributes and source bytes, then the three"
+// In the form of rule P1, as rule P5 has it: the numbers of events, attributes and bytes, then the three.
 pub fn put_table(
     out: &mut [u8],
     k: Stored,

@@ -42,6 +42,7 @@ fn refuse(cause: Cause) -> Writing
     }
 }
 
+// By rule F13.
 fn clear_all(events: &mut [u32], attributes: &mut [u32], bytes: &mut [u8])
     ensures { λ _. ⌜ now (events .exit) ≡ zeros (length (now (events .entry))) ⌝ }
     ensures { λ _. ⌜ now (attributes .exit) ≡ zeros (length (now (attributes .entry))) ⌝ }
@@ -52,7 +53,7 @@ fn clear_all(events: &mut [u32], attributes: &mut [u32], bytes: &mut [u8])
     clear(bytes);
 }
 
-// Puts the events of the report that the records and the text hold.
+// Puts the events of the report that the records and the text hold (rule W14).
 fn put_tree(
     records: &[u32],
     text: &[u8],
@@ -79,7 +80,8 @@ fn put_tree(
     )
 }
 
-// Puts the table at the front of the three areas, and zeros behind it; at a refusal all of them becomes zero.
+// Puts the table at the front of the three areas, and zeros behind it; at a refusal all of them becomes zero (rule W13). What it
+// writes of a plain report is read back (rule W16).
 pub fn write(
     records: &[u32],
     text: &[u8],

@@ -61,7 +61,7 @@ isSkippedBy s = s .settled && eqb (s .main) kind.skipped
 unfoldable pub statusBy : Summary → Status
 statusBy s = cond (s .settled) (cond (eqb (s .main) kind.skipped) isSkipped (cond (eqb (s .main) kind.failure) isFailure isError)) isSuccess
 
--- "kind Rerun if there are none", but for the flaky bit
+-- Rerun where there are no runs (rule S11), but for the flaky bit
 abbrev pub isFlakyBy : Summary → Bool
 isFlakyBy s = cond (s .settled) (cond (eqb (s .runs) 0) (s .flagged) (leb (s .run) kind.flakyError)) true
 

@@ -5,7 +5,7 @@ use lib.ListN.{getD}
 use lib.Dec.{eqb}
 use Rattle.table.specs.Event.{Attribute, part}
 
--- the attribute whose five words the list begins with: "mark (0 good, 1 faulty), key start, key length, value start, value length"
+-- the attribute whose five words the list begins with (rule T2)
 abbrev pub attributeIn : List ℕ → List ℕ → Attribute
 attributeIn words source = record {
   good = eqb (getD words 0 0) 0;

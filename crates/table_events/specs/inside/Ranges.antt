@@ -9,7 +9,7 @@ use Rattle.table.specs.Table.{word, countOf}
 abbrev pub attributesAt : List ℕ → ℕ → ℕ
 attributesAt events i = cond (leb (countOf events) i) 0 (word events i 4)
 
--- "with count 0 the first is ignored"
+-- without attributes the first isn't looked at (rule T11)
 abbrev pub firstAt : List ℕ → ℕ → ℕ
 firstAt events i = cond (eqb (attributesAt events i) 0) 0 (word events i 3)
 

@@ -32,7 +32,7 @@ Kept = Option Held
 abbrev pub over : List ℕ → ℕ → List ℕ → List ℕ
 over area k f = take k area ++ laid (drop k area) f
 
--- "of longer areas only that much is used": there is room for one entry more, for n bytes more
+-- up to the limits (rule W13) there is room for one entry more, for n bytes more
 abbrev pub tableRoom : ℕ → List ℕ → Bool
 tableRoom used area = leb 5 (length area - used * 5)
 
