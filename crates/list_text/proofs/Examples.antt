@@ -24,12 +24,12 @@ no-layout = refl
 too-short : outcomeOf (refuses OutputFull) ≡ refused (record { cause = OutputFull; path = []; event = 4294967295; attribute = 4294967295 })
 too-short = refl
 
--- "`\` escapes `"`, `\`, and newline, tab, return"
+-- all that is escaped (rule L8)
 escapes : quoted (34 ∷ 92 ∷ 10 ∷ 9 ∷ 13 ∷ 97 ∷ []) ≡ bytes "\"\\\"\\\\\\n\\t\\ra\""
 unfolding letter listed
 escapes = refl
 
--- "`-` is missing"
+-- rule L8
 missing : orDash quoted none ≡ bytes "-"
 missing = refl
 

@@ -157,6 +157,6 @@ pub public-codes : (c : ℕ) → c ≤ 14 → key.isPublic c ≡ (leb 1 c && leb
 unfolding agreeing
 public-codes c h = agreeing-at key.isPublic (λ (c : ℕ). leb 1 c && leb c 11) 0 15 refl c (omega arith) (omega arith)
 
--- document 01's list: a key is public where its code is one of these
+-- a key is public where its code is one of these (rule L1)
 pub public-key : (s : List ℕ) → key.isPublic (keyOf s) ≡ (leb 1 (keyOf s) && leb (keyOf s) 11)
 public-key s = public-codes (keyOf s) (rw key-count at (code-most keys s))

@@ -1,4 +1,4 @@
--- The proved cases of document 01 and of request 5. Assumes nothing.
+-- The proved cases. Assumes nothing.
 use mathlib.Core.Path.{_≡_, refl}
 use lib.Ieee.{add, sum, div, ofInt, round, units, odd, size, span, climb}
 use lib.Count.{trailingZeros}
@@ -42,7 +42,7 @@ use Rattle.write_answer.specs.Answer as answer
 use Rattle.public_cases.specs.Document.{sourceOf}
 use Rattle.public_cases.specs.Cases.{All, no-case, one-case, workedDocument, agreeing, cases}
 
--- the first case is document 01's example, letter by letter
+-- the first case is the example that docs/RULES.md has for the listing, letter by letter
 pub worked-source
     : sourceOf workedDocument
     ≡ bytes "<testsuites name=\"r\" tests=\"2\"><testsuite name=\"lab\" tests=\"2\"><testcase name=\"a\" time=\"0.5\"/><testcase name=\"b\"><failure message=\"m\"/><rerunFailure/></testcase></testsuite></testsuites>"

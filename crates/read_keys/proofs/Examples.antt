@@ -31,7 +31,7 @@ suite-other : roleOf kind.suite 0 ≡ Extra
 unfolding roleIn suiteRole roleOf
 suite-other = refl
 
--- "The main's [..] time and timestamp are dropped"
+-- a main's time isn't kept (rule S12)
 main-time : roleOf kind.skipped key.time ≡ Time false
 unfolding roleIn statusRole roleOf
 main-time = refl

@@ -25,7 +25,7 @@ role-each P (x ∷ xs) other k e o = go (eqb k (x .0)) (role-each P xs other k (
     go true r = e .0
     go false r = r
 
--- "Public keys: name, classname, uuid, timestamp, time, tests, failures, errors, skipped, disabled, assertions": codes 1 to 11
+-- the public keys (rule L1) have the codes 1 to 11
 abbrev pub isPublic : ℕ → Bool
 isPublic k = leb 1 k && leb k 11
 

@@ -74,22 +74,22 @@ is-sound : sound plainOne ≡ true
 unfolding sound fitsRow need low high
 is-sound = refl
 
--- "its gathered texts have no outer White_Space": U+2003
+-- White_Space at an end (rule W15): U+2003
 outer-space : plain (reportOf (caseOf (failed none rerun) (some (0xE2 ∷ 0x80 ∷ 0x83 ∷ 0x61 ∷ [])) [] none)) ≡ false
 unfolding plain sameBytes need low high
 outer-space = refl
 
--- "descriptions aren't empty"
+-- rule W15
 empty-description : plain (reportOf (caseOf (failed (some []) rerun) none [] none)) ≡ false
 unfolding plain sameBytes need low high
 empty-description = refl
 
--- "times [..] are whole milliseconds"
+-- rule W15
 half-thousandth : plain (reportOf (caseOf (failed none rerun) none [] (some (record { seconds = 0; nanos = 1500000 })))) ≡ false
 unfolding plain sameBytes need low high
 half-thousandth = refl
 
--- "extra keys are distinct, hold no `&` and aren't the element's own keys"
+-- what an extra key may not be (rule W15)
 key-twice : plain (reportOf (caseOf (failed none rerun) none (pair (bytes "k") ∷ pair (bytes "k") ∷ []) none)) ≡ false
 unfolding plain sameBytes need low high
 key-twice = refl
@@ -102,7 +102,7 @@ own-key : plain (reportOf (caseOf (failed none rerun) none (pair (bytes "asserti
 unfolding plain sameBytes need low high
 own-key = refl
 
--- "failure or error without runs has kind Rerun"
+-- without runs the kind is Rerun (rule W15)
 flaky-alone : plain (reportOf (caseOf (failed none flaky) none [] none)) ≡ false
 unfolding plain sameBytes need low high
 flaky-alone = refl

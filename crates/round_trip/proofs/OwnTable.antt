@@ -44,7 +44,7 @@ ownBytes r = laidOut (written r) .bytes
 pub own-passes : (r : Report) → plain r ≡ true → tableOf (ownEvents r) (ownAttributes r) (ownBytes r) ≡ accepted tt
 own-passes r p = table-written r (mostEntries * 5) (mostEntries * 5) mostBytes (conditions r p .fits)
 
--- "its written events, attributes and bytes stay within the limits"
+-- a plain report's table stays within the limits (rule W15)
 pub own-bytes : (r : Report) → plain r ≡ true → length (ownBytes r) ≤ mostBytes
 own-bytes r p =
     let e : Bool = leb (length (ownEvents r)) (min (mostEntries * 5) (mostEntries * 5)) in

@@ -17,7 +17,7 @@ use Rattle.table.proofs.Words.{word-at}
 use Rattle.table.proofs.Scanning.{bad-none}
 use Rattle.refusal.specs.declared.Cause.the-variants as cause
 
--- "tables not a multiple of five words, then over the limits (source too)", for so many words and bytes
+-- whole entries, within the limits (rules T7 and T8), for so many words and bytes
 pub record ValidSizes (events attributes size : ℕ) : Type 0 where
   pub event-words : events % 5 ≡ 0
   pub attribute-words : attributes % 5 ≡ 0
@@ -25,7 +25,7 @@ pub record ValidSizes (events attributes size : ℕ) : Type 0 where
   pub attribute-limit : attributes / 5 ≤ 65536
   pub source-limit : size ≤ 16777216
 
--- "kind, byte range, attribute range", of the entry at the front of `words`, where there are n attributes
+-- kind, byte range, attribute range (rules T9 to T11), of the entry at the front of `words`, where there are n attributes
 pub record ValidShape (words : List ℕ) (n size : ℕ) : Type 0 where
   pub kind : getD words 0 0 ≤ 9
   pub bytes : getD words 1 0 + getD words 2 0 ≤ size

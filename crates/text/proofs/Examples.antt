@@ -29,7 +29,7 @@ unknown : valueOf 0 (0x61 ∷ 0x26 ∷ 0x78 ∷ 0x3B ∷ []) ≡ refuses cause.B
 unfolding need low high refAt isEntity entities sameBytes codeFrom isCharRef
 unknown = refl
 
--- document 01's example of 13, `ab` in 1 byte; 2 bytes suffice, and so does 1 where the filter drops the other
+-- 13 (rule M4), `ab` in 1 byte; 2 bytes suffice, and so does 1 where the filter drops the other
 short-area : (valueOf 1 (0x61 ∷ 0x62 ∷ []) ≡ refuses cause.TextFull) × (valueOf 2 (0x61 ∷ 0x62 ∷ []) ≡ gives 2) × (valueOf 1 (0x61 ∷ 0x01 ∷ []) ≡ gives 1)
 unfolding need low high
 short-area = (refl, refl, refl)

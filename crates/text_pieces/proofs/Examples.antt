@@ -11,7 +11,7 @@ use Rattle.reference.specs.Reference.{xmlChar, entities, entityChars, isEntity,
 use Rattle.text_pieces.specs.Gather.{textOf, textLaid, cdataOf, cdataLaid, referenceOf, referenceLaid, indentOf, indentLaid}
 use Rattle.refusal.specs.declared.Cause.the-variants as cause
 
--- document 01's example of 14, `ab` in 1 byte
+-- 14 (rule M6), `ab` in 1 byte
 short-scratch : textOf 1 (0x61 ∷ 0x62 ∷ []) ≡ refuses cause.ScratchFull
 unfolding need low high
 short-scratch = refl

@@ -20,7 +20,7 @@ minus : timestampOf (bytes "1996-12-19T16:39:57-08:00") ≡ gives (record { year
 unfolding timestampOf isTimestamp isNumber digit monthLength isLeap places isUtc need low high
 minus = refl
 
--- RFC 3339, section 5.8; document 01 refuses second 60
+-- of RFC 3339, section 5.8; second 60 is refused (rule V7)
 leap-second : (timestampOf (bytes "1990-12-31T23:59:60Z") ≡ refuses cause.BadTimestamp)
     × (timestampOf (bytes "1990-12-31T15:59:60-08:00") ≡ refuses cause.BadTimestamp)
 unfolding timestampOf isTimestamp isNumber digit monthLength isLeap places isUtc need low high

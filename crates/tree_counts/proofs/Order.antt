@@ -44,7 +44,7 @@ module _ (c s : Counts) where
       go false true = refl
       go false false = refl
 
--- "tests there, add a case": 17, whatever the case comes to
+-- a case more than the limit is 17 (rule C3), whatever it comes to
 pub full : (c : Counts) (o : Outcome) → c .tests ≡ 18446744073709551615 → withCase c o ≡ refused (late CountLimit)
 full c o e = refuses-past c (caseCounts o) (λ w. omega (arith, w .tests, one o))
   where

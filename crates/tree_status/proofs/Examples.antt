@@ -1,4 +1,4 @@
--- Document 01, "Status rule": cases by the kinds of their status elements. Assumes nothing.
+-- The status rule (rules S6 to S9): cases by the kinds of their status elements. Assumes nothing.
 use Prim.Native.Nat.{ℕ}
 use mathlib.Core.Bool.{true, false}
 use mathlib.Core.List.{List, [], _∷_}

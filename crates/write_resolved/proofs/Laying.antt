@@ -40,7 +40,7 @@ module _ (events attributes source : List ℕ) where
   pairs-checked {j = j} (x ∷ xs) is t =
       ap (λ (u : Bool). cond u (badFrom attributes (length source) (length xs) (j + 1)) j) (pair-checked t) ∙ pairs-checked xs is (past-pair t) ∙ omega arith
 
-  -- "a first attribute [..] without count [..] is 0"
+  -- a first attribute without count is 0 (rule W12)
   placed-resolved : {i j b : ℕ} {xs : List Attribute} → Each Marked xs → (is : List Item) → Stands i j b (pairsOf xs ++ is) →
       attributesFrom attributes source (length xs) (place (length xs) j) ≡ xs
   unfolding attributesFrom
