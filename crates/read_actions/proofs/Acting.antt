@@ -21,7 +21,8 @@ use Rattle.read_state.specs.declared.Act.{Act as CodedAct}
 use Rattle.read_state.specs.declared.Act.the-variants as act
 use Rattle.read_place.specs.Marks.{Marks, marksAfter}
 use Rattle.read_content.specs.Content.{Content, propertyKind, recordOf, adding, describing, outputting, perform}
-use Rattle.read_content.specs.inside.Holds.{killWords, Holds, Listed, Opened, Lists, isAt, isText, isList, hasList, came, Performs, faultOf, listOf, withList, statusEnd}
+use Rattle.read_element.specs.inside.Refines.{went}
+use Rattle.read_content.specs.inside.Holds.{killWords, Holds, Listed, Opened, Lists, isAt, isText, isList, hasList, Performs, faultOf, listOf, withList, statusEnd}
 use Rattle.read_content.specs.declared.List.{List as CodedList}
 use Rattle.read_content.specs.declared.Content.{Content as CodedContent}
 use Rattle.read_content.specs.declared.Performed.{Performed}
@@ -64,22 +65,22 @@ module _ (k : CodedMode) (l : Level) (o : Output) (seen closed : Bool) (t : Tall
   module _ (hd : Holds words text scratch attributes source c s) (li : Lists (modeAt k l o) m c s) where
     pub acted-pass : Acted act.Pass k l o seen closed t name m p rooms j xs words text scratch attributes source s (To c)
     unfolding turn marksAfter perform
-    acted-pass = came hd li
+    acted-pass = went (hd, li)
 
     pub acted-skip : Acted act.Skip k l o seen closed t name m p rooms j xs words text scratch attributes source s (To c)
     unfolding orSkip turn marksAfter perform
-    acted-skip = came hd li
+    acted-skip = went (hd, li)
 
     pub acted-stop : Acted act.Stop k l o seen closed t name m p rooms j xs words text scratch attributes source s (To c)
     unfolding turn marksAfter perform
-    acted-stop = came hd li
+    acted-stop = went (hd, li)
 
   pub acted-text : (out : CodedOutput) → isAt (modeAt k l o) ≡ true → Holds words text scratch attributes source c s → Lists (modeAt k l o) m c s
       → Acted (act.OpenText out) k l o seen closed t name m p rooms j xs words text scratch attributes source s (To c)
   acted-text out a hd li = go k a li
     where
       go : (k : CodedMode) → isAt (modeAt k l o) ≡ true → Lists (modeAt k l o) m c s → Acted (act.OpenText out) k l o seen closed t name m p rooms j xs words text scratch attributes source s (To c)
-      go mode.At a li = unfold turn marksAfter perform in came hd (li .0)
+      go mode.At a li = unfold turn marksAfter perform in went (hd, li .0)
       go mode.Text a li = no a
       go mode.List a li = no a
 
@@ -88,9 +89,9 @@ module _ (k : CodedMode) (l : Level) (o : Output) (seen closed : Bool) (t : Tall
   acted-end a hd li = go k a li
     where
       go : (k : CodedMode) → not (isText (modeAt k l o)) ≡ true → Lists (modeAt k l o) m c s → Acted act.CloseList k l o seen closed t name m p rooms j xs words text scratch attributes source s (To c)
-      go mode.At a li = unfold turn marksAfter perform in came hd li
+      go mode.At a li = unfold turn marksAfter perform in went (hd, li)
       go mode.Text a li = no a
-      go mode.List a li = unfold turn marksAfter perform in came hd (li .0, li .1 .0)
+      go mode.List a li = unfold turn marksAfter perform in went (hd, (li .0, li .1 .0))
 
   -- ---- refusals
   module _ (pa : p .attribute ≡ nowhere) {r : Performed} where
@@ -150,17 +151,17 @@ module _ (p : Place) (k : Control) (m : Marks) (rooms : Rooms) (j : ℕ) (xs : L
   pub closed-top : Holds words text scratch attributes source c s → Lists (at top) m c s
       → Performs (turn (closing top) k .mode) (marksAfter (closing top) (length (s .records)) m) p words text scratch attributes source (perform rooms p (closing top) j xs k m s) (To c)
   unfolding turn marksAfter perform
-  closed-top hd li = came hd li
+  closed-top hd li = went (hd, li)
 
   pub closed-suite : Holds words text scratch attributes source c s → Lists (at suite) m c s
       → Performs (turn (closing suite) k .mode) (marksAfter (closing suite) (length (s .records)) m) p words text scratch attributes source (perform rooms p (closing suite) j xs k m s) (To c)
   unfolding turn marksAfter perform
-  closed-suite hd li = came hd (tt, li .1)
+  closed-suite hd li = went (hd, (tt, li .1))
 
   pub closed-case : ruled (k .tally) ≡ true → Holds words text scratch attributes source c s → Lists (at case) m c s
       → Performs (turn (closing case) k .mode) (marksAfter (closing case) (length (s .records)) m) p words text scratch attributes source (perform rooms p (closing case) j xs k m s) (To c)
   unfolding turn marksAfter perform need
-  closed-case e hd li = rw e (came hd (li .0 .0, li .1))
+  closed-case e hd li = rw e (went (hd, (li .0 .0, li .1)))
 
   -- the status rule (20)
   pub closed-not : {r : Performed} → ruled (k .tally) ≡ false → p .attribute ≡ nowhere → r ≡ Not (faultOf StatusRule)

@@ -23,7 +23,8 @@ use Rattle.read_state.specs.declared.Act.{Act as CodedAct}
 use Rattle.read_state.specs.declared.Act.the-variants as act
 use Rattle.read_place.specs.Marks.{Marks, marksAfter}
 use Rattle.read_content.specs.Content.{Content, propertyKind, recordOf, adding, describing, outputting, perform}
-use Rattle.read_content.specs.inside.Holds.{killWords, Holds, Opened, Lists, Carries, Holding, opens, isAt, isText, isList, hasList, apt, came, Performs, faultOf, listOf, withList, statusEnd}
+use Rattle.read_element.specs.inside.Refines.{went}
+use Rattle.read_content.specs.inside.Holds.{killWords, Holds, Opened, Lists, Carries, Holding, opens, isAt, isText, isList, hasList, apt, Performs, faultOf, listOf, withList, statusEnd}
 use Rattle.read_content.specs.declared.Content.{Content as CodedContent}
 use Rattle.read_content.specs.declared.Performed.{Performed}
 use Rattle.read_content.specs.declared.Performed.the-variants.{To, Not}
@@ -130,27 +131,27 @@ module _ (l : Level) (o : Output) (seen closed : Bool) (t : Tally) (name : List 
 
   pass-in : (k : CodedMode) → Holds words text scratch attributes source c s → Lists (modeAt k l o) m c s → r ≡ To c → In k act.Pass
   unfolding turn marksAfter perform
-  pass-in k hd li q = rw q (came hd li)
+  pass-in k hd li q = rw q (went (hd, li))
 
   skip-in : (k : CodedMode) → Holds words text scratch attributes source c s → Lists (modeAt k l o) m c s → r ≡ To c → In k act.Skip
   unfolding orSkip turn marksAfter perform
-  skip-in k hd li q = rw q (came hd li)
+  skip-in k hd li q = rw q (went (hd, li))
 
   stop-in : (k : CodedMode) → Holds words text scratch attributes source c s → Lists (modeAt k l o) m c s → r ≡ To c → In k act.Stop
   unfolding turn marksAfter perform
-  stop-in k hd li q = rw q (came hd li)
+  stop-in k hd li q = rw q (went (hd, li))
 
   text-in : (k : CodedMode) (out : CodedOutput) → isAt (modeAt k l o) ≡ true → Holds words text scratch attributes source c s → Lists (modeAt k l o) m c s → r ≡ To c → In k (act.OpenText out)
   unfolding turn marksAfter perform
-  text-in mode.At out a hd li q = rw q (came hd (li .0))
+  text-in mode.At out a hd li q = rw q (went (hd, li .0))
   text-in mode.Text out a hd li q = no a
   text-in mode.List out a hd li q = no a
 
   end-in : (k : CodedMode) → not (isText (modeAt k l o)) ≡ true → Holds words text scratch attributes source c s → Lists (modeAt k l o) m c s → r ≡ To c → In k act.CloseList
   unfolding turn marksAfter perform
-  end-in mode.At a hd li q = rw q (came hd li)
+  end-in mode.At a hd li q = rw q (went (hd, li))
   end-in mode.Text a hd li q = no a
-  end-in mode.List a hd li q = rw q (came hd (li .0, li .1 .0))
+  end-in mode.List a hd li q = rw q (went (hd, (li .0, li .1 .0)))
 
   missing-in : (k : CodedMode) → p .attribute ≡ nowhere → r ≡ Not (faultOf MissingReport) → In k act.Missing
   unfolding perform
@@ -246,11 +247,11 @@ module _ (cl : CodedLevel) (k : Control) (m : Marks) (p : Place) (rooms : Rooms)
 
   shut-suite : Holds words text scratch attributes source c s → s .gathered ≡ [] → r ≡ To c → Shut suite
   unfolding turn marksAfter perform
-  shut-suite hd g q = rw q (came hd (tt, g))
+  shut-suite hd g q = rw q (went (hd, (tt, g)))
 
   shut-case : Holds words text scratch attributes source c s → Lists (at case) m c s → ruled (k .tally) ≡ true → r ≡ To c → Shut case
   unfolding turn marksAfter perform need
-  shut-case hd li e q = rw (q, e) (came hd (li .0 .0, li .1))
+  shut-case hd li e q = rw (q, e) (went (hd, (li .0 .0, li .1)))
 
   shut-not : p .attribute ≡ nowhere → ruled (k .tally) ≡ false → r ≡ Not (faultOf StatusRule) → Shut case
   unfolding perform need

@@ -17,19 +17,13 @@ use tree_status::Tally;
 use tree_status::is_ruled;
 ghost use mathlib.Core.Path.{_≡_};
 ghost use mathlib.Core.Bool.{true};
-ghost use mathlib.Core.List.{List as Series};
-ghost use Prim.Native.Nat.{ℕ, _-_, _*_, _≤_};
+ghost use Prim.Native.Nat.{_*_, _≤_};
 ghost use lib.ListN.{length};
-ghost use Rattle.refusal.specs.Refusal.{nowhere};
-ghost use Rattle.table.specs.Event.{Attribute, attributesFrom};
-ghost use Rattle.read_element.specs.Outcome.{Place, Rooms};
-ghost use Rattle.read_state.specs.Control.{at, turn};
-ghost use Rattle.read_state.specs.Control as plan;
-ghost use Rattle.read_state.specs.inside.Coded.{levelOf, modeOf, controlOf, closing, actOf, turned};
-ghost use Rattle.read_place.specs.Marks.{marksAfter};
+ghost use Rattle.read_state.specs.inside.Coded.{levelOf, modeOf};
 ghost use Rattle.read_place.specs.inside.Coded.{marksOf};
-ghost use Rattle.read_content.specs.Content as done;
-ghost use Rattle.read_content.specs.inside.Holds.{Holds, Lists, Sized, Carries, Performs, apt, statusEnd};
+ghost use Rattle.read_element.specs.inside.Refines.{tagged, areas};
+ghost use Rattle.read_content.specs.inside.Holds.{apt, statusEnd};
+ghost use Rattle.read_actions.specs.inside.Promises.{Closes, ReadyIn, PerformsAct};
 
 fn close(
     level: Level,
@@ -44,7 +38,8 @@ fn close(
     requires { ⌜ content .fill ≤ length (now text) ⌝ }
     requires { ⌜ content .description ≤ length (now scratch) ⌝ }
     requires { ⌜ statusEnd (levelOf level) (marksOf marks) * 32 ≤ length (now records) ⌝ }
-    ensures { λ r. ⌜ ((rooms : Rooms) (p : Place) (s : done.Content) (k : plan.Control) (j : ℕ) (xs : Series Attribute) (attributes source : Series ℕ) → p .attribute ≡ nowhere → k .tally ≡ tally → Holds (now (records .entry)) (now (text .entry)) (now (scratch .entry)) attributes source content s → Lists (at (levelOf level)) (marksOf marks) content s → Sized rooms (length (now (records .entry))) (length (now (text .entry))) (length (now (scratch .entry))) → Performs (turn (closing (levelOf level)) k .mode) (marksAfter (closing (levelOf level)) (length (s .records)) (marksOf marks)) p (now (records .exit)) (now (text .exit)) (now (scratch .entry)) attributes source (done.perform rooms p (closing (levelOf level)) j xs k (marksOf marks) s) r) ⌝ }
+    ensures { λ r. ⌜ Closes (levelOf level) tally (marksOf marks) content
+        (areas (now (records .entry)) (now (text .entry))) (areas (now (records .exit)) (now (text .exit))) (now (scratch .entry)) r ⌝ }
 {
     match level {
         Level::Top => Performed::To(content),
@@ -73,12 +68,10 @@ pub fn perform(
     scratch: &[u8],
 ) -> Performed
     requires { ⌜ apt act (modeOf control) ≡ true ⌝ }
-    requires { ⌜ range .first ≤ range .end ⌝ }
-    requires { ⌜ range .end * 5 ≤ length (now attributes) ⌝ }
-    requires { ⌜ range .end ≤ 65536 ⌝ }
-    requires { ⌜ length (now text) ≤ 16777216 ⌝ }
-    requires { ⌜ Carries (modeOf control) (marksOf marks) (now records) (now text) (now scratch) (now attributes) (now source) content ⌝ }
-    ensures { λ r. ⌜ ((rooms : Rooms) (p : Place) (s : done.Content) (name : Series ℕ) → p .attribute ≡ nowhere → Holds (now (records .entry)) (now (text .entry)) (now (scratch .entry)) (now (attributes .entry)) (now (source .entry)) content s → Lists (modeOf control) (marksOf marks) content s → Sized rooms (length (now (records .entry))) (length (now (text .entry))) (length (now (scratch .entry))) → Performs (turned act name control .mode) (marksAfter (actOf control name act) (length (s .records)) (marksOf marks)) p (now (records .exit)) (now (text .exit)) (now (scratch .entry)) (now (attributes .entry)) (now (source .entry)) (done.perform rooms p (actOf control name act) (range .first) (attributesFrom (now (attributes .entry)) (now (source .entry)) (range .end - range .first) (range .first)) (controlOf control) (marksOf marks) s) r) ⌝ }
+    requires { ⌜ ReadyIn (modeOf control) (marksOf marks) range content (tagged (now attributes) (now source))
+        (areas (now records) (now text)) (now scratch) ⌝ }
+    ensures { λ r. ⌜ PerformsAct act range control (marksOf marks) content (tagged (now (attributes .entry)) (now (source .entry)))
+        (areas (now (records .entry)) (now (text .entry))) (areas (now (records .exit)) (now (text .exit))) (now (scratch .entry)) r ⌝ }
 {
     let level = control.level;
     let output = control.output;

@@ -15,7 +15,8 @@ use Rattle.utf8.specs.Characters.{joined}
 use Rattle.read_element.specs.Outcome.{Place}
 use Rattle.read_element.specs.Attributes.{Given}
 use Rattle.read_element.specs.inside.Held.{Held}
-use Rattle.read_attribute.specs.inside.Steps.{Matches, went, stopped}
+use Rattle.read_attribute.specs.inside.Steps.{Matches}
+use Rattle.read_element.specs.inside.Refines.{went, stopped}
 use Rattle.read_attribute.specs.declared.Step.{Step}
 use Rattle.read_each.specs.inside.Fresh.{fresh}
 

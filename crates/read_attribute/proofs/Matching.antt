@@ -23,11 +23,12 @@ use Rattle.read_element.specs.Outcome.{Place, Rooms, within, need}
 use Rattle.text.specs.Value.{valueText}
 use Rattle.read_extras.specs.inside.Hinted.{Hinted}
 use Rattle.read_element.specs.Attributes.{Given, placeOf, among, numbered, readExtra, byRole}
-use Rattle.read_element.specs.inside.Held.{Held, Meets, goes, stops}
+use Rattle.read_element.specs.inside.Held.{Held, Meets}
+use Rattle.read_element.specs.inside.Refines.{went, stopped}
 use Rattle.read_extra_record.specs.inside.Answers.{gaveAnswer}
 use Rattle.read_repeats.specs.inside.Words.{attributeIn}
 use Rattle.read_role.specs.inside.Roles.{tookGiven}
-use Rattle.read_attribute.specs.inside.Steps.{takenStep, gaveStep, faultStep, byKey, Matches, went, stopped}
+use Rattle.read_attribute.specs.inside.Steps.{takenStep, gaveStep, faultStep, byKey, Matches}
 use Rattle.read_extra_record.specs.declared.Given.{Given as Counted}
 use Rattle.read_extra_record.specs.declared.Gave.{Gave}
 use Rattle.read_extra_record.specs.declared.Gave.the-variants as gave
@@ -54,26 +55,26 @@ module _ {p : Place} {j : ℕ} {own text : List ℕ} where
   -- a value's answer: its refusals have the Attribute
   value-by : (key : ℕ) (given : Counted) (t : Took) {o : Outcome Given} {a : Answer (ℕ × ℕ)} → Meets (within (numbered p j) key) own text o a → a ≡ tookGiven (given .extras) t → (key ≡ 0 → Accepts o)
       → Matches p own text o (takenStep t given key j)
-  value-by key given (took.To n) (goes {g = h} {extras = e} {fill = f} hd) q s =
+  value-by key given (took.To n) (went {s = h} {c = (e, f)} hd) q s =
       let z : e ≡ given .extras = ap (λ (b : Answer (ℕ × ℕ)). numbersOf b .0) q in
       let y : f ≡ n = ap (λ (b : Answer (ℕ × ℕ)). numbersOf b .1) q in
       let held : Held own text (given .extras) n h = rw (← z, ← y) hd in
       went held
-  value-by key given (took.Not why) (goes hd) q s = let z : _≡_ {A = ℕ} 0 1 = cc in absurd (omega arith)
-  value-by key given (took.To n) stops q s = let z : _≡_ {A = ℕ} 0 1 = cc in absurd (omega arith)
-  value-by zero given (took.Not why) stops q s = absurd (s refl)
-  value-by (suc k) given (took.Not why) (stops {why = n}) q s = let z : n ≡ why = cc in rw z stopped
+  value-by key given (took.Not why) (went hd) q s = let z : _≡_ {A = ℕ} 0 1 = cc in absurd (omega arith)
+  value-by key given (took.To n) stopped q s = let z : _≡_ {A = ℕ} 0 1 = cc in absurd (omega arith)
+  value-by zero given (took.Not why) stopped q s = absurd (s refl)
+  value-by (suc k) given (took.Not why) (stopped {f = n}) q s = let z : n ≡ why = cc in rw z stopped
 
   -- an extra's answer: they have none
   extra-by : (found : Gave) {o : Outcome Given} {a : Answer (ℕ × ℕ)} → Meets (numbered p j) own text o a → a ≡ gaveAnswer found → Matches p own text o (gaveStep found j)
-  extra-by (gave.To given) (goes {g = h} {extras = e} {fill = f} hd) q =
+  extra-by (gave.To given) (went {s = h} {c = (e, f)} hd) q =
       let z : e ≡ given .extras = ap (λ (b : Answer (ℕ × ℕ)). numbersOf b .0) q in
       let y : f ≡ given .fill = ap (λ (b : Answer (ℕ × ℕ)). numbersOf b .1) q in
       let held : Held own text (given .extras) (given .fill) h = rw (← z, ← y) hd in
       went held
-  extra-by (gave.Not why) (goes hd) q = let z : _≡_ {A = ℕ} 0 1 = cc in absurd (omega arith)
-  extra-by (gave.To given) stops q = let z : _≡_ {A = ℕ} 0 1 = cc in absurd (omega arith)
-  extra-by (gave.Not why) (stops {why = n}) q = let z : n ≡ why = cc in rw z stopped
+  extra-by (gave.Not why) (went hd) q = let z : _≡_ {A = ℕ} 0 1 = cc in absurd (omega arith)
+  extra-by (gave.To given) stopped q = let z : _≡_ {A = ℕ} 0 1 = cc in absurd (omega arith)
+  extra-by (gave.Not why) (stopped {f = n}) q = let z : n ≡ why = cc in rw z stopped
 
 -- an attribute with the role of its key
 module _ (kind j : ℕ) (x : Attribute) (g : Given) (rooms : Rooms) (p : Place) (used : ℕ) {own text : List ℕ} {key : ℕ} {r : Role} (ek : key ≡ keyOf (x .key)) (er : r ≡ roleOf kind key) where

@@ -12,19 +12,13 @@ use read_values::Took;
 use refusal::Cause;
 use table::parts::bytes_of;
 ghost use mathlib.Core.Path.{_≡_};
-ghost use mathlib.Core.Bool.{true, false, not};
-ghost use Prim.Native.Nat.{ℕ, _<_, _≤_, _+_, _-_, _*_, _^_};
+ghost use Prim.Native.Nat.{_<_, _≤_, _+_, _*_, _^_};
 ghost use lib.ListN.{length};
-ghost use Rattle.table.specs.Event.{markAt, keyAt, attributeAt, attributesFrom};
-ghost use Rattle.read_element.specs.Outcome.{Place, Rooms, need};
-ghost use Rattle.read_element.specs.Attributes.{among, numbered};
-ghost use Rattle.read_element.specs.Attributes.{Given as Said};
-ghost use Rattle.read_element.specs.inside.Held.{keysOf, Held, Roomy};
-ghost use Rattle.text.specs.Value.{valueText};
-ghost use Rattle.read_extras.specs.inside.Hinted.{Hinted};
+ghost use Rattle.read_element.specs.inside.Refines.{tagged, areas};
 ghost use Rattle.read_repeats.specs.inside.Words.{attributeIn};
-ghost use Rattle.read_attribute.specs.inside.Steps.{takenStep, gaveStep, faultStep, byKey, Matches};
-ghost use Rattle.refusal.specs.declared.Cause.the-variants as cause;
+ghost use Rattle.read_extra_record.specs.inside.Promises.{Bounded};
+ghost use Rattle.read_attribute.specs.inside.Steps.{takenStep, gaveStep, faultStep};
+ghost use Rattle.read_attribute.specs.inside.Promises.{ReadsAttribute, StepsAttribute};
 
 // Why an element is refused: the code of the key whose value it is, 0 where the path has no Attribute, and the attribute's
 // number, 4294967295 where none is concerned.
@@ -101,10 +95,9 @@ fn read_attribute(
     requires { ⌜ 5 ≤ length (now words) ⌝ }
     requires { ⌜ j < 2 ^ 32 ⌝ }
     requires { ⌜ kind ≤ 12 ⌝ }
-    requires { ⌜ given .fill ≤ length (now text) ⌝ }
-    requires { ⌜ length (now text) ≤ 16777216 ⌝ }
-    requires { ⌜ given .extras * 32 + 32 ≤ length (now own) ⌝ }
-    ensures { λ r. ⌜ ((g : Said) (rooms : Rooms) (p : Place) (used : ℕ) → Held (now (own .entry)) (now (text .entry)) (given .extras) (given .fill) g → Roomy rooms used (length (now (own .entry))) (length (now (text .entry))) → Hinted hint g (valueText (attributeIn (now (words .entry)) (now (source .entry)) .key)) → Matches p (now (own .exit)) (now (text .exit)) (byKey rooms (numbered p j) used kind (attributeIn (now (words .entry)) (now (source .entry))) g) r) ⌝ }
+    requires { ⌜ Bounded given (areas (now own) (now text)) ⌝ }
+    ensures { λ r. ⌜ ReadsAttribute kind (attributeIn (now (words .entry)) (now (source .entry))) j hint given
+        (areas (now (own .entry)) (now (text .entry))) (areas (now (own .exit)) (now (text .exit))) r ⌝ }
 {
     let name = bytes_of(source, wide(words[1]), wide(words[2]));
     let value = bytes_of(source, wide(words[3]), wide(words[4]));
@@ -134,10 +127,9 @@ pub fn step_attribute(
     requires { ⌜ j * 5 + 5 ≤ length (now attributes) ⌝ }
     requires { ⌜ j < 65536 ⌝ }
     requires { ⌜ kind ≤ 12 ⌝ }
-    requires { ⌜ given .fill ≤ length (now text) ⌝ }
-    requires { ⌜ length (now text) ≤ 16777216 ⌝ }
-    requires { ⌜ given .extras * 32 + 32 ≤ length (now own) ⌝ }
-    ensures { λ r. ⌜ ((g : Said) (rooms : Rooms) (p : Place) (used : ℕ) → Held (now (own .entry)) (now (text .entry)) (given .extras) (given .fill) g → Roomy rooms used (length (now (own .entry))) (length (now (text .entry))) → (free ≡ true → among (keyAt (now (attributes .entry)) (now (source .entry)) j) (keysOf (attributesFrom (now (attributes .entry)) (now (source .entry)) (j - range .first) (range .first))) ≡ false) → Hinted hint g (valueText (keyAt (now (attributes .entry)) (now (source .entry)) j)) → Matches p (now (own .exit)) (now (text .exit)) (need (markAt (now (attributes .entry)) j) (numbered p j) cause.FaultyAttribute (need (not (among (keyAt (now (attributes .entry)) (now (source .entry)) j) (keysOf (attributesFrom (now (attributes .entry)) (now (source .entry)) (j - range .first) (range .first))))) (numbered p j) cause.RepeatedKey (byKey rooms (numbered p j) used kind (attributeAt (now (attributes .entry)) (now (source .entry)) j) g))) r) ⌝ }
+    requires { ⌜ Bounded given (areas (now own) (now text)) ⌝ }
+    ensures { λ r. ⌜ StepsAttribute kind (tagged (now (attributes .entry)) (now (source .entry))) range free hint j given
+        (areas (now (own .entry)) (now (text .entry))) (areas (now (own .exit)) (now (text .exit))) r ⌝ }
 {
     let at = j * 5;
     let words = &attributes[at..];

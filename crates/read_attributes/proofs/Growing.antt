@@ -17,8 +17,10 @@ use Rattle.read_element.specs.Outcome.{_>>=_, Place, Rooms, need, within, fits}
 use Rattle.read_element.specs.Attributes.{Given, Grown, readAttributes, complete, readElement}
 use Rattle.utf8.specs.Characters.{joined}
 use Rattle.read_element.specs.inside.Held.{Held, Roomy}
+use Rattle.read_element.specs.inside.Refines.{went, stopped}
 use Rattle.read_attribute.specs.inside.Steps.{faultAt, Matches}
-use Rattle.read_attributes.specs.inside.Elements.{faultElement, missingOf, Free, knownOf, fresh, Becomes, became, faulted}
+use Rattle.read_attributes.specs.inside.Elements.{faultElement, missingOf, Free, knownOf, Becomes, grew}
+use Rattle.read_each.specs.inside.Fresh.{fresh}
 use Rattle.read_extra_record.specs.declared.Given.{Given as Counted}
 use Rattle.read_attribute.specs.declared.Fault.{Fault}
 use Rattle.read_attribute.specs.declared.Range.{Range}
@@ -102,7 +104,7 @@ module _ {rooms : Rooms} (p : Place) (before : List (List ℕ)) {n m : ℕ} (ro 
       let f : Fault = record { cause = RecordsSpent; key = 0; attribute = nowhere } in
       let e : (need false p cause.RecordsSpent (readAttributes rooms p (length before) kind [] j xs (fresh kind texts)) >>= rest p kind before) ≡ refused (faultAt p f) = rw w refl in
       subst (λ (t : Element). Becomes p before own text attributes source (readElement rooms p kind j xs before texts) t) (sym q)
-      (subst (λ (o : Outcome Grown). Becomes p before own text attributes source o (element.Not f)) (sym (opened (ro .for-records 1 ∙ lt-leb (1 * 32) n (omega arith)) ∙ e)) faulted)
+      (subst (λ (o : Outcome Grown). Becomes p before own text attributes source o (element.Not f)) (sym (opened (ro .for-records 1 ∙ lt-leb (1 * 32) n (omega arith)) ∙ e)) stopped)
 
   module _ (h : 32 ≤ n) where
     -- behind the attributes' outcome
@@ -113,7 +115,7 @@ module _ {rooms : Rooms} (p : Place) (before : List (List ℕ)) {n m : ℕ} (ro 
     module _ {own text attributes source : List ℕ} where
       pub element-halted : {f : Fault} → readAttributes rooms p (length before) kind [] j xs (fresh kind texts) ≡ refused (faultAt p f) → Becomes p before own text attributes source (readElement rooms p kind j xs before texts) (element.Not f)
       unfolding _>>=_
-      element-halted {f} e = subst (λ (o : Outcome Grown). Becomes p before own text attributes source o (element.Not f)) (sym (behind e)) faulted
+      element-halted {f} e = subst (λ (o : Outcome Grown). Becomes p before own text attributes source o (element.Not f)) (sym (behind e)) stopped
 
       module _ {given : Counted} (x : Gone own text (readAttributes rooms p (length before) kind [] j xs (fresh kind texts)) given) {k : ℕ} (e : k ≡ missingOf kind own) where
         pub element-lacking : p .attribute ≡ nowhere → (k ≡ 0 → ⊥) → Becomes p before own text attributes source (readElement rooms p kind j xs before texts) (faultElement MissingAttribute k nowhere)
@@ -121,7 +123,7 @@ module _ {rooms : Rooms} (p : Place) (before : List (List ℕ)) {n m : ℕ} (ro 
         element-lacking w z =
             let q = lacks p (x .said) w (leb 2 kind && leb kind 5) (hasBit 0 (x .said .main)) (leb 4 kind && leb kind 5) (hasBit 1 (x .said .main)) k (e ∙ missing-held kind (x .holds)) z in
             subst (λ (o : Outcome Grown). Becomes p before own text attributes source o (element.Not (lacking k)))
-            (sym (behind (x .same) ∙ ap (λ (o : Outcome Given). o >>= λ h. accepted (record { records = before ++ (h .main ∷ h .extras); texts = h .texts })) q)) faulted
+            (sym (behind (x .same) ∙ ap (λ (o : Outcome Given). o >>= λ h. accepted (record { records = before ++ (h .main ∷ h .extras); texts = h .texts })) q)) stopped
 
         pub element-grown : k ≡ 0 → (free : Range) → Free attributes source (free .first) (free .end)
             → Becomes p before own text attributes source (readElement rooms p kind j xs before texts) (element.Is (record { records = given .extras + 1; fill = given .fill; free = free }))
@@ -130,7 +132,7 @@ module _ {rooms : Rooms} (p : Place) (before : List (List ℕ)) {n m : ℕ} (ro 
             let q = lacks-none p (x .said) (leb 2 kind && leb kind 5) (hasBit 0 (x .said .main)) (leb 4 kind && leb kind 5) (hasBit 1 (x .said .main)) k (e ∙ missing-held kind (x .holds)) z in
             subst (λ (o : Outcome Grown). Becomes p before own text attributes source o (element.Is (record { records = given .extras + 1; fill = given .fill; free = free })))
             (sym (behind (x .same) ∙ ap (λ (o : Outcome Given). o >>= λ h. accepted (record { records = before ++ (h .main ∷ h .extras); texts = h .texts })) q))
-            (became {extras = given .extras} (x .holds) refl f)
+            (went (grew {extras = given .extras} (x .holds) refl f))
 
 -- ---- what `read_record` comes to
 -- what `read_attributes` says

@@ -9,19 +9,14 @@ use refusal::NOWHERE;
 use tree_record::has_bit;
 use tree_record::put_field;
 ghost use mathlib.Core.Path.{_≡_};
-ghost use mathlib.Core.List.{List, []};
 ghost use mathlib.Core.Bool.{_&&_};
-ghost use Prim.Native.Nat.{ℕ, _≤_, _-_, _*_};
-ghost use lib.ListN.{length, take, drop};
+ghost use Prim.Native.Nat.{_≤_, _*_};
+ghost use lib.ListN.{length};
 ghost use lib.Dec.{leb};
 ghost use Rattle.area.specs.Area.{zeros};
-ghost use Rattle.table.specs.Event.{attributesFrom};
-ghost use Rattle.read_element.specs.Outcome.{Place, Rooms};
-ghost use Rattle.read_element.specs.Attributes.{readAttributes, readElement};
-ghost use Rattle.read_element.specs.inside.Held.{Held, Roomy};
+ghost use Rattle.read_element.specs.inside.Refines.{tagged, areas};
 ghost use Rattle.refusal.specs.Refusal.{nowhere};
-ghost use Rattle.read_attribute.specs.inside.Steps.{Matches};
-ghost use Rattle.read_attributes.specs.inside.Elements.{missingOf, faultElement, Free, knownOf, fresh, Becomes};
+ghost use Rattle.read_attributes.specs.inside.Elements.{missingOf, faultElement, Free, knownOf, Vacant, ReadsElement};
 
 // How many records the element takes, its own and its extras; where the texts end; and a range of attributes without a
 // repeated key.
@@ -103,17 +98,11 @@ fn read_record(
     text: &mut [u8],
 ) -> Element
     requires { ⌜ kind ≤ 12 ⌝ }
-    requires { ⌜ range .first ≤ range .end ⌝ }
-    requires { ⌜ range .end * 5 ≤ length (now attributes) ⌝ }
-    requires { ⌜ range .end ≤ 65536 ⌝ }
-    requires { ⌜ fill ≤ length (now text) ⌝ }
-    requires { ⌜ length (now text) ≤ 16777216 ⌝ }
-    requires { ⌜ now own ≡ zeros (length (now own)) ⌝ }
-    requires { ⌜ drop fill (now text) ≡ zeros (length (now text) - fill) ⌝ }
-    requires { ⌜ Free (now attributes) (now source) (known .first) (known .end) ⌝ }
     requires { ⌜ 32 ≤ length (now own) ⌝ }
     requires { ⌜ Free (now attributes) (now source) (range .first) clear ⌝ }
-    ensures { λ r. ⌜ ((rooms : Rooms) (p : Place) (before : List (List ℕ)) → p .attribute ≡ nowhere → Roomy rooms (length before) (length (now (own .entry))) (length (now (text .entry))) → Becomes p before (now (own .exit)) (now (text .exit)) (now (attributes .entry)) (now (source .entry)) (readElement rooms p kind (range .first) (attributesFrom (now (attributes .entry)) (now (source .entry)) (range .end - range .first) (range .first)) before (take fill (now (text .entry)))) r) ⌝ }
+    requires { ⌜ Vacant (tagged (now attributes) (now source)) range known fill (areas (now own) (now text)) ⌝ }
+    ensures { λ r. ⌜ ReadsElement kind (tagged (now (attributes .entry)) (now (source .entry))) range fill
+        (areas (now (own .entry)) (now (text .entry))) (areas (now (own .exit)) (now (text .exit))) r ⌝ }
 {
     put_field(own, 0, kind);
     let read = read_all(kind, attributes, source, range, clear, fill, own, text);
@@ -146,15 +135,9 @@ pub fn read_element(
     text: &mut [u8],
 ) -> Element
     requires { ⌜ kind ≤ 12 ⌝ }
-    requires { ⌜ range .first ≤ range .end ⌝ }
-    requires { ⌜ range .end * 5 ≤ length (now attributes) ⌝ }
-    requires { ⌜ range .end ≤ 65536 ⌝ }
-    requires { ⌜ fill ≤ length (now text) ⌝ }
-    requires { ⌜ length (now text) ≤ 16777216 ⌝ }
-    requires { ⌜ now own ≡ zeros (length (now own)) ⌝ }
-    requires { ⌜ drop fill (now text) ≡ zeros (length (now text) - fill) ⌝ }
-    requires { ⌜ Free (now attributes) (now source) (known .first) (known .end) ⌝ }
-    ensures { λ r. ⌜ ((rooms : Rooms) (p : Place) (before : List (List ℕ)) → p .attribute ≡ nowhere → Roomy rooms (length before) (length (now (own .entry))) (length (now (text .entry))) → Becomes p before (now (own .exit)) (now (text .exit)) (now (attributes .entry)) (now (source .entry)) (readElement rooms p kind (range .first) (attributesFrom (now (attributes .entry)) (now (source .entry)) (range .end - range .first) (range .first)) before (take fill (now (text .entry)))) r) ⌝ }
+    requires { ⌜ Vacant (tagged (now attributes) (now source)) range known fill (areas (now own) (now text)) ⌝ }
+    ensures { λ r. ⌜ ReadsElement kind (tagged (now (attributes .entry)) (now (source .entry))) range fill
+        (areas (now (own .entry)) (now (text .entry))) (areas (now (own .exit)) (now (text .exit))) r ⌝ }
 {
     if own.len() < 32 {
         return refused(Cause::RecordsSpent, 0);

@@ -16,7 +16,8 @@ use Rattle.table.proofs.Resolving.{attributes-end, attributes-next}
 use Rattle.read_element.specs.Outcome.{_>>=_, Place, Rooms, need, fits}
 use Rattle.read_element.specs.Attributes.{Given, byRole, among, numbered, readAttributes}
 use Rattle.read_element.specs.inside.Held.{keysOf, Held, Roomy}
-use Rattle.read_attribute.specs.inside.Steps.{faultAt, Matches, went, stopped}
+use Rattle.read_attribute.specs.inside.Steps.{faultAt, Matches}
+use Rattle.read_element.specs.inside.Refines.{went, stopped}
 use Rattle.read_free.specs.inside.Unrepeated.{Unrepeated}
 use Rattle.text.specs.Value.{valueText}
 use Rattle.read_extras.specs.inside.Hinted.{Hinted}
@@ -50,7 +51,7 @@ pub record Gone (own text : List ℕ) (m : Outcome Given) (given : Counted) : Ty
   pub same : m ≡ accepted said
 
 pub gone : {p : Place} {own text : List ℕ} {m : Outcome Given} {given : Counted} → Matches p own text m (step.To given) → Gone own text m given
-gone (went {g = g} h) = record { said = g; holds = h; same = refl }
+gone (went {s = g} h) = record { said = g; holds = h; same = refl }
 
 pub halted : {p : Place} {own text : List ℕ} {m : Outcome Given} {f : Fault} → Matches p own text m (step.Not f) → m ≡ refused (faultAt p f)
 halted stopped = refl

@@ -17,7 +17,8 @@ use Rattle.tree_put.proofs.Puts.{pair-length, pair-other}
 use Rattle.read_element.specs.Outcome.{Place, Rooms, need, fits}
 use Rattle.read_element.specs.Attributes.{Given, changed, oldExtra}
 use Rattle.utf8.specs.Characters.{joined}
-use Rattle.read_element.specs.inside.Held.{moved, Held, Roomy, Meets, goes, stops}
+use Rattle.read_element.specs.inside.Held.{moved, Held, Roomy, Meets}
+use Rattle.read_element.specs.inside.Refines.{went, stopped}
 use Rattle.read_extra_record.proofs.Storing.{end-put, end-full, text-size, text-behind, extras-changed, pair-local, changed-keyed, changed-length, keyed-more}
 use Rattle.refusal.specs.declared.Cause.the-variants as cause
 use Rattle.refusal.specs.declared.Cause.{Cause}
@@ -29,7 +30,7 @@ module _ {p : Place} {own text : List ℕ} {b : Bool} (n : Cause) (m : Outcome G
 
   pub meets-refused : b ≡ false → Meets p own text (need b p n m) (refuses n)
   unfolding need
-  meets-refused e = rw e stops
+  meets-refused e = rw e stopped
 
 -- the words behind the element's record
 pub behind-main : (f : List ℕ → List ℕ) (own main z : List ℕ) (m : ℕ) → own ≡ main ++ z → length main ≡ 32 → take (m + 32) own ++ f (drop (m + 32) own) ≡ main ++ (take m z ++ f (drop m z))
@@ -94,7 +95,7 @@ module _ {own text : List ℕ} {extras fill : ℕ} {g : Given} (hd : Held own te
         old-put =
             let a = length (g .texts) in
             let s = length-append (g .texts) v in
-            meets-need cause.TextFull _ (text-room long) (goes record {
+            meets-need cause.TextFull _ (text-room long) (went record {
               room = hd .room;
               left = hd .left - length v;
               records = own-now;

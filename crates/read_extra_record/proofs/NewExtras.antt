@@ -20,7 +20,8 @@ use Rattle.tree_record.proofs.Marks.{marked-front, marked-behind, marked-other}
 use Rattle.read_element.specs.Outcome.{Place, Rooms, fits}
 use Rattle.read_element.specs.Attributes.{Given, extraKind, newExtra}
 use Rattle.utf8.specs.Characters.{joined}
-use Rattle.read_element.specs.inside.Held.{moved, Keyed, extraWords, Held, Roomy, Meets, goes}
+use Rattle.read_element.specs.inside.Held.{moved, Keyed, extraWords, Held, Roomy, Meets}
+use Rattle.read_element.specs.inside.Refines.{went}
 use Rattle.read_extra_record.proofs.Storing.{end-put, end-full, text-size, Local, pair-local, keyed-more}
 use Rattle.read_extra_record.proofs.Extras.{meets-need, meets-refused, behind-main, text-grown, text-room, text-none}
 use Rattle.refusal.specs.declared.Cause.the-variants as cause
@@ -196,7 +197,7 @@ module _ {own text : List ℕ} {extras fill : ℕ} {g : Given} (hd : Held own te
             let x = made-start (extraKind kind) (length (g .texts)) (length key) (length (g .texts ++ key)) (length value) in
             let y = made-size (extraKind kind) (length (g .texts)) (length key) (length (g .texts ++ key)) (length value) in
             let c = length-append (g .extras) (made (extraKind kind) (length (g .texts)) (length key) (length (g .texts ++ key)) (length value) ∷ []) in
-            meets-need cause.RecordsSpent _ spare (meets-need cause.TextFull _ (text-room hd ro key long) (meets-need cause.TextFull _ (text-room held₁ roomy₁ value long′) (goes record {
+            meets-need cause.RecordsSpent _ spare (meets-need cause.TextFull _ (text-room hd ro key long) (meets-need cause.TextFull _ (text-room held₁ roomy₁ value long′) (went record {
               room = hd .room - 32;
               left = held₁ .left - length value;
               records = own-now;

@@ -8,16 +8,15 @@ use tree_put::put_text;
 use tree_record::put_field;
 ghost use mathlib.Core.Path.{_≡_};
 ghost use mathlib.Core.List.{_++_};
-ghost use Prim.Native.Nat.{ℕ, _≤_, _<_, _+_, _-_, _*_};
+ghost use Prim.Native.Nat.{_≤_, _<_, _+_, _-_, _*_};
 ghost use lib.ListN.{length, take, drop};
 ghost use Rattle.area.specs.Answer.{gives};
 ghost use Rattle.area.specs.Area.{placing, laid};
 ghost use Rattle.text.specs.Value.{valueText, checkedOf};
-ghost use Rattle.read_element.specs.Outcome.{Place, Rooms};
-ghost use Rattle.read_element.specs.Attributes.{oldExtra, newExtra};
-ghost use Rattle.read_element.specs.Attributes.{Given as Said};
-ghost use Rattle.read_element.specs.inside.Held.{moved, extraWords, Held, Roomy, Meets};
-ghost use Rattle.read_extra_record.specs.inside.Answers.{laidAnswer, gaveAnswer};
+ghost use Rattle.read_element.specs.inside.Held.{moved, extraWords};
+ghost use Rattle.read_element.specs.inside.Refines.{areas};
+ghost use Rattle.read_extra_record.specs.inside.Answers.{laidAnswer};
+ghost use Rattle.read_extra_record.specs.inside.Promises.{Bounded, ReplacesExtra, AddsExtra};
 ghost use Rattle.refusal.specs.declared.Cause.the-variants as cause;
 
 // The number of extras and the end of the texts.
@@ -57,10 +56,8 @@ fn lay(value: &[u8], fill: usize, text: &mut [u8]) -> Laid
 pub fn old_extra(value: &[u8], i: usize, given: Given, own: &mut [u32], text: &mut [u8]) -> Gave
     requires { ⌜ gives tt ≡ checkedOf (now value) ⌝ }
     requires { ⌜ i < given .extras ⌝ }
-    requires { ⌜ given .fill ≤ length (now text) ⌝ }
-    requires { ⌜ length (now text) ≤ 16777216 ⌝ }
-    requires { ⌜ given .extras * 32 + 32 ≤ length (now own) ⌝ }
-    ensures { λ r. ⌜ ((g : Said) (rooms : Rooms) (p : Place) (used : ℕ) → Held (now (own .entry)) (now (text .entry)) (given .extras) (given .fill) g → Roomy rooms used (length (now (own .entry))) (length (now (text .entry))) → Meets p (now (own .exit)) (now (text .exit)) (oldExtra rooms p (valueText (now (value .entry))) i g) (gaveAnswer r)) ⌝ }
+    requires { ⌜ Bounded given (areas (now own) (now text)) ⌝ }
+    ensures { λ r. ⌜ ReplacesExtra (now (value .entry)) i given (areas (now (own .entry)) (now (text .entry))) (areas (now (own .exit)) (now (text .exit))) r ⌝ }
 {
     let fill = given.fill;
     let laid = lay(value, fill, text);
@@ -98,10 +95,8 @@ pub fn new_extra(
     requires { ⌜ kind ≤ 12 ⌝ }
     requires { ⌜ gives tt ≡ checkedOf (now key) ⌝ }
     requires { ⌜ gives tt ≡ checkedOf (now value) ⌝ }
-    requires { ⌜ given .fill ≤ length (now text) ⌝ }
-    requires { ⌜ length (now text) ≤ 16777216 ⌝ }
-    requires { ⌜ given .extras * 32 + 32 ≤ length (now own) ⌝ }
-    ensures { λ r. ⌜ ((g : Said) (rooms : Rooms) (p : Place) (used : ℕ) → Held (now (own .entry)) (now (text .entry)) (given .extras) (given .fill) g → Roomy rooms used (length (now (own .entry))) (length (now (text .entry))) → Meets p (now (own .exit)) (now (text .exit)) (newExtra rooms p used kind (valueText (now (key .entry))) (valueText (now (value .entry))) g) (gaveAnswer r)) ⌝ }
+    requires { ⌜ Bounded given (areas (now own) (now text)) ⌝ }
+    ensures { λ r. ⌜ AddsExtra kind (now (key .entry)) (now (value .entry)) given (areas (now (own .entry)) (now (text .entry))) (areas (now (own .exit)) (now (text .exit))) r ⌝ }
 {
     let at = given.extras * 32 + 32;
     if own.len() < at + 32 {

@@ -18,7 +18,8 @@ use Rattle.read_element.specs.Outcome.{Place, Rooms, there, _>>=_}
 use Rattle.tree_record.specs.Record.{textAt}
 use Rattle.read_element.specs.Attributes.{Given, placeOf, oldExtra, newExtra, readExtra}
 use Rattle.utf8.specs.Characters.{joined}
-use Rattle.read_element.specs.inside.Held.{placeAt, putExtra, Keyed, Held, Meets, stops}
+use Rattle.read_element.specs.inside.Held.{placeAt, putExtra, Keyed, Held, Meets}
+use Rattle.read_element.specs.inside.Refines.{stopped}
 use Rattle.read_extras.specs.inside.Hinted.{Hinted}
 use Rattle.refusal.specs.declared.Cause.{Cause}
 
@@ -87,7 +88,7 @@ module _ {own text : List ℕ} {extras fill : ℕ} {g : Given} (hd : Held own te
 module _ {A : Type 0} {p : Place} {own text : List ℕ} {m : Answer A} (k : A → Outcome Given) where
   pub meets-first : {n : Cause} → refuses n ≡ m → Meets p own text (there p m >>= k) (refuses n)
   unfolding _>>=_ there
-  meets-first {n} e = subst (λ (x : Answer A). Meets p own text (there p x >>= k) (refuses n)) e stops
+  meets-first {n} e = subst (λ (x : Answer A). Meets p own text (there p x >>= k) (refuses n)) e stopped
 
   pub meets-then : {b : A} {r : Answer (ℕ × ℕ)} → gives b ≡ m → Meets p own text (k b) r → Meets p own text (there p m >>= k) r
   unfolding _>>=_ there

@@ -1,1 +1,2 @@
 pub mod Hinted
+pub mod Promises

@@ -12,19 +12,16 @@ use text_key::cleaned_length;
 use text_key::is_cleaned;
 use tree_record::field;
 ghost use mathlib.Core.Path.{_≡_};
-ghost use Prim.Native.Nat.{ℕ, _≤_, _+_, _*_};
+ghost use Prim.Native.Nat.{_≤_, _+_, _*_};
 ghost use lib.ListN.{length};
 ghost use Rattle.area.specs.Answer.{gives};
 ghost use Rattle.names.specs.Names.{sameBytes};
 ghost use Rattle.text.specs.Value.{valueText, checkedOf};
-ghost use Rattle.table.specs.Event.{Attribute};
-ghost use Rattle.read_element.specs.Outcome.{Place, Rooms};
 ghost use Rattle.tree_record.specs.Record.{textAt};
-ghost use Rattle.read_element.specs.Attributes.{readExtra};
-ghost use Rattle.read_element.specs.Attributes.{Given as Said};
-ghost use Rattle.read_element.specs.inside.Held.{placeAt, putExtra, Held, Roomy, Meets};
-ghost use Rattle.read_extra_record.specs.inside.Answers.{gaveAnswer};
-ghost use Rattle.read_extras.specs.inside.Hinted.{Hinted};
+ghost use Rattle.read_element.specs.inside.Held.{placeAt};
+ghost use Rattle.read_element.specs.inside.Refines.{areas};
+ghost use Rattle.read_extra_record.specs.inside.Promises.{Bounded};
+ghost use Rattle.read_extras.specs.inside.Promises.{FindsPlace, PutsExtra, ReadsExtra};
 
 // Whether `stored` is the text, of n bytes, that would be stored for `key`: lengths are compared before bytes.
 fn is_stored(stored: &[u8], key: &[u8], n: usize) -> bool
@@ -66,7 +63,7 @@ fn place_of(own: &[u32], text: &[u8], extras: usize, key: &[u8]) -> usize
 // The same, where a hint that isn't larger than their number is believed.
 fn place_for(own: &[u32], text: &[u8], extras: usize, key: &[u8], hint: usize) -> usize
     requires { ⌜ extras * 32 + 32 ≤ length (now own) ⌝ }
-    ensures { λ r. ⌜ ((hint ≤ extras → placeAt (now (own .entry)) (now (text .entry)) (valueText (now (key .entry))) extras 0 ≡ hint) → r ≡ placeAt (now (own .entry)) (now (text .entry)) (valueText (now (key .entry))) extras 0) ⌝ }
+    ensures { λ r. ⌜ FindsPlace (now (own .entry)) (now (text .entry)) (valueText (now (key .entry))) extras hint r ⌝ }
 {
     if hint <= extras {
         return hint;
@@ -86,10 +83,8 @@ fn put_extra(
     requires { ⌜ kind ≤ 12 ⌝ }
     requires { ⌜ gives tt ≡ checkedOf (now key) ⌝ }
     requires { ⌜ gives tt ≡ checkedOf (now value) ⌝ }
-    requires { ⌜ given .fill ≤ length (now text) ⌝ }
-    requires { ⌜ length (now text) ≤ 16777216 ⌝ }
-    requires { ⌜ given .extras * 32 + 32 ≤ length (now own) ⌝ }
-    ensures { λ r. ⌜ ((g : Said) (rooms : Rooms) (p : Place) (used : ℕ) → Held (now (own .entry)) (now (text .entry)) (given .extras) (given .fill) g → Roomy rooms used (length (now (own .entry))) (length (now (text .entry))) → Hinted hint g (valueText (now (key .entry))) → Meets p (now (own .exit)) (now (text .exit)) (putExtra rooms p used kind (valueText (now (key .entry))) (valueText (now (value .entry))) g) (gaveAnswer r)) ⌝ }
+    requires { ⌜ Bounded given (areas (now own) (now text)) ⌝ }
+    ensures { λ r. ⌜ PutsExtra kind (now (key .entry)) (now (value .entry)) hint given (areas (now (own .entry)) (now (text .entry))) (areas (now (own .exit)) (now (text .exit))) r ⌝ }
 {
     let extras = given.extras;
     let i = place_for(own, text, extras, key, hint);
@@ -111,10 +106,8 @@ pub fn read_extra(
     text: &mut [u8],
 ) -> Gave
     requires { ⌜ kind ≤ 12 ⌝ }
-    requires { ⌜ given .fill ≤ length (now text) ⌝ }
-    requires { ⌜ length (now text) ≤ 16777216 ⌝ }
-    requires { ⌜ given .extras * 32 + 32 ≤ length (now own) ⌝ }
-    ensures { λ r. ⌜ ((x : Attribute) (g : Said) (rooms : Rooms) (p : Place) (used : ℕ) → x .key ≡ now (key .entry) → x .value ≡ now (value .entry) → Held (now (own .entry)) (now (text .entry)) (given .extras) (given .fill) g → Roomy rooms used (length (now (own .entry))) (length (now (text .entry))) → Hinted hint g (valueText (x .key)) → Meets p (now (own .exit)) (now (text .exit)) (readExtra rooms p used kind x g) (gaveAnswer r)) ⌝ }
+    requires { ⌜ Bounded given (areas (now own) (now text)) ⌝ }
+    ensures { λ r. ⌜ ReadsExtra kind (now (key .entry)) (now (value .entry)) hint given (areas (now (own .entry)) (now (text .entry))) (areas (now (own .exit)) (now (text .exit))) r ⌝ }
 {
     let named = check_value(key);
     match named {

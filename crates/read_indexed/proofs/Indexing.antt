@@ -19,7 +19,8 @@ use Rattle.read_element.specs.Outcome.{_>>=_, Place, Rooms}
 use Rattle.read_element.specs.Attributes.{Given, readAttributes}
 use Rattle.read_element.specs.inside.Held.{keysOf, placeAt, Held, Roomy}
 use Rattle.read_element.proofs.TreeOutcome.{Holds, held}
-use Rattle.read_attribute.specs.inside.Steps.{faultAt, Matches, went, stopped}
+use Rattle.read_attribute.specs.inside.Steps.{faultAt, Matches}
+use Rattle.read_element.specs.inside.Refines.{went, stopped}
 use Rattle.read_free.specs.inside.Unrepeated.{Unrepeated}
 use Rattle.read_extras.proofs.Choosing.{place-held}
 use Rattle.read_extra_record.specs.declared.Given.{Given as Counted}

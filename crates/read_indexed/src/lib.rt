@@ -9,18 +9,14 @@ use read_extra_record::Given;
 use read_places::extra_bucket;
 use read_places::place_in;
 ghost use mathlib.Core.Path.{_≡_};
-ghost use mathlib.Core.List.{[]};
-ghost use Prim.Native.Nat.{ℕ, _+_, _-_, _*_, _≤_, _<_};
+ghost use Prim.Native.Nat.{_+_, _-_, _*_, _≤_, _<_};
 ghost use lib.ListN.{length, take, drop};
 ghost use Rattle.area.specs.Area.{zeros};
 ghost use Rattle.text.specs.Value.{valueText};
-ghost use Rattle.table.specs.Event.{keyAt, attributesFrom};
-ghost use Rattle.read_element.specs.Outcome.{Place, Rooms};
-ghost use Rattle.read_element.specs.Attributes.{readAttributes};
-ghost use Rattle.read_element.specs.inside.Held.{placeAt, Held, Roomy};
-ghost use Rattle.read_attribute.specs.inside.Steps.{Matches};
-ghost use Rattle.read_free.specs.inside.Unrepeated.{Unrepeated};
-ghost use Rattle.read_each.specs.inside.Fresh.{fresh};
+ghost use Rattle.table.specs.Event.{keyAt};
+ghost use Rattle.read_element.specs.inside.Held.{placeAt};
+ghost use Rattle.read_element.specs.inside.Refines.{tagged, areas};
+ghost use Rattle.read_each.specs.inside.Promises.{Begins, ReadsWithin};
 ghost use Rattle.read_indexed.specs.inside.Indexed.{Indexed};
 
 // The place of the extra with the key of attribute j among the extras, or their number.
@@ -76,17 +72,13 @@ pub fn read_chained(
     text: &mut [u8],
 ) -> Step
     requires { ⌜ kind ≤ 12 ⌝ }
-    requires { ⌜ range .first ≤ range .end ⌝ }
-    requires { ⌜ range .end * 5 ≤ length (now attributes) ⌝ }
-    requires { ⌜ range .end ≤ 65536 ⌝ }
-    requires { ⌜ length (now text) ≤ 16777216 ⌝ }
     requires { ⌜ (range .end - range .first) * 32 + 32 ≤ k ⌝ }
     requires { ⌜ k + m + (range .end - range .first) ≤ length (now own) ⌝ }
     requires { ⌜ 0 < m ⌝ }
-    requires { ⌜ Held (take k (now own)) (now text) 0 fill (fresh kind (take fill (now text))) ⌝ }
     requires { ⌜ drop k (now own) ≡ zeros (length (now own) - k) ⌝ }
-    requires { ⌜ Unrepeated (now attributes) (now source) (range .first) clear ⌝ }
-    ensures { λ r. ⌜ ((rooms : Rooms) (p : Place) (used whole : ℕ) → length (now (own .entry)) ≤ whole → Roomy rooms used whole (length (now (text .entry))) → Matches p (take k (now (own .exit))) (now (text .exit)) (readAttributes rooms p used kind [] (range .first) (attributesFrom (now (attributes .entry)) (now (source .entry)) (range .end - range .first) (range .first)) (fresh kind (take fill (now (text .entry))))) r) ⌝ }
+    requires { ⌜ Begins kind (tagged (now attributes) (now source)) range clear fill (areas (take k (now own)) (now text)) ⌝ }
+    ensures { λ r. ⌜ ReadsWithin kind (tagged (now (attributes .entry)) (now (source .entry))) range fill
+        (areas (now (own .entry)) (now (text .entry))) (areas (take k (now (own .exit))) (now (text .exit))) r ⌝ }
 {
     let end = range.end;
     let mut j = range.first;

@@ -18,7 +18,7 @@ use Rattle.tree_report.proofs.EncodeLists.{Each, done, more}
 use Rattle.read_element.specs.Outcome.{_>>=_, Place, Rooms, fits}
 use Rattle.read_element.specs.Attributes.{Given, Grown, readElement}
 use Rattle.read_element.specs.inside.Held.{Keyed, Held, Roomy}
-use Rattle.read_attributes.specs.inside.Elements.{Free, Becomes, became, faulted}
+use Rattle.read_attributes.specs.inside.Elements.{Free, Becomes, grew}
 use Rattle.read_attributes.specs.declared.Grown.{Grown as CodedGrown}
 use Rattle.read_attributes.specs.declared.Element.{Element}
 use Rattle.read_attributes.specs.declared.Element.the-variants as element
@@ -26,7 +26,8 @@ use Rattle.read_element.proofs.TreeOutcome as outcome
 use Rattle.read_element.proofs.TreeRoles.{suite-wide, case-wide}
 use Rattle.read_element.proofs.TreeElement.{Few, no-extras, extras-of}
 use Rattle.read_content.specs.Content.{Content, grown, adding}
-use Rattle.read_content.specs.inside.Holds.{kindIn, Holds, Sized, Comes, came, halted, Added, addedIn, addedTo}
+use Rattle.read_element.specs.inside.Refines.{went, stopped}
+use Rattle.read_content.specs.inside.Holds.{kindIn, Holds, Sized, Comes, Added, addedIn, addedTo}
 use Rattle.read_content.specs.declared.Content.{Content as CodedContent}
 use Rattle.read_content.specs.declared.Performed.{Performed}
 use Rattle.read_content.proofs.Records.{joined-append, joined-size, whole-append, keyed-whole, kind-front, kind-behind}
@@ -83,7 +84,7 @@ own-size {own} {g = g} h =
     omega arith
 
 pub becomes-fits : {p : Place} {before : List (List ℕ)} {own text attributes source : List ℕ} {o : Outcome Grown} {e : CodedGrown} → Becomes p before own text attributes source o (element.Is e) → e .records * 32 ≤ length own
-becomes-fits {e = e} (became h q f) = let a = own-size h in omega arith
+becomes-fits {e = e} (went (grew h q f)) = let a = own-size h in omega arith
 
 -- ---- the kinds
 each-at : {κ : ℕ} {rs : List (List ℕ)} → Each (λ r. getD r 0 0 ≡ κ) rs → (i : ℕ) → i < length rs → kindIn rs i ≡ κ
@@ -154,8 +155,8 @@ module _ {words text scratch attributes source : List ℕ} {c : CodedContent} {s
     comes : {own text′ : List ℕ} {o : Outcome Grown} {el : Element} → Becomes p (s .records) own text′ attributes source o el → outcome.Holds (NewKinds kind (s .records)) o
         → Comes (Added kind c s) p (putMid (c .used * 32) (length words - c .used * 32) words own) text′ scratch attributes source (o >>= λ g. accepted (grown s g)) (addedTo el c)
     unfolding _>>=_
-    comes (became {e = e} h q f) (outcome.accept k) = came (grown-holds h q f k) (new-added c s e k)
-    comes faulted outcome.refuse = halted
+    comes (went (grew {e = e} h q f)) (outcome.accept k) = went (grown-holds h q f k, new-added c s e k)
+    comes stopped outcome.refuse = stopped
 
     pub element-comes : (rooms : Rooms) {own text′ : List ℕ} {el : Element} (j : ℕ) (xs : List Attribute) → 1 ≤ kind → kind ≤ 12
         → Becomes p (s .records) own text′ attributes source (readElement rooms p kind j xs (s .records) (take (c .fill) text)) el → {r : Performed} → r ≡ addedTo el c

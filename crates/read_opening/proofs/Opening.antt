@@ -16,7 +16,8 @@ use Rattle.read_state.specs.Control.{Level, top, suite, case, status, Mode, at,
 use Rattle.read_state.specs.inside.Coded.{opening}
 use Rattle.read_place.specs.Marks.{Marks, marksAfter}
 use Rattle.read_content.specs.Content.{Content, killAll, killKind, propertyKind, recordOf, adding, withRecords, perform}
-use Rattle.read_content.specs.inside.Holds.{killWords, Holds, Listed, Opened, Lists, opens, hasList, Comes, came, halted, Performs, noList, listOf, content, withList, Added}
+use Rattle.read_element.specs.inside.Refines.{went, stopped}
+use Rattle.read_content.specs.inside.Holds.{killWords, Holds, Listed, Opened, Lists, opens, hasList, Comes, Performs, noList, listOf, content, withList, Added}
 use Rattle.read_content.specs.declared.List.{List as CodedList}
 use Rattle.read_content.specs.declared.Content.{Content as CodedContent}
 use Rattle.read_content.specs.declared.Performed.{Performed}
@@ -30,8 +31,8 @@ no e = absurd (let z : _≡_ {A = ℕ} 0 1 = ap (λ (b : Bool). cond b 1 0) e in
 
 pub comes-on : {Q R : CodedContent → Content → Type 0} {p : Place} {words text scratch attributes source : List ℕ} {o : Outcome Content} {r : Performed}
     → Comes Q p words text scratch attributes source o r → ((c : CodedContent) (s : Content) → Q c s → R c s) → Comes R p words text scratch attributes source o r
-comes-on (came {c = c} {s = s} h q) k = came h (k c s q)
-comes-on halted k = halted
+comes-on (went {s = s} {c = c} (h, q)) k = went (h, k c s q)
+comes-on stopped k = stopped
 
 -- ---- the report
 abbrev pub reported : CodedContent → CodedContent
@@ -100,11 +101,15 @@ module _ {words text scratch attributes source : List ℕ} {c : CodedContent} {s
         → Performs (listing l) m p words′ text scratch attributes source (accepted (withRecords s (killKind (propertyKind l) (recordOf l m) (s .records)))) (To (withList l c (record { first = c .used; count = 0 })))
     list-opened top a li e = no a
     list-opened suite a li e =
-        came (kind-killed 4 (m .suiteAt) (c .«suite_list») (withList suite c (record { first = c .used; count = 0 })) (li .0) (lit≤ tt) (lit≤ tt) refl e)
-        (rw (hd .used) (listed-anew 4 (m .suiteAt) (s .records) (lit≤ tt) (lit≤ tt) (li .0)), (li .1, omega arith))
+        went (
+          kind-killed 4 (m .suiteAt) (c .«suite_list») (withList suite c (record { first = c .used; count = 0 })) (li .0) (lit≤ tt) (lit≤ tt) refl e,
+          (rw (hd .used) (listed-anew 4 (m .suiteAt) (s .records) (lit≤ tt) (lit≤ tt) (li .0)), (li .1, omega arith)),
+        )
     list-opened case a li e =
-        came (kind-killed 5 (m .caseAt) (c .«case_list») (withList case c (record { first = c .used; count = 0 })) (li .0 .1) (lit≤ tt) (lit≤ tt) refl e)
-        ((listed-other 5 (m .caseAt) (s .records) (lit≤ tt) (lit≤ tt) (lit≤ tt) (λ z. omega arith) (li .0 .0), rw (hd .used) (listed-anew 5 (m .caseAt) (s .records) (lit≤ tt) (lit≤ tt) (li .0 .1))), (li .1, omega arith))
+        went (
+          kind-killed 5 (m .caseAt) (c .«case_list») (withList case c (record { first = c .used; count = 0 })) (li .0 .1) (lit≤ tt) (lit≤ tt) refl e,
+          ((listed-other 5 (m .caseAt) (s .records) (lit≤ tt) (lit≤ tt) (lit≤ tt) (λ z. omega arith) (li .0 .0), rw (hd .used) (listed-anew 5 (m .caseAt) (s .records) (lit≤ tt) (lit≤ tt) (li .0 .1))), (li .1, omega arith)),
+        )
     list-opened status a li e = no a
 
 -- the same areas with other lists
@@ -165,9 +170,9 @@ module _ {words text scratch attributes source : List ℕ} {c : CodedContent} {s
 
   property-on : (p : Place) (l : Level) {words′ text′ : List ℕ} {o : Outcome Content} {added : Performed} → Lists (listing l) m c s → Comes (Added (propertyKind l) c s) p words′ text′ scratch attributes source o added
       → Performs (listing l) m p words′ text′ scratch attributes source o (counted l (record { first = listOf l c .first; count = listOf l c .count + 1 }) added)
-  property-on p l li (came {c = c′} {s = s′} h a) =
-      came (holds-lists (withList l c′ (record { first = listOf l c .first; count = listOf l c .count + 1 })) (with-is l c′ (record { first = listOf l c .first; count = listOf l c .count + 1 })) h) (property-lists l li c′ s′ (h .used) a)
-  property-on p l li halted = halted
+  property-on p l li (went {s = s′} {c = c′} (h, a)) =
+      went (holds-lists (withList l c′ (record { first = listOf l c .first; count = listOf l c .count + 1 })) (with-is l c′ (record { first = listOf l c .first; count = listOf l c .count + 1 })) h, property-lists l li c′ s′ (h .used) a)
+  property-on p l li stopped = stopped
 
   pub property-comes : (p : Place) (l : Level) (rooms : Rooms) (j : ℕ) (xs : List Attribute) {kind : ℕ} {old : CodedList} {words′ text′ : List ℕ} {added r : Performed} → kind ≡ propertyKind l → Lists (listing l) m c s
       → old ≡ listOf l c → Comes (Added kind c s) p words′ text′ scratch attributes source (adding rooms p kind j xs s) added

@@ -13,22 +13,12 @@ use read_state::Level;
 use tree_record::kind::CASE;
 use tree_record::kind::REPORT;
 use tree_record::kind::SUITE;
-ghost use mathlib.Core.Path.{_≡_};
-ghost use mathlib.Core.Bool.{Bool, true};
-ghost use mathlib.Core.List.{List as Series, []};
-ghost use Prim.Native.Nat.{ℕ, _+_, _-_, _*_, _≤_};
+ghost use Prim.Native.Nat.{_*_, _≤_};
 ghost use lib.ListN.{length};
-ghost use Rattle.refusal.specs.Refusal.{nowhere};
-ghost use Rattle.table.specs.Event.{attributesFrom};
-ghost use Rattle.read_element.specs.Outcome.{Place, Rooms};
-ghost use Rattle.read_state.specs.Control.{at, top, suite, case, listing, turn};
-ghost use Rattle.read_state.specs.Control as plan;
-ghost use Rattle.read_state.specs.inside.Coded.{levelOf, opening};
-ghost use Rattle.read_place.specs.Marks.{marksAfter};
-ghost use Rattle.read_place.specs.Marks as standing;
-ghost use Rattle.read_content.specs.Content.{killAll, adding, withRecords, propertyKind};
-ghost use Rattle.read_content.specs.Content as done;
-ghost use Rattle.read_content.specs.inside.Holds.{Holds, Holding, Lists, Sized, Added, Comes, Performs, opens, listOf};
+ghost use Rattle.read_state.specs.inside.Coded.{levelOf};
+ghost use Rattle.read_element.specs.inside.Refines.{tagged, areas};
+ghost use Rattle.read_content.specs.inside.Holds.{listOf};
+ghost use Rattle.read_opening.specs.inside.Promises.{Ready, AddsElement, OpensReport, OpensSuite, OpensCase, OpensElement, ReadsProperty};
 
 fn add_element(
     kind: u32,
@@ -41,12 +31,9 @@ fn add_element(
 ) -> Performed
     requires { ⌜ 1 ≤ kind ⌝ }
     requires { ⌜ kind ≤ 12 ⌝ }
-    requires { ⌜ range .first ≤ range .end ⌝ }
-    requires { ⌜ range .end * 5 ≤ length (now attributes) ⌝ }
-    requires { ⌜ range .end ≤ 65536 ⌝ }
-    requires { ⌜ length (now text) ≤ 16777216 ⌝ }
-    requires { ⌜ Holding (now records) (now text) (now attributes) (now source) content ⌝ }
-    ensures { λ r. ⌜ ((rooms : Rooms) (p : Place) (s : done.Content) (scratch : Series ℕ) → p .attribute ≡ nowhere → Holds (now (records .entry)) (now (text .entry)) scratch (now (attributes .entry)) (now (source .entry)) content s → Sized rooms (length (now (records .entry))) (length (now (text .entry))) (length scratch) → Comes (Added kind content s) p (now (records .exit)) (now (text .exit)) scratch (now (attributes .entry)) (now (source .entry)) (adding rooms p kind (range .first) (attributesFrom (now (attributes .entry)) (now (source .entry)) (range .end - range .first) (range .first)) s) r) ⌝ }
+    requires { ⌜ Ready range content (tagged (now attributes) (now source)) (areas (now records) (now text)) ⌝ }
+    ensures { λ r. ⌜ AddsElement kind range content (tagged (now (attributes .entry)) (now (source .entry)))
+        (areas (now (records .entry)) (now (text .entry))) (areas (now (records .exit)) (now (text .exit))) r ⌝ }
 {
     let at = content.used * 32;
     let known = content.free;
@@ -82,12 +69,9 @@ fn open_report(
     records: &mut [u32],
     text: &mut [u8],
 ) -> Performed
-    requires { ⌜ range .first ≤ range .end ⌝ }
-    requires { ⌜ range .end * 5 ≤ length (now attributes) ⌝ }
-    requires { ⌜ range .end ≤ 65536 ⌝ }
-    requires { ⌜ length (now text) ≤ 16777216 ⌝ }
-    requires { ⌜ Holding (now records) (now text) (now attributes) (now source) content ⌝ }
-    ensures { λ r. ⌜ ((rooms : Rooms) (p : Place) (s : done.Content) (scratch : Series ℕ) (m : standing.Marks) → p .attribute ≡ nowhere → Holds (now (records .entry)) (now (text .entry)) scratch (now (attributes .entry)) (now (source .entry)) content s → Sized rooms (length (now (records .entry))) (length (now (text .entry))) (length scratch) → s .gathered ≡ [] → Performs (at top) m p (now (records .exit)) (now (text .exit)) scratch (now (attributes .entry)) (now (source .entry)) (adding rooms p 1 (range .first) (attributesFrom (now (attributes .entry)) (now (source .entry)) (range .end - range .first) (range .first)) (withRecords s (killAll (s .records)))) r) ⌝ }
+    requires { ⌜ Ready range content (tagged (now attributes) (now source)) (areas (now records) (now text)) ⌝ }
+    ensures { λ r. ⌜ OpensReport range content (tagged (now (attributes .entry)) (now (source .entry)))
+        (areas (now (records .entry)) (now (text .entry))) (areas (now (records .exit)) (now (text .exit))) r ⌝ }
 {
     kill(records, content.report_at, content.used);
     let mut c = content;
@@ -103,12 +87,9 @@ fn open_suite(
     records: &mut [u32],
     text: &mut [u8],
 ) -> Performed
-    requires { ⌜ range .first ≤ range .end ⌝ }
-    requires { ⌜ range .end * 5 ≤ length (now attributes) ⌝ }
-    requires { ⌜ range .end ≤ 65536 ⌝ }
-    requires { ⌜ length (now text) ≤ 16777216 ⌝ }
-    requires { ⌜ Holding (now records) (now text) (now attributes) (now source) content ⌝ }
-    ensures { λ r. ⌜ ((rooms : Rooms) (p : Place) (s : done.Content) (scratch : Series ℕ) (m : standing.Marks) → p .attribute ≡ nowhere → Holds (now (records .entry)) (now (text .entry)) scratch (now (attributes .entry)) (now (source .entry)) content s → Sized rooms (length (now (records .entry))) (length (now (text .entry))) (length scratch) → s .gathered ≡ [] → m .suiteAt ≡ length (s .records) → Performs (at suite) m p (now (records .exit)) (now (text .exit)) scratch (now (attributes .entry)) (now (source .entry)) (adding rooms p 2 (range .first) (attributesFrom (now (attributes .entry)) (now (source .entry)) (range .end - range .first) (range .first)) s) r) ⌝ }
+    requires { ⌜ Ready range content (tagged (now attributes) (now source)) (areas (now records) (now text)) ⌝ }
+    ensures { λ r. ⌜ OpensSuite range content (tagged (now (attributes .entry)) (now (source .entry)))
+        (areas (now (records .entry)) (now (text .entry))) (areas (now (records .exit)) (now (text .exit))) r ⌝ }
 {
     let none = List { first: 0, count: 0 };
     let mut c = content;
@@ -124,12 +105,9 @@ fn open_case(
     records: &mut [u32],
     text: &mut [u8],
 ) -> Performed
-    requires { ⌜ range .first ≤ range .end ⌝ }
-    requires { ⌜ range .end * 5 ≤ length (now attributes) ⌝ }
-    requires { ⌜ range .end ≤ 65536 ⌝ }
-    requires { ⌜ length (now text) ≤ 16777216 ⌝ }
-    requires { ⌜ Holding (now records) (now text) (now attributes) (now source) content ⌝ }
-    ensures { λ r. ⌜ ((rooms : Rooms) (p : Place) (s : done.Content) (scratch : Series ℕ) (m : standing.Marks) → p .attribute ≡ nowhere → Holds (now (records .entry)) (now (text .entry)) scratch (now (attributes .entry)) (now (source .entry)) content s → Sized rooms (length (now (records .entry))) (length (now (text .entry))) (length scratch) → Lists (at suite) m content s → m .caseAt ≡ length (s .records) → Performs (at case) m p (now (records .exit)) (now (text .exit)) scratch (now (attributes .entry)) (now (source .entry)) (adding rooms p 3 (range .first) (attributesFrom (now (attributes .entry)) (now (source .entry)) (range .end - range .first) (range .first)) s) r) ⌝ }
+    requires { ⌜ Ready range content (tagged (now attributes) (now source)) (areas (now records) (now text)) ⌝ }
+    ensures { λ r. ⌜ OpensCase range content (tagged (now (attributes .entry)) (now (source .entry)))
+        (areas (now (records .entry)) (now (text .entry))) (areas (now (records .exit)) (now (text .exit))) r ⌝ }
 {
     let none = List { first: 0, count: 0 };
     let mut c = content;
@@ -149,12 +127,9 @@ pub fn open_element(
 ) -> Performed
     requires { ⌜ 1 ≤ kind ⌝ }
     requires { ⌜ kind ≤ 12 ⌝ }
-    requires { ⌜ range .first ≤ range .end ⌝ }
-    requires { ⌜ range .end * 5 ≤ length (now attributes) ⌝ }
-    requires { ⌜ range .end ≤ 65536 ⌝ }
-    requires { ⌜ length (now text) ≤ 16777216 ⌝ }
-    requires { ⌜ Holding (now records) (now text) (now attributes) (now source) content ⌝ }
-    ensures { λ r. ⌜ ((rooms : Rooms) (p : Place) (s : done.Content) (scratch : Series ℕ) (k : plan.Control) (m : standing.Marks) (e : Bool) → p .attribute ≡ nowhere → opens kind (k .mode) ≡ true → Holds (now (records .entry)) (now (text .entry)) scratch (now (attributes .entry)) (now (source .entry)) content s → Lists (k .mode) m content s → Sized rooms (length (now (records .entry))) (length (now (text .entry))) (length scratch) → Performs (turn (opening kind e) k .mode) (marksAfter (opening kind e) (length (s .records)) m) p (now (records .exit)) (now (text .exit)) scratch (now (attributes .entry)) (now (source .entry)) (done.perform rooms p (opening kind e) (range .first) (attributesFrom (now (attributes .entry)) (now (source .entry)) (range .end - range .first) (range .first)) k m s) r) ⌝ }
+    requires { ⌜ Ready range content (tagged (now attributes) (now source)) (areas (now records) (now text)) ⌝ }
+    ensures { λ r. ⌜ OpensElement kind range content (tagged (now (attributes .entry)) (now (source .entry)))
+        (areas (now (records .entry)) (now (text .entry))) (areas (now (records .exit)) (now (text .exit))) r ⌝ }
 {
     match kind {
         REPORT => open_report(range, content, attributes, source, records, text),
@@ -174,13 +149,10 @@ pub fn read_property(
     records: &mut [u32],
     text: &mut [u8],
 ) -> Performed
-    requires { ⌜ range .first ≤ range .end ⌝ }
-    requires { ⌜ range .end * 5 ≤ length (now attributes) ⌝ }
-    requires { ⌜ range .end ≤ 65536 ⌝ }
-    requires { ⌜ length (now text) ≤ 16777216 ⌝ }
     requires { ⌜ listOf (levelOf level) content .count * 32 ≤ length (now records) ⌝ }
-    requires { ⌜ Holding (now records) (now text) (now attributes) (now source) content ⌝ }
-    ensures { λ r. ⌜ ((rooms : Rooms) (p : Place) (s : done.Content) (scratch : Series ℕ) (m : standing.Marks) → p .attribute ≡ nowhere → Holds (now (records .entry)) (now (text .entry)) scratch (now (attributes .entry)) (now (source .entry)) content s → Lists (listing (levelOf level)) m content s → Sized rooms (length (now (records .entry))) (length (now (text .entry))) (length scratch) → Performs (listing (levelOf level)) m p (now (records .exit)) (now (text .exit)) scratch (now (attributes .entry)) (now (source .entry)) (adding rooms p (propertyKind (levelOf level)) (range .first) (attributesFrom (now (attributes .entry)) (now (source .entry)) (range .end - range .first) (range .first)) s) r) ⌝ }
+    requires { ⌜ Ready range content (tagged (now attributes) (now source)) (areas (now records) (now text)) ⌝ }
+    ensures { λ r. ⌜ ReadsProperty (levelOf level) range content (tagged (now (attributes .entry)) (now (source .entry)))
+        (areas (now (records .entry)) (now (text .entry))) (areas (now (records .exit)) (now (text .exit))) r ⌝ }
 {
     let old = list_of(level, content);
     let list = List {

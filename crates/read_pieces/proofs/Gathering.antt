@@ -27,7 +27,8 @@ use Rattle.read_state.specs.declared.Mode.{Mode as CodedMode}
 use Rattle.read_state.specs.declared.Mode.the-variants as mode
 use Rattle.read_place.specs.Marks.{Marks}
 use Rattle.read_content.specs.Content.{Content, pieceOf, joinPiece, gather}
-use Rattle.read_content.specs.inside.Holds.{Holds, Opened, Sized, Lists, came, Performs, faultOf}
+use Rattle.read_element.specs.inside.Refines.{went}
+use Rattle.read_content.specs.inside.Holds.{Holds, Opened, Sized, Lists, Performs, faultOf}
 use Rattle.read_pieces.specs.inside.Pieces.{pieceAnswer, pieceLaid, joinedBy, gathersAt}
 use Rattle.read_content.specs.declared.Content.{Content as CodedContent}
 use Rattle.read_content.specs.declared.Performed.{Performed}
@@ -201,7 +202,7 @@ module _ {words text scratch attributes source : List ℕ} {c : CodedContent} {s
         let u = scratch-size hd in
         let t : fits (rooms .scratch) (length (s .description) + length (s .gathered) + length v) ≡ true = room-for v ∙ le-leb (c .description + c .gathered + length v) (length scratch) (omega arith) in
         let j = joined-holds k l o m li v scratch′ n (f .1) (new-scratch v scratch′ h z) in
-        rw (q, t) (came (j .0) (j .1))
+        rw (q, t) (went (j .0, j .1))
     gathered-put (refuses x) q e z = let w : _≡_ {A = ℕ} 0 1 = cc in absurd (omega arith)
 
     gathered-not : (a : Answer (List ℕ)) → pieceOf kind b ≡ a → (why : Cause) → refuses why ≡ placed (length scratch - (c .description + c .gathered)) a

@@ -13,18 +13,12 @@ use text_pieces::gather_indent;
 use text_pieces::gather_reference;
 use text_pieces::gather_text;
 ghost use mathlib.Core.Path.{_≡_};
-ghost use mathlib.Core.List.{List};
-ghost use Prim.Native.Nat.{ℕ, _+_, _≤_};
+ghost use Prim.Native.Nat.{_+_, _≤_};
 ghost use lib.ListN.{length};
-ghost use Rattle.refusal.specs.Refusal.{nowhere};
 ghost use Rattle.text.specs.Kept.{keptAnswer};
-ghost use Rattle.read_element.specs.Outcome.{Place, Rooms};
-ghost use Rattle.read_state.specs.Control as plan;
-ghost use Rattle.read_state.specs.inside.Coded.{levelOf, modeAt, modeOf};
-ghost use Rattle.read_place.specs.Marks as standing;
-ghost use Rattle.read_content.specs.Content as done;
-ghost use Rattle.read_content.specs.inside.Holds.{Holds, Lists, Sized, Performs};
+ghost use Rattle.read_state.specs.inside.Coded.{levelOf, modeOf};
 ghost use Rattle.table.specs.Event.{pieceKind, pieceBytes};
+ghost use Rattle.read_pieces.specs.inside.Promises.{Gathers};
 ghost use Rattle.read_pieces.specs.inside.Pieces.{pieceAnswer, pieceLaid, joinedBy, gathersAt};
 ghost use Rattle.refusal.specs.declared.Cause.the-variants as cause;
 ghost use Rattle.read_state.specs.Control.{gathers};
@@ -89,7 +83,7 @@ pub fn gather(
     scratch: &mut [u8],
 ) -> Performed
     requires { ⌜ content .description + content .gathered ≤ length (now scratch) ⌝ }
-    ensures { λ r. ⌜ ((rooms : Rooms) (p : Place) (s : done.Content) (l : plan.Level) (o : plan.Output) (m : standing.Marks) (words text attributes source : List ℕ) → p .attribute ≡ nowhere → Holds words text (now (scratch .entry)) attributes source content s → Lists (modeAt mode l o) m content s → Sized rooms (length words) (length text) (length (now (scratch .entry))) → Performs (modeAt mode l o) m p words text (now (scratch .exit)) attributes source (done.gather rooms p (modeAt mode l o) (pieceKind kind) (pieceBytes kind (now (bytes .entry))) s) r) ⌝ }
+    ensures { λ r. ⌜ Gathers mode kind (now (bytes .entry)) content (now (scratch .entry)) (now (scratch .exit)) r ⌝ }
 {
     let from = content.description + content.gathered;
     let piece = gather_piece(kind, bytes, &mut scratch[from..]);

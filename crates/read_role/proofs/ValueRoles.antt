@@ -29,7 +29,8 @@ use Rattle.read_keys.specs.declared.Role.the-variants as role
 use Rattle.read_element.specs.Outcome.{Place, Rooms, there, within, _>>=_}
 use Rattle.read_element.specs.Attributes.{Given, storing, readText, byRole, keep}
 use Rattle.utf8.specs.Characters.{joined}
-use Rattle.read_element.specs.inside.Held.{unmoved, moved, putting, Held, Roomy, Meets, goes, stops}
+use Rattle.read_element.specs.inside.Held.{unmoved, moved, putting, Held, Roomy, Meets}
+use Rattle.read_element.specs.inside.Refines.{went, stopped}
 use Rattle.read_values.specs.inside.Answers.{tookAnswer}
 use Rattle.read_role.specs.inside.Roles.{roleFits, tookGiven}
 use Rattle.read_values.specs.declared.Took.{Took}
@@ -109,12 +110,12 @@ module _ {own text : List ℕ} {extras fill : ℕ} {g : Given} (hd : Held own te
       accepted (record { main = putText o k (length (g .texts)) (length v) (g .main); extras = g .extras; texts = texts }))
       (tookGiven extras took)
   unfolding there _>>=_
-  text-by took false u f b e q tx = rw (took-refuses extras took e) stops
-  text-by took true false f b e q tx = rw (took-refuses extras took e) stops
+  text-by took false u f b e q tx = rw (took-refuses extras took e) stopped
+  text-by took true false f b e q tx = rw (took-refuses extras took e) stopped
   text-by took true true false b e q tx = rw (took-refuses extras took e) (meets-refused cause.TextFull _ (text-none hd ro v (leb-false (length v) (length text - fill) b)))
   text-by took true true true b e q tx =
       let h = leb-true (length v) (length text - fill) b in
-      rw (took-gives extras took e) (meets-need cause.TextFull _ (text-room hd ro v h) (goes (text-record h q tx)))
+      rw (took-gives extras took e) (meets-need cause.TextFull _ (text-room hd ro v h) (went (text-record h q tx)))
 
 -- each role's value
 module _ {own text : List ℕ} {extras fill : ℕ} {g : Given} (hd : Held own text extras fill g) (rooms : Rooms) (p : Place) (used kind key : ℕ) (x : Attribute) {value : List ℕ} (ev : x .value ≡ value) {r : Role} (fits : roleFits r) (took : Took) {own′ : List ℕ} where
@@ -161,4 +162,4 @@ module _ {own text : List ℕ} {extras fill : ℕ} {g : Given} (hd : Held own te
 pub ignored-role : {own text : List ℕ} {extras fill : ℕ} {g : Given} → Held own text extras fill g → (rooms : Rooms) (p : Place) (used kind key : ℕ) (x : Attribute) {r : Role} → r ≡ role.Ignored
     → Meets (within p key) own text (byRole rooms p used kind key r x g) (gives (extras, fill))
 unfolding byRole
-ignored-role hd rooms p used kind key x er = rw er (goes hd)
+ignored-role hd rooms p used kind key x er = rw er (went hd)

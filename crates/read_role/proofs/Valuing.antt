@@ -10,7 +10,8 @@ use Rattle.refusal.specs.Refusal.{accepted}
 use Rattle.read_element.specs.Outcome.{Place, there, _>>=_}
 use Rattle.read_element.specs.Attributes.{Given, withMain}
 use Rattle.utf8.specs.Characters.{joined}
-use Rattle.read_element.specs.inside.Held.{unmoved, putting, Held, Meets, goes, stops}
+use Rattle.read_element.specs.inside.Held.{unmoved, putting, Held, Meets}
+use Rattle.read_element.specs.inside.Refines.{went, stopped}
 use Rattle.read_values.specs.inside.Answers.{tookAnswer}
 use Rattle.read_role.specs.inside.Roles.{tookGiven}
 use Rattle.read_values.specs.declared.Took.{Took}
@@ -37,7 +38,7 @@ module _ {own text : List ℕ} {extras fill : ℕ} {g : Given} (hd : Held own te
   unfolding there _>>=_
   value-meets f loc len p (gives a) (To n) e o =
       let z : n ≡ fill = cc in
-      rw (o, z) (goes (main-changed (f a) (loc a) (len a)))
+      rw (o, z) (went (main-changed (f a) (loc a) (len a)))
   value-meets f loc len p (gives a) (Not why) e o = let z : _≡_ {A = ℕ} 0 1 = cc in absurd (omega arith)
   value-meets f loc len p (refuses n) (To k) e o = let z : _≡_ {A = ℕ} 0 1 = cc in absurd (omega arith)
-  value-meets f loc len p (refuses n) (Not why) e o = let z : why ≡ n = cc in rw z stops
+  value-meets f loc len p (refuses n) (Not why) e o = let z : why ≡ n = cc in rw z stopped

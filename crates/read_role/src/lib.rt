@@ -7,23 +7,17 @@ use read_values::read_number;
 use read_values::read_text;
 use read_values::read_timestamp;
 use read_values::read_uuid;
-ghost use mathlib.Core.Path.{_≡_};
-ghost use Prim.Native.Nat.{ℕ, _≤_};
+ghost use Prim.Native.Nat.{_≤_};
 ghost use lib.ListN.{length};
-ghost use Rattle.table.specs.Event.{Attribute};
-ghost use Rattle.read_keys.specs.declared.Role.the-variants.{Extra as IsExtra};
-ghost use Rattle.read_element.specs.Outcome.{Place, Rooms, within};
-ghost use Rattle.read_element.specs.Attributes.{byRole};
-ghost use Rattle.read_element.specs.Attributes.{Given as Said};
-ghost use Rattle.read_element.specs.inside.Held.{Held, Roomy, Meets};
-ghost use Rattle.read_role.specs.inside.Roles.{roleFits, tookGiven};
+ghost use Rattle.read_element.specs.inside.Refines.{areas};
+ghost use Rattle.read_role.specs.inside.Roles.{roleFits, ReadsValue};
 
 // A value by its role, which is no extra.
 pub fn read_value(role: Role, value: &[u8], fill: usize, own: &mut [u32], text: &mut [u8]) -> Took
     requires { ⌜ fill ≤ length (now text) ⌝ }
     requires { ⌜ length (now text) ≤ 16777216 ⌝ }
     requires { ⌜ roleFits role ⌝ }
-    ensures { λ r. ⌜ ((x : Attribute) (g : Said) (rooms : Rooms) (p : Place) (used kind key extras : ℕ) → (role ≡ IsExtra → ⊥) → x .value ≡ now (value .entry) → Held (now (own .entry)) (now (text .entry)) extras fill g → Roomy rooms used (length (now (own .entry))) (length (now (text .entry))) → Meets (within p key) (now (own .exit)) (now (text .exit)) (byRole rooms p used kind key role x g) (tookGiven extras r)) ⌝ }
+    ensures { λ r. ⌜ ReadsValue role (now (value .entry)) fill (areas (now (own .entry)) (now (text .entry))) (areas (now (own .exit)) (now (text .exit))) r ⌝ }
 {
     match role {
         Role::Text(o, k) => read_text(value, o, k, fill, own, text),

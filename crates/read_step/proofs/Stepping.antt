@@ -26,7 +26,8 @@ use Rattle.read_place.specs.declared.Marks.{Marks as CodedMarks}
 use Rattle.read_place.proofs.Lasting.{event-kept, goes-onward, low-weak, low-going, low-onward}
 use Rattle.read_path.proofs.Lengths.{mode-short, path-short}
 use Rattle.read_content.specs.Content.{Content, gather, perform}
-use Rattle.read_content.specs.inside.Holds.{Holds, Lists, Comes, came, halted}
+use Rattle.read_element.specs.inside.Refines.{went, stopped}
+use Rattle.read_content.specs.inside.Holds.{Holds, Lists, Comes}
 use Rattle.read_content.specs.declared.Content.{Content as CodedContent}
 use Rattle.read_content.specs.declared.Performed.{Performed}
 use Rattle.read_content.specs.declared.Performed.the-variants.{To, Not}
@@ -39,14 +40,14 @@ use Rattle.read_content.proofs.Listing.{lists-at}
 -- ---- what an answer says of the outcome
 module _ {Q : CodedContent → Content → Type 0} {p : Place} {words text scratch attributes source : List ℕ} where
   pub comes-to : {o : Outcome Content} {r : Performed} (k : CodedContent) → Comes Q p words text scratch attributes source o r → r ≡ To k → (c : Content) × (o ≡ accepted c) × Holds words text scratch attributes source k c × Q k c
-  comes-to k (came {c = d} {s = s} h q) e =
+  comes-to k (went {s = s} {c = d} (h, q)) e =
       let z : d ≡ k = cc in
       (s, refl, subst (λ (x : CodedContent). Holds words text scratch attributes source x s) z h, subst (λ (x : CodedContent). Q x s) z q)
-  comes-to k halted e = let z : _≡_ {A = ℕ} 0 1 = cc in absurd (omega arith)
+  comes-to k stopped e = let z : _≡_ {A = ℕ} 0 1 = cc in absurd (omega arith)
 
   pub comes-not : {o : Outcome Content} {r : Performed} (f : Fault) → Comes Q p words text scratch attributes source o r → r ≡ Not f → o ≡ refused (faultAt p f)
-  comes-not f (came h q) e = let z : _≡_ {A = ℕ} 0 1 = cc in absurd (omega arith)
-  comes-not f (halted {f = g}) e = let z : g ≡ f = cc in ap (λ (x : Fault). refused (faultAt p x)) z
+  comes-not f (went h) e = let z : _≡_ {A = ℕ} 0 1 = cc in absurd (omega arith)
+  comes-not f (stopped {f = g}) e = let z : g ≡ f = cc in ap (λ (x : Fault). refused (faultAt p x)) z
 
 -- ---- an event that leaves the control
 -- areas and marks before it, and behind it

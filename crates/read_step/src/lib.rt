@@ -33,21 +33,19 @@ use tree_status::no_status;
 ghost use mathlib.Core.Path.{_≡_};
 ghost use mathlib.Core.Bool.{true, false};
 ghost use mathlib.Core.List.{List};
-ghost use Prim.Native.Nat.{ℕ, _-_, _≤_, _<_};
+ghost use Prim.Native.Nat.{ℕ, _≤_, _<_};
 ghost use lib.ListN.{length};
 ghost use Rattle.refusal.specs.Refusal as why;
 ghost use Rattle.table.specs.Table.{countOf, tableOf};
-ghost use Rattle.table.specs.Event.{Piece, kindAt, bytesAt, attributesFrom, pieceKind, pieceBytes};
-ghost use Rattle.read_element.specs.Outcome.{Rooms};
 ghost use Rattle.read_state.specs.inside.Coded.{modeOf, controlOf, actOf, isStep};
 ghost use Rattle.tree_status.specs.Status.{Few};
 ghost use Rattle.read_place.specs.inside.Coded.{marksOf, Low};
-ghost use Rattle.read_path.specs.inside.Coded.{hasRoom};
 ghost use Rattle.read_content.specs.Content as deed;
-ghost use Rattle.read_content.specs.inside.Holds.{Sized, apt};
-ghost use Rattle.read_machine.specs.Machine as machine;
-ghost use Rattle.read_step.specs.inside.Planned.{isPiece, planned, nameIn, IsSkipped, isSkip, isStop};
-ghost use Rattle.read_step.specs.inside.Standing.{machineOf, runOn, Stands, Standing, Bounded, Lent, Spans, haltAt, beginning, after, Acted, Stepped};
+ghost use Rattle.read_element.specs.inside.Refines.{tagged, areas};
+ghost use Rattle.read_content.specs.inside.Holds.{apt};
+ghost use Rattle.read_step.specs.inside.Planned.{isPiece, planned, nameIn, isSkip, isStop};
+ghost use Rattle.read_step.specs.inside.Standing.{machineOf, Standing, Bounded, Lent, Spans, haltAt, beginning, after};
+ghost use Rattle.read_step.specs.inside.Promises.{given, lent, StepsPiece, StepsSkip, StepsAct, StepsEvent};
 
 pub struct State {
     pub control: Control,
@@ -153,7 +151,7 @@ fn halt_at(event: usize, cause: Cause) -> Step
 // A piece of text, which is read where text is gathered.
 fn step_piece(st: State, kind: u32, bytes: &[u8], scratch: &mut [u8]) -> Step
     requires { ⌜ Bounded st (length (now scratch)) ⌝ }
-    ensures { λ r. ⌜ ((rooms : Rooms) (words text attributes source : List ℕ) (c : deed.Content) → Sized rooms (length words) (length text) (length (now (scratch .entry))) → Stands attributes source words text (now (scratch .entry)) (st .content) (machineOf st c) → Acted attributes source words text (now (scratch .exit)) st (machine.step rooms (Piece (pieceKind kind) (pieceBytes kind (now (bytes .entry)))) (machineOf st c)) r) ⌝ }
+    ensures { λ r. ⌜ StepsPiece st kind (now (bytes .entry)) (now (scratch .entry)) (now (scratch .exit)) r ⌝ }
 {
     let control = st.control;
     let marks = st.marks;
@@ -190,7 +188,7 @@ fn step_piece(st: State, kind: u32, bytes: &[u8], scratch: &mut [u8]) -> Step
 fn step_skip(st: State, events: &[u32], source: &[u8]) -> Step
     requires { ⌜ st .marks .event < countOf (now events) ⌝ }
     requires { ⌜ countOf (now events) ≤ 65536 ⌝ }
-    ensures { λ r. ⌜ ((rooms : Rooms) (attributes words text scratch : List ℕ) (c : deed.Content) → tableOf (now (events .entry)) attributes (now (source .entry)) ≡ why.accepted tt → isPiece (kindAt (now (events .entry)) (st .marks .event)) ≡ false → IsSkipped (st .control) (kindAt (now (events .entry)) (st .marks .event)) (bytesAt (now (events .entry)) (now (source .entry)) (st .marks .event)) → Stands attributes (now (source .entry)) words text scratch (st .content) (machineOf st c) → Stepped rooms (now (events .entry)) attributes (now (source .entry)) words text scratch st (runOn rooms (now (events .entry)) attributes (now (source .entry)) (machineOf st c)) r) ⌝ }
+    ensures { λ r. ⌜ StepsSkip st (now (events .entry)) (now (source .entry)) r ⌝ }
 {
     let control = st.control;
     let marks = st.marks;
@@ -241,7 +239,8 @@ fn step_act(
     requires { ⌜ Spans (length (now attributes)) (range .first) (range .end) ⌝ }
     requires { ⌜ Lent (length (now records)) (length (now text)) (length (now scratch)) ⌝ }
     requires { ⌜ Standing (now attributes) (now source) (now records) (now text) (now scratch) st ⌝ }
-    ensures { λ r. ⌜ ((rooms : Rooms) (c : deed.Content) (name : List ℕ) → hasRoom (actOf (st .control) name act) ≡ true → Sized rooms (length (now (records .entry))) (length (now (text .entry))) (length (now (scratch .entry))) → Stands (now (attributes .entry)) (now (source .entry)) (now (records .entry)) (now (text .entry)) (now (scratch .entry)) (st .content) (machineOf st c) → Acted (now (attributes .entry)) (now (source .entry)) (now (records .exit)) (now (text .exit)) (now (scratch .entry)) st (machine.act rooms (actOf (st .control) name act) (range .first) (attributesFrom (now (attributes .entry)) (now (source .entry)) (range .end - range .first) (range .first)) (machineOf st c)) r) ⌝ }
+    ensures { λ r. ⌜ StepsAct act st range (tagged (now (attributes .entry)) (now (source .entry)))
+        (areas (now (records .entry)) (now (text .entry))) (areas (now (records .exit)) (now (text .exit))) (now (scratch .entry)) r ⌝ }
 {
     let control = st.control;
     let marks = st.marks;
@@ -286,7 +285,8 @@ pub fn step_event(
     requires { ⌜ st .marks .event ≤ countOf (now events) ⌝ }
     requires { ⌜ Lent (length (now records)) (length (now text)) (length (now scratch)) ⌝ }
     requires { ⌜ Standing (now attributes) (now source) (now records) (now text) (now scratch) st ⌝ }
-    ensures { λ r. ⌜ ((rooms : Rooms) (c : deed.Content) → Sized rooms (length (now (records .entry))) (length (now (text .entry))) (length (now (scratch .entry))) → Stands (now (attributes .entry)) (now (source .entry)) (now (records .entry)) (now (text .entry)) (now (scratch .entry)) (st .content) (machineOf st c) → Stepped rooms (now (events .entry)) (now (attributes .entry)) (now (source .entry)) (now (records .exit)) (now (text .exit)) (now (scratch .exit)) st (runOn rooms (now (events .entry)) (now (attributes .entry)) (now (source .entry)) (machineOf st c)) r) ⌝ }
+    ensures { λ r. ⌜ StepsEvent st (given (now (events .entry)) (now (attributes .entry)) (now (source .entry)))
+        (lent (now (records .entry)) (now (text .entry)) (now (scratch .entry))) (lent (now (records .exit)) (now (text .exit)) (now (scratch .exit))) r ⌝ }
 {
     let control = st.control;
     let marks = st.marks;

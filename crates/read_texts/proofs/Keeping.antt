@@ -26,7 +26,8 @@ use Rattle.tree_put.specs.Put.{putText}
 use Rattle.read_state.specs.Control.{Level, top, suite, case, status, Output, trace, out, err, at}
 use Rattle.read_place.specs.Marks.{Marks}
 use Rattle.read_content.specs.Content.{Content, recordOf, wordOf, bitOf, takes, kept, withTexts, cleaned, keeping, isEmpty, describing, outputting}
-use Rattle.read_content.specs.inside.Holds.{inRecord, Holds, Sized, Opened, Lists, Comes, came, Performs}
+use Rattle.read_element.specs.inside.Refines.{went}
+use Rattle.read_content.specs.inside.Holds.{inRecord, Holds, Sized, Opened, Lists, Comes, Performs}
 use Rattle.read_texts.specs.inside.Stored.{storedIn, storedEnd, keptWords, keptTo}
 use Rattle.read_content.specs.declared.Content.{Content as CodedContent}
 use Rattle.read_content.specs.declared.Performed.{Performed}
@@ -173,7 +174,7 @@ module _ {words text scratch attributes source : List ℕ} {c : CodedContent} {s
     kept-comes Q d rest dn {words′} {text′} sc dl fd (Put n) e w t q =
         subst (λ (x : Outcome Content). Comes Q p words′ text′ scratch attributes source x (To (storedIn n dn c)))
         (sym (made (fitted e) ∙ ap (λ (x : List ℕ). accepted (grown x)) fd))
-        (came (kept-holds e d rest dn sc dl w t) (q n))
+        (went (kept-holds e d rest dn sc dl w t, q n))
     kept-comes Q d rest dn sc dl fd Full e w t q = halts p TextFull pa (short (full-over cause.TextFull (length text - c .fill) (cleaned v) e)) refl
 
 -- ---- the two texts
@@ -210,24 +211,25 @@ module _ {words text scratch attributes source : List ℕ} {c : CodedContent} {s
   unfolding describing
   none-described {clean} li e z {r} q =
       let t : isEmpty (trimmed (s .description)) ≡ true = empty-true (trimmed (s .description)) (ap (λ (x : List ℕ). length (trimmed x)) (sym (description-part hd)) ∙ sym (ap length e) ∙ z) in
-      rw (q, t) (came {c = storedIn 0 0 c} {s = withTexts s [] []}
-      (record {
-        room = hd .room;
-        left = hd .left;
-        behind = scratch;
-        records = hd .records;
-        whole = hd .whole;
-        used = hd .used;
-        stored = hd .stored;
-        fill = let a = hd .fill in omega arith;
-        pieces = refl;
-        description = refl;
-        gathered = refl;
-        free = hd .free;
-        report = hd .report;
-        dead = hd .dead;
-      })
-      ((li .0 .0, li .0 .1 .0), refl))
+      rw (q, t) (went {s = withTexts s [] []} {c = storedIn 0 0 c} (
+        record {
+          room = hd .room;
+          left = hd .left;
+          behind = scratch;
+          records = hd .records;
+          whole = hd .whole;
+          used = hd .used;
+          stored = hd .stored;
+          fill = let a = hd .fill in omega arith;
+          pieces = refl;
+          description = refl;
+          gathered = refl;
+          free = hd .free;
+          report = hd .report;
+          dead = hd .dead;
+        },
+        ((li .0 .0, li .0 .1 .0), refl),
+      ))
 
   pub some-described : {clean words′ text′ : List ℕ} (i : ℕ) → m .statusAt ≡ i → Lists (at status) m c s → clean ≡ trimmed (take (c .description) scratch) → (length clean ≡ 0 → ⊥)
       → (stored : Stored) → storedAnswer cause.TextFull stored ≡ placing cause.TextFull (length text - c .fill) (cleaned (take (c .description) scratch)) → words′ ≡ keptWords stored true i 20 6 (c .fill) words

@@ -14,20 +14,16 @@ use tree_record::kind;
 use tree_record::word;
 use trim::trim;
 ghost use mathlib.Core.Path.{_≡_};
-ghost use mathlib.Core.List.{List, _++_};
-ghost use Prim.Native.Nat.{ℕ, _+_, _-_, _*_, _≤_};
+ghost use mathlib.Core.List.{_++_};
+ghost use Prim.Native.Nat.{_+_, _-_, _*_, _≤_};
 ghost use lib.ListN.{length, take, drop};
 ghost use Rattle.area.specs.Area.{storedAnswer, placing, laid};
-ghost use Rattle.refusal.specs.Refusal.{nowhere};
-ghost use Rattle.read_element.specs.Outcome.{Place, Rooms};
-ghost use Rattle.read_state.specs.Control.{at, status, case, gathering};
 ghost use Rattle.read_state.specs.inside.Coded.{levelOf, outputOf};
-ghost use Rattle.read_place.specs.Marks as standing;
 ghost use Rattle.read_place.specs.inside.Coded.{marksOf};
-ghost use Rattle.read_content.specs.Content.{recordOf, cleaned, describing, outputting, wordOf, bitOf, takes};
-ghost use Rattle.read_content.specs.Content as done;
+ghost use Rattle.read_content.specs.Content.{recordOf, cleaned, wordOf, bitOf, takes};
+ghost use Rattle.read_texts.specs.inside.Promises.{ClosesStatus, ClosesText};
 ghost use Rattle.read_texts.specs.inside.Stored.{keptWords, keptTo, storedEnd};
-ghost use Rattle.read_content.specs.inside.Holds.{Holds, Lists, Sized, Performs};
+ghost use Rattle.read_element.specs.inside.Refines.{areas};
 ghost use Rattle.refusal.specs.declared.Cause.the-variants as cause;
 
 fn word_of_output(output: Output) -> usize
@@ -133,7 +129,8 @@ pub fn close_status(
     requires { ⌜ content .fill ≤ length (now text) ⌝ }
     requires { ⌜ length (now text) ≤ 16777216 ⌝ }
     requires { ⌜ content .description ≤ length (now scratch) ⌝ }
-    ensures { λ r. ⌜ ((rooms : Rooms) (p : Place) (s : done.Content) (m : standing.Marks) (attributes source : List ℕ) → m .statusAt ≡ i → p .attribute ≡ nowhere → Holds (now (records .entry)) (now (text .entry)) (now (scratch .entry)) attributes source content s → Lists (at status) m content s → Sized rooms (length (now (records .entry))) (length (now (text .entry))) (length (now (scratch .entry))) → Performs (at case) m p (now (records .exit)) (now (text .exit)) (now (scratch .entry)) attributes source (describing rooms p m s) r) ⌝ }
+    ensures { λ r. ⌜ ClosesStatus i content
+        (areas (now (records .entry)) (now (text .entry))) (areas (now (records .exit)) (now (text .exit))) (now (scratch .entry)) r ⌝ }
 {
     let n = content.description;
     let fill = content.fill;
@@ -168,7 +165,8 @@ pub fn close_text(
     requires { ⌜ content .fill ≤ length (now text) ⌝ }
     requires { ⌜ length (now text) ≤ 16777216 ⌝ }
     requires { ⌜ content .description + content .gathered ≤ length (now scratch) ⌝ }
-    ensures { λ r. ⌜ ((rooms : Rooms) (p : Place) (s : done.Content) (attributes source : List ℕ) → p .attribute ≡ nowhere → Holds (now (records .entry)) (now (text .entry)) (now (scratch .entry)) attributes source content s → Lists (gathering (levelOf level) (outputOf output)) (marksOf marks) content s → Sized rooms (length (now (records .entry))) (length (now (text .entry))) (length (now (scratch .entry))) → Performs (at (levelOf level)) (marksOf marks) p (now (records .exit)) (now (text .exit)) (now (scratch .entry)) attributes source (outputting rooms p (levelOf level) (outputOf output) (marksOf marks) s) r) ⌝ }
+    ensures { λ r. ⌜ ClosesText (levelOf level) (outputOf output) (marksOf marks) content
+        (areas (now (records .entry)) (now (text .entry))) (areas (now (records .exit)) (now (text .exit))) (now (scratch .entry)) r ⌝ }
 {
     let from = content.description;
     let to = from + content.gathered;

@@ -22,14 +22,13 @@ ghost use lib.ListN.{length};
 ghost use Rattle.area.specs.Area.{zeros};
 ghost use Rattle.refusal.specs.Refusal as why;
 ghost use Rattle.table.specs.Table.{tableOf};
-ghost use Rattle.table.specs.Event.{resolve};
-ghost use Rattle.read_element.specs.Outcome.{roomsOf};
-ghost use Rattle.read_machine.specs.Machine as machine;
 ghost use Rattle.read_machine.specs.Reading as result;
+ghost use Rattle.read_element.specs.inside.Refines.{areas};
 ghost use Rattle.read_step.specs.inside.Standing.{Lent, Placed, refusalAt};
+ghost use Rattle.read_step.specs.inside.Promises.{given, lent};
 ghost use Rattle.refusal.specs.declared.Verdict.the-variants.{Refused as IsRefused};
-ghost use Rattle.reader.specs.Answer.{answerOf, Leaves};
-ghost use Rattle.reader.specs.inside.Ran.{Ran};
+ghost use Rattle.reader.specs.Answer.{answerOf};
+ghost use Rattle.reader.specs.inside.Ran.{Runs, Reads};
 
 // The answer. Of an accepted table the refusal is that of `no_refusal`.
 pub struct Reading {
@@ -54,7 +53,8 @@ fn run_events(
     requires { ⌜ Lent (length (now records)) (length (now text)) (length (now scratch)) ⌝ }
     requires { ⌜ now records ≡ zeros (length (now records)) ⌝ }
     requires { ⌜ now text ≡ zeros (length (now text)) ⌝ }
-    ensures { λ r. ⌜ Ran (now (records .exit)) (now (text .exit)) (machine.run (roomsOf (length (now (records .entry))) (length (now (text .entry))) (length (now (scratch .entry)))) (resolve (now (events .entry)) (now (attributes .entry)) (now (source .entry))) machine.begin) r ⌝ }
+    ensures { λ r. ⌜ Runs (given (now (events .entry)) (now (attributes .entry)) (now (source .entry)))
+        (lent (now (records .entry)) (now (text .entry)) (now (scratch .entry))) (areas (now (records .exit)) (now (text .exit))) r ⌝ }
 {
     let mut st = begin();
     loop {
@@ -116,7 +116,8 @@ fn run_within(
     requires { ⌜ tableOf (now events) (now attributes) (now source) ≡ why.accepted tt ⌝ }
     requires { ⌜ now records ≡ zeros (length (now records)) ⌝ }
     requires { ⌜ now text ≡ zeros (length (now text)) ⌝ }
-    ensures { λ r. ⌜ Ran (now (records .exit)) (now (text .exit)) (machine.run (roomsOf (length (now (records .entry))) (length (now (text .entry))) (length (now (scratch .entry)))) (resolve (now (events .entry)) (now (attributes .entry)) (now (source .entry))) machine.begin) r ⌝ }
+    ensures { λ r. ⌜ Runs (given (now (events .entry)) (now (attributes .entry)) (now (source .entry)))
+        (lent (now (records .entry)) (now (text .entry)) (now (scratch .entry))) (areas (now (records .exit)) (now (text .exit))) r ⌝ }
 {
     let words = least(records.len() / 32, limit::RECORDS) * 32;
     let bytes = least(text.len(), limit::BYTES);
@@ -153,7 +154,8 @@ fn read_good(
     requires { ⌜ tableOf (now events) (now attributes) (now source) ≡ why.accepted tt ⌝ }
     requires { ⌜ now records ≡ zeros (length (now records)) ⌝ }
     requires { ⌜ now text ≡ zeros (length (now text)) ⌝ }
-    ensures { λ r. ⌜ Leaves r (now (records .exit)) (now (text .exit)) (now (scratch .exit)) (result.reading (now (events .entry)) (now (attributes .entry)) (now (source .entry)) (length (now (records .entry))) (length (now (text .entry))) (length (now (scratch .entry)))) ⌝ }
+    ensures { λ r. ⌜ Reads (given (now (events .entry)) (now (attributes .entry)) (now (source .entry)))
+        (lent (now (records .entry)) (now (text .entry)) (now (scratch .entry))) (lent (now (records .exit)) (now (text .exit)) (now (scratch .exit))) r ⌝ }
 {
     let ran = run_within(events, attributes, source, records, text, scratch);
     match ran {
@@ -177,10 +179,14 @@ pub fn read(
     text: &mut [u8],
     scratch: &mut [u8],
 ) -> Reading
-    ensures answer { λ r. ⌜ r ≡ answerOf (result.reading (now (events .entry)) (now (attributes .entry)) (now (source .entry)) (length (now (records .entry))) (length (now (text .entry))) (length (now (scratch .entry))) .outcome) ⌝ }
-    ensures records { λ _. ⌜ now (records .exit) ≡ result.reading (now (events .entry)) (now (attributes .entry)) (now (source .entry)) (length (now (records .entry))) (length (now (text .entry))) (length (now (scratch .entry))) .words ⌝ }
-    ensures text { λ _. ⌜ now (text .exit) ≡ result.reading (now (events .entry)) (now (attributes .entry)) (now (source .entry)) (length (now (records .entry))) (length (now (text .entry))) (length (now (scratch .entry))) .text ⌝ }
-    ensures scratch { λ _. ⌜ now (scratch .exit) ≡ result.reading (now (events .entry)) (now (attributes .entry)) (now (source .entry)) (length (now (records .entry))) (length (now (text .entry))) (length (now (scratch .entry))) .scratch ⌝ }
+    ensures answer { λ r. ⌜ r ≡ answerOf (result.reading (now (events .entry)) (now (attributes .entry)) (now (source .entry))
+        (length (now (records .entry))) (length (now (text .entry))) (length (now (scratch .entry))) .outcome) ⌝ }
+    ensures records { λ _. ⌜ now (records .exit) ≡ result.reading (now (events .entry)) (now (attributes .entry)) (now (source .entry))
+        (length (now (records .entry))) (length (now (text .entry))) (length (now (scratch .entry))) .words ⌝ }
+    ensures text { λ _. ⌜ now (text .exit) ≡ result.reading (now (events .entry)) (now (attributes .entry)) (now (source .entry))
+        (length (now (records .entry))) (length (now (text .entry))) (length (now (scratch .entry))) .text ⌝ }
+    ensures scratch { λ _. ⌜ now (scratch .exit) ≡ result.reading (now (events .entry)) (now (attributes .entry)) (now (source .entry))
+        (length (now (records .entry))) (length (now (text .entry))) (length (now (scratch .entry))) .scratch ⌝ }
 {
     clear_all(records, text, scratch);
     let checked = check_table(events, attributes, source);

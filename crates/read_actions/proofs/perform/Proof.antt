@@ -37,7 +37,7 @@ enum-told-4 : tie.Need-enum-told-4
 enum-told-4 c = search needs
 
 read-property-requires : tie.Need-read-property-requires
-read-property-requires c κs = (c .before .before .before .before .before .before .before .before .before .before .pre .1 .0, (c .before .before .before .before .before .before .before .before .before .before .pre .1 .1 .0, (c .before .before .before .before .before .before .before .before .before .before .pre .1 .1 .1 .0, (c .before .before .before .before .before .before .before .before .before .before .pre .1 .1 .1 .1 .0, (property-end (c .before .before .before .before .before .before .before .before .before .before .args .control .mode) (levelOf (c .before .before .before .before .before .before .before .before .before .before .args .control .level)) (outputOf (c .before .before .before .before .before .before .before .before .before .before .args .control .output)) (marksOf (c .before .before .before .before .before .before .before .before .before .before .args .marks)) (c .before .before .before .before .before .before .before .before .before .before .pre .1 .1 .1 .1 .1) (c .before .before .enum-told4 .given .1) (c .before .before .before .before .before .before .before .before .before .before .pre .0), held (c .before .before .before .before .before .before .before .before .before .before .args .control .mode) (levelOf (c .before .before .before .before .before .before .before .before .before .before .args .control .level)) (outputOf (c .before .before .before .before .before .before .before .before .before .before .args .control .output)) (marksOf (c .before .before .before .before .before .before .before .before .before .before .args .marks)) (c .before .before .before .before .before .before .before .before .before .before .pre .1 .1 .1 .1 .1))))))
+read-property-requires c κs = (property-end (c .before .before .before .before .before .before .before .before .before .before .args .control .mode) (levelOf (c .before .before .before .before .before .before .before .before .before .before .args .control .level)) (outputOf (c .before .before .before .before .before .before .before .before .before .before .args .control .output)) (marksOf (c .before .before .before .before .before .before .before .before .before .before .args .marks)) (c .before .before .before .before .before .before .before .before .before .before .pre .1 .1 .1 .1 .1) (c .before .before .enum-told4 .given .1) (c .before .before .before .before .before .before .before .before .before .before .pre .0), (c .before .before .before .before .before .before .before .before .before .before .pre .1 .0, (c .before .before .before .before .before .before .before .before .before .before .pre .1 .1 .0, (c .before .before .before .before .before .before .before .before .before .before .pre .1 .1 .1 .0, (c .before .before .before .before .before .before .before .before .before .before .pre .1 .1 .1 .1 .0, held (c .before .before .before .before .before .before .before .before .before .before .args .control .mode) (levelOf (c .before .before .before .before .before .before .before .before .before .before .args .control .level)) (outputOf (c .before .before .before .before .before .before .before .before .before .before .args .control .output)) (marksOf (c .before .before .before .before .before .before .before .before .before .before .args .marks)) (c .before .before .before .before .before .before .before .before .before .before .pre .1 .1 .1 .1 .1))))))
 
 enum-told-5 : tie.Need-enum-told-5
 enum-told-5 c = search needs

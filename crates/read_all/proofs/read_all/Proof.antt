@@ -38,7 +38,7 @@ slice-aggregate-read-cleared : tie.Need-slice-aggregate-read-cleared
 slice-aggregate-read-cleared c = sym (length-take-le ((c .before .before .before .before .before .before .before .args .range .end - c .before .before .before .before .before .before .before .args .range .first) * 34 + 32) (c .before .before .before .before .before .before .before .args .own .now) (many (c .before .before .before .before .before .before .before .args .range .end - c .before .before .before .before .before .before .before .args .range .first) (length (c .before .before .before .before .before .before .before .args .own .now)) ((c .before .before .before .before .before .before .before .args .range .end - c .before .before .before .before .before .before .before .args .range .first) * 34 + 32) (ltb (c .before .before .before .before .before .before .before .args .kind) 2 || ltb 3 (c .before .before .before .before .before .before .before .args .kind)) (c .before .if1 .left) .1))
 
 read-cleared-requires : tie.Need-read-cleared-requires
-read-cleared-requires c κs = let y = many (c .before .before .before .before .before .before .before .before .args .range .end - c .before .before .before .before .before .before .before .before .args .range .first) (length (c .before .before .before .before .before .before .before .before .args .own .now)) ((c .before .before .before .before .before .before .before .before .args .range .end - c .before .before .before .before .before .before .before .before .args .range .first) * 34 + 32) (ltb (c .before .before .before .before .before .before .before .before .args .kind) 2 || ltb 3 (c .before .before .before .before .before .before .before .before .args .kind)) (c .before .before .if1 .left) in let l = length-take-le ((c .before .before .before .before .before .before .before .before .args .range .end - c .before .before .before .before .before .before .before .before .args .range .first) * 34 + 32) (c .before .before .before .before .before .before .before .before .args .own .now) (y .1) in ((c .before .before .before .before .before .before .before .before .pre .0), ((c .before .before .before .before .before .before .before .before .pre .1 .0), ((c .before .before .before .before .before .before .before .before .pre .1 .1 .0), ((c .before .before .before .before .before .before .before .before .pre .1 .1 .1 .0), ((c .before .before .before .before .before .before .before .before .pre .1 .1 .1 .1 .0), (front-held (c .before .before .before .before .before .before .before .before .args .kind) (c .before .before .before .before .before .before .before .before .args .fill) (take (c .before .before .before .before .before .before .before .before .args .fill) (c .before .before .before .before .before .before .before .before .args .text .now)) (c .before .before .before .before .before .before .before .before .args .own .now) (c .before .before .before .before .before .before .before .before .args .text .now) (c .before .before .before .before .before .before .before .before .pre .1 .1 .1 .1 .1 .0) ((c .before .before .before .before .before .before .before .before .args .range .end - c .before .before .before .before .before .before .before .before .args .range .first) * 34 + 32) (omega arith) (y .1), ((c .before .before .before .before .before .before .before .before .pre .1 .1 .1 .1 .1 .1), (omega (arith, y .0), omega (arith, l)))))))))
+read-cleared-requires c κs = let y = many (c .before .before .before .before .before .before .before .before .args .range .end - c .before .before .before .before .before .before .before .before .args .range .first) (length (c .before .before .before .before .before .before .before .before .args .own .now)) ((c .before .before .before .before .before .before .before .before .args .range .end - c .before .before .before .before .before .before .before .before .args .range .first) * 34 + 32) (ltb (c .before .before .before .before .before .before .before .before .args .kind) 2 || ltb 3 (c .before .before .before .before .before .before .before .before .args .kind)) (c .before .before .if1 .left) in let l = length-take-le ((c .before .before .before .before .before .before .before .before .args .range .end - c .before .before .before .before .before .before .before .before .args .range .first) * 34 + 32) (c .before .before .before .before .before .before .before .before .args .own .now) (y .1) in ((c .before .before .before .before .before .before .before .before .pre .0), (omega (arith, y .0), (omega (arith, l), ((c .before .before .before .before .before .before .before .before .pre .1 .0), ((c .before .before .before .before .before .before .before .before .pre .1 .1 .0), ((c .before .before .before .before .before .before .before .before .pre .1 .1 .1 .0), ((c .before .before .before .before .before .before .before .before .pre .1 .1 .1 .1 .0), (front-held (c .before .before .before .before .before .before .before .before .args .kind) (c .before .before .before .before .before .before .before .before .args .fill) (take (c .before .before .before .before .before .before .before .before .args .fill) (c .before .before .before .before .before .before .before .before .args .text .now)) (c .before .before .before .before .before .before .before .before .args .own .now) (c .before .before .before .before .before .before .before .before .args .text .now) (c .before .before .before .before .before .before .before .before .pre .1 .1 .1 .1 .1 .0) ((c .before .before .before .before .before .before .before .before .args .range .end - c .before .before .before .before .before .before .before .before .args .range .first) * 34 + 32) (omega arith) (y .1), (c .before .before .before .before .before .before .before .before .pre .1 .1 .1 .1 .1 .1)))))))))
 
 same-length-3 : tie.Need-same-length-3
 same-length-3 c = search needs

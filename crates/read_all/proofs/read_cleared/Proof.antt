@@ -17,7 +17,7 @@ add-k : tie.Need-add-k
 add-k c = search needs
 
 read-chained-requires : tie.Need-read-chained-requires
-read-chained-requires c κs = ((c .before .before .before .before .before .before .before .pre .0), ((c .before .before .before .before .before .before .before .pre .1 .0), ((c .before .before .before .before .before .before .before .pre .1 .1 .0), ((c .before .before .before .before .before .before .before .pre .1 .1 .1 .0), ((c .before .before .before .before .before .before .before .pre .1 .1 .1 .1 .0), (omega arith, (omega (arith, (c .before .before .before .before .before .before .before .pre .1 .1 .1 .1 .1 .1 .1 .1)), (omega (arith, (c .before .before .before .before .before .before .before .pre .1 .1 .1 .1 .1 .1 .1 .0)), (front-held (c .before .before .before .before .before .before .before .args .kind) (c .before .before .before .before .before .before .before .args .fill) (take (c .before .before .before .before .before .before .before .args .fill) (c .before .before .before .before .before .before .before .args .text .now)) (c .before .before .before .before .before .before .before .args .own .now) (c .before .before .before .before .before .before .before .args .text .now) (c .before .before .before .before .before .before .before .pre .1 .1 .1 .1 .1 .0) ((c .before .before .before .before .before .before .before .args .range .end - c .before .before .before .before .before .before .before .args .range .first) * 32 + 32) (omega arith) (omega (arith, (c .before .before .before .before .before .before .before .pre .1 .1 .1 .1 .1 .1 .1 .1))), (rest-zero (c .before .before .before .before .before .before .before .args .kind) (c .before .before .before .before .before .before .before .args .fill) (take (c .before .before .before .before .before .before .before .args .fill) (c .before .before .before .before .before .before .before .args .text .now)) (c .before .before .before .before .before .before .before .args .own .now) (c .before .before .before .before .before .before .before .args .text .now) (c .before .before .before .before .before .before .before .pre .1 .1 .1 .1 .1 .0) ((c .before .before .before .before .before .before .before .args .range .end - c .before .before .before .before .before .before .before .args .range .first) * 32 + 32) (omega arith) (omega (arith, (c .before .before .before .before .before .before .before .pre .1 .1 .1 .1 .1 .1 .1 .1))), (c .before .before .before .before .before .before .before .pre .1 .1 .1 .1 .1 .1 .0)))))))))))
+read-chained-requires c κs = ((c .before .before .before .before .before .before .before .pre .0), (omega arith, (omega (arith, (c .before .before .before .before .before .before .before .pre .1 .1 .0)), (omega (arith, (c .before .before .before .before .before .before .before .pre .1 .0)), (rest-zero (c .before .before .before .before .before .before .before .args .kind) (c .before .before .before .before .before .before .before .args .fill) (take (c .before .before .before .before .before .before .before .args .fill) (c .before .before .before .before .before .before .before .args .text .now)) (c .before .before .before .before .before .before .before .args .own .now) (c .before .before .before .before .before .before .before .args .text .now) (c .before .before .before .before .before .before .before .pre .1 .1 .1 .1 .1 .1 .1 .0) ((c .before .before .before .before .before .before .before .args .range .end - c .before .before .before .before .before .before .before .args .range .first) * 32 + 32) (omega arith) (omega (arith, (c .before .before .before .before .before .before .before .pre .1 .1 .0))), ((c .before .before .before .before .before .before .before .pre .1 .1 .1 .0), ((c .before .before .before .before .before .before .before .pre .1 .1 .1 .1 .0), ((c .before .before .before .before .before .before .before .pre .1 .1 .1 .1 .1 .0), ((c .before .before .before .before .before .before .before .pre .1 .1 .1 .1 .1 .1 .0), (front-held (c .before .before .before .before .before .before .before .args .kind) (c .before .before .before .before .before .before .before .args .fill) (take (c .before .before .before .before .before .before .before .args .fill) (c .before .before .before .before .before .before .before .args .text .now)) (c .before .before .before .before .before .before .before .args .own .now) (c .before .before .before .before .before .before .before .args .text .now) (c .before .before .before .before .before .before .before .pre .1 .1 .1 .1 .1 .1 .1 .0) ((c .before .before .before .before .before .before .before .args .range .end - c .before .before .before .before .before .before .before .args .range .first) * 32 + 32) (omega arith) (omega (arith, (c .before .before .before .before .before .before .before .pre .1 .1 .0))), (c .before .before .before .before .before .before .before .pre .1 .1 .1 .1 .1 .1 .1 .1)))))))))))
 
 mul-clear-words : tie.Need-mul-clear-words
 mul-clear-words c = search needs

@@ -1,7 +1,7 @@
 -- An attribute's answer, against the outcome of the definitions. Definitions only.
 use Prim.Native.Nat.{ℕ}
 use mathlib.Core.List.{List}
-use Rattle.refusal.specs.Refusal.{Refused, Outcome, accepted, refused}
+use Rattle.refusal.specs.Refusal.{Refused, Outcome}
 use Rattle.refusal.specs.declared.Cause.{Cause}
 use Rattle.names.specs.Keys.{keyOf}
 use Rattle.table.specs.Event.{Attribute}
@@ -9,6 +9,7 @@ use Rattle.read_keys.specs.Roles.{roleOf}
 use Rattle.read_element.specs.Outcome.{Place, Rooms, pathTo}
 use Rattle.read_element.specs.Attributes.{Given, byRole}
 use Rattle.read_element.specs.inside.Held.{Held}
+use Rattle.read_element.specs.inside.Refines.{Refines}
 use Rattle.read_extra_record.specs.declared.Given.{Given as Counted}
 use Rattle.read_extra_record.specs.declared.Gave.{Gave}
 use Rattle.read_extra_record.specs.declared.Gave.the-variants as gave
@@ -34,9 +35,8 @@ abbrev pub faultAt : Place → Fault → Refused
 faultAt p f = record { cause = f .cause; path = pathTo (p .path) (f .key); event = p .event; attribute = f .attribute }
 
 -- an attribute's answer and the areas are those of an outcome; p is the element's place
-pub data Matches (p : Place) (own text : List ℕ) : Outcome Given → Step → Type 0 where
-  went : {g : Given} {given : Counted} → Held own text (given .extras) (given .fill) g → Matches p own text (accepted g) (step.To given)
-  stopped : {f : Fault} → Matches p own text (refused (faultAt p f)) (step.Not f)
+abbrev pub Matches : Place → List ℕ → List ℕ → Outcome Given → Step → Type 0
+Matches p own text = Refines step.To step.Not faultAt p (λ g given. Held own text (given .extras) (given .fill) g)
 
 -- an attribute whose key is good and isn't repeated; p has its number
 abbrev pub byKey : Rooms → Place → ℕ → ℕ → Attribute → Given → Outcome Given

@@ -20,7 +20,7 @@ clear-to-requires : tie.Need-clear-to-requires
 clear-to-requires c κs = search needs
 
 read-record-requires : tie.Need-read-record-requires
-read-record-requires c κs = let p = c .before .before .before .before .before .before .before .before .before .before .before .pre in let l = c .before .before .before .before .clear-to .kept .1 .1 .1 .1 .0 in (p .0, (p .1 .0, (p .1 .1 .0, (p .1 .1 .1 .0, (p .1 .1 .1 .1 .0, (p .1 .1 .1 .1 .1 .0, (c .before .before .before .before .clear-to .ensures .1 ∙ ap zeros (sym l), (p .1 .1 .1 .1 .1 .1 .1 .0, (p .1 .1 .1 .1 .1 .1 .1 .1, (omega (arith, c .before .before .before .before .before .before .if1 .left), c .before .before .before .before .clear-to .ensures .0))))))))))
+read-record-requires c κs = let p = c .before .before .before .before .before .before .before .before .before .before .before .pre in let l = c .before .before .before .before .clear-to .kept .1 .1 .1 .1 .0 in (p .0, (omega (arith, c .before .before .before .before .before .before .if1 .left), (c .before .before .before .before .clear-to .ensures .0, (p .1 .0, (p .1 .1 .0, (p .1 .1 .1 .0, (p .1 .1 .1 .1 .0, (p .1 .1 .1 .1 .1 .0, (c .before .before .before .before .clear-to .ensures .1 ∙ ap zeros (sym l), (p .1 .1 .1 .1 .1 .1 .1 .0, p .1 .1 .1 .1 .1 .1 .1 .1))))))))))
 
 same-length : tie.Need-same-length
 same-length c = search needs

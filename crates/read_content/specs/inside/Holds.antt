@@ -7,7 +7,7 @@ use lib.ListN.{length, getD, take, drop}
 use lib.Dec.{leb, eqb}
 use Rattle.area.specs.Area.{zeros}
 use Rattle.utf8.specs.Characters.{joined}
-use Rattle.refusal.specs.Refusal.{nowhere, Outcome, accepted, refused}
+use Rattle.refusal.specs.Refusal.{nowhere, Outcome}
 use Rattle.refusal.specs.declared.Cause.{Cause}
 use Rattle.read_element.specs.Outcome.{Place, Rooms, fits}
 use Rattle.read_element.specs.Attributes.{extraKind}
@@ -22,6 +22,7 @@ use Rattle.read_state.specs.declared.Act.{Act as CodedAct}
 use Rattle.read_state.specs.declared.Act.the-variants as act
 use Rattle.read_place.specs.Marks.{Marks}
 use Rattle.read_content.specs.Content.{Content, killed}
+use Rattle.read_element.specs.inside.Refines.{Refines}
 use Rattle.read_content.specs.declared.List.{List as CodedList}
 use Rattle.read_content.specs.declared.Content.{Content as CodedContent}
 use Rattle.read_content.specs.declared.Performed.{Performed}
@@ -176,10 +177,9 @@ apt (act.Broken why) m = true
 abbrev pub faultOf : Cause → Fault
 faultOf why = record { cause = why; key = 0; attribute = nowhere }
 
--- an answer and the areas are those of an outcome, and Q holds of the content; a refusal says nothing of the areas
-pub data Comes (Q : CodedContent → Content → Type 0) (p : Place) (words text scratch attributes source : List ℕ) : Outcome Content → Performed → Type 0 where
-  came : {c : CodedContent} {s : Content} → Holds words text scratch attributes source c s → Q c s → Comes Q p words text scratch attributes source (accepted s) (To c)
-  halted : {f : Fault} → Comes Q p words text scratch attributes source (refused (faultAt p f)) (Not f)
+-- an answer and the areas are those of an outcome, and Q holds of the content
+abbrev pub Comes : (CodedContent → Content → Type 0) → Place → (words text scratch attributes source : List ℕ) → Outcome Content → Performed → Type 0
+Comes Q p words text scratch attributes source = Refines To Not faultAt p (λ s c. Holds words text scratch attributes source c s × Q c s)
 
 -- behind an action reading goes on in that mode with those marks
 abbrev pub Performs : Mode → Marks → Place → (words text scratch attributes source : List ℕ) → Outcome Content → Performed → Type 0

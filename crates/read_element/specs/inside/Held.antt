@@ -7,7 +7,7 @@ use lib.ListN.{length, drop, getD, set}
 use lib.Dec.{leb}
 use Rattle.area.specs.Answer.{Answer, gives, refuses}
 use Rattle.area.specs.Area.{zeros}
-use Rattle.refusal.specs.Refusal.{Refused, Outcome, accepted, refused}
+use Rattle.refusal.specs.Refusal.{Refused, Outcome}
 use Rattle.table.specs.Event.{Attribute}
 use Rattle.read_element.specs.Outcome.{Place, Rooms, fits}
 use Rattle.names.specs.Names.{sameBytes}
@@ -16,6 +16,7 @@ use Rattle.utf8.specs.Characters.{joined}
 use Rattle.tree_record.specs.Record.{textAt}
 use Rattle.read_element.specs.Attributes.{Given, placeOf, oldExtra, newExtra}
 use Rattle.refusal.specs.declared.Cause.{Cause}
+use Rattle.read_element.specs.inside.Refines.{Refines}
 
 -- the keys of attributes
 abbrev pub keysOf : List Attribute → List (List ℕ)
@@ -77,7 +78,6 @@ pub record Roomy (rooms : Rooms) (used own text : ℕ) : Type 0 where
 abbrev pub refusedBy : Place → Cause → Refused
 refusedBy p why = record { cause = why; path = p .path; event = p .event; attribute = p .attribute }
 
--- an answer and the areas are those of an outcome; a refusal says nothing of the areas
-pub data Meets (p : Place) (own text : List ℕ) : Outcome Given → Answer (ℕ × ℕ) → Type 0 where
-  goes : {g : Given} {extras fill : ℕ} → Held own text extras fill g → Meets p own text (accepted g) (gives (extras, fill))
-  stops : {why : Cause} → Meets p own text (refused (refusedBy p why)) (refuses why)
+-- an answer and the areas are those of an outcome
+abbrev pub Meets : Place → List ℕ → List ℕ → Outcome Given → Answer (ℕ × ℕ) → Type 0
+Meets p own text = Refines gives refuses refusedBy p (λ g c. Held own text (c .0) (c .1) g)

@@ -14,13 +14,13 @@ list-of-requires : tie.Need-list-of-requires
 list-of-requires c κs = search needs
 
 add-t13 : tie.Need-add-t13
-add-t13 c = let e = ap (λ (l : CodedList). l .count) (c .before .list-of .ensures) in let h = c .before .before .before .before .before .before .pre .1 .1 .1 .1 .0 in omega arith
+add-t13 c = let e = ap (λ (l : CodedList). l .count) (c .before .list-of .ensures) in let h = c .before .before .before .before .before .before .pre .0 in omega arith
 
 property-kind-requires : tie.Need-property-kind-requires
 property-kind-requires c κs = search needs
 
 add-element-requires : tie.Need-add-element-requires
-add-element-requires c κs = ((let b = kind-bounds (levelOf (c .before .before .before .before .before .before .before .before .before .args .level)) in let e = c .before .before .property-kind .ensures in omega arith), ((let b = kind-bounds (levelOf (c .before .before .before .before .before .before .before .before .before .args .level)) in let e = c .before .before .property-kind .ensures in omega arith), (c .before .before .before .before .before .before .before .before .before .pre .0, (c .before .before .before .before .before .before .before .before .before .pre .1 .0, (c .before .before .before .before .before .before .before .before .before .pre .1 .1 .0, (c .before .before .before .before .before .before .before .before .before .pre .1 .1 .1 .0, c .before .before .before .before .before .before .before .before .before .pre .1 .1 .1 .1 .1))))))
+add-element-requires c κs = ((let b = kind-bounds (levelOf (c .before .before .before .before .before .before .before .before .before .args .level)) in let e = c .before .before .property-kind .ensures in omega arith), ((let b = kind-bounds (levelOf (c .before .before .before .before .before .before .before .before .before .args .level)) in let e = c .before .before .property-kind .ensures in omega arith), c .before .before .before .before .before .before .before .before .before .pre .1))
 
 enum-known-added : tie.Need-enum-known-added
 enum-known-added c = search needs
