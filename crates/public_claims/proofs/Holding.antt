@@ -42,7 +42,7 @@ pub anything : {A : Type 0} (m : Outcome A) → Holds (λ _. Unit {0}) m
 anything (accepted a) = accept tt
 anything (refused r) = refusing
 
--- an answer of the shape of document 01's leaves: the value where both tests pass
+-- the value where both tests pass
 pub answered : {A : Type 0} (p : Place) (b c : Bool) (a : A) (m n : Cause) → Holds (λ x. x ≡ a) (there p (cond b (cond c (gives a) (refuses m)) (refuses n)))
 unfolding there
 answered p true true a m n = accept refl

@@ -1,4 +1,4 @@
--- The worked listing of document 01. Assumes nothing.
+-- A listing worked out by hand, computed from its events. Assumes nothing.
 use Prim.Native.Nat.{ℕ}
 use mathlib.Core.Path.{_≡_, refl}
 use mathlib.Core.List.{List, [], _∷_, _++_, map, replicate}
@@ -115,8 +115,7 @@ pub worked-public : publicText table ≡ workedText
 unfolding publicText publicReport nodesRead publicRun publicStep ending acting publicAct said fieldOf sortOf planAt planEof atTop atSuite atCase orSkip outputs turn tallied codeFrom sameBytes tags keys unsigned digit renderPublic header suiteText caseText runText letter listed decimal places timeText thousandthsOf floatSum add sum div ofInt round units odd size span climb trailingZeros
 worked-public = refl
 
--- "Public keys: name, classname, uuid, timestamp, time, tests, failures, errors, skipped, disabled, assertions"; not so the other keys that
--- reading knows
+-- eleven keys are public (rule L1), the other three that reading knows aren't
 pub public-keys : map isPublicKey keys ≡ replicate 11 true ++ replicate 3 false
 unfolding keys codeFrom sameBytes
 public-keys = refl

@@ -1,6 +1,6 @@
 -- Demand 3, whole: what is claimed of the public listing. The claims are types; proofs/Demand3.antt has a proof of each. Definitions only.
 --
--- Whoever wants to be sure that this is what document 01 asks for reads these definitions, each beside the sentence of 01 that it states:
+-- Whoever wants to be sure of what is claimed reads these definitions, each beside the rules (docs/RULES.md) that it states:
 --   tableOf, resolve (crate table: Table, Event)       refusal 11; a table's events with their bytes and attributes
 --   reading (crate read_machine: Reading)                   what reading answers and leaves in its areas: the promise of the call
 --   deserialize (crate read_machine: Reading)               the report that the rules of reading give for events, with no areas
@@ -9,7 +9,7 @@
 --   refusedText, publicListing (PublicListing)         both calls, one behind the other
 --   public, tablesAgree (Agree)                        the public part of a table; when two tables agree
 --   publicText (PublicMachine)                         the listing as read from public events alone, with no areas and no private text
---   ownStatuses, rule, Ruled (OwnStatus)               each case's own status elements in a table, the status rule, and the two side by side
+--   ownStatuses, rule, Ruled (OwnStatus)               each case's own status elements in a table, the status rule, and both side by side
 --
 -- `reading` and `outputOf` take the lengths of the areas and not what these held before: no claim depends on old contents.
 use Prim.Native.Nat.{ℕ, _<_}
@@ -33,13 +33,13 @@ use Rattle.public_claims.specs.OwnStatus.{ownStatuses, casesOfAll, Ruled
 use Rattle.public_claims.specs.PublicListing.{refusedText, isAccepted, publicListing}
 
 -- ---- what the claims speak of
--- "The table handed in": any words and bytes
+-- a table is any words and bytes
 pub record Table : Type 0 where
   pub events : List ℕ
   pub attributes : List ℕ
   pub source : List ℕ
 
--- "areas of every length": the record area's words, the bytes of the text area, of scratch and of the output area
+-- lengths of areas, any: the record area's words, the bytes of the text area, of scratch and of the output area
 pub record Areas : Type 0 where
   pub words : ℕ
   pub text : ℕ
@@ -53,15 +53,15 @@ eventsOf t = resolve (t .events) (t .attributes) (t .source)
 abbrev pub answerTo : Table → Areas → Outcome (Unit {0})
 answerTo t a = reading (t .events) (t .attributes) (t .source) (a .words) (a .text) (a .scratch) .outcome
 
--- "Accepted means not refused by reading."
+-- reading accepts
 abbrev pub isRead : Table → Areas → Bool
 isRead t a = isAccepted (answerTo t a)
 
--- "The public listing of a table"
+-- rule L3
 abbrev pub listing : Table → Areas → List ℕ
 listing t a = publicListing (t .events) (t .attributes) (t .source) (a .words) (a .text) (a .scratch) (a .output)
 
--- "Two tables agree"
+-- rule L2
 abbrev pub Agreeing : Table → Table → Type 0
 Agreeing t u = tablesAgree (t .events) (t .attributes) (t .source) (u .events) (u .attributes) (u .source)
 
@@ -69,7 +69,7 @@ Agreeing t u = tablesAgree (t .events) (t .attributes) (t .source) (u .events) (
 abbrev pub fitted : ℕ → List ℕ → List ℕ
 fitted n f = cond (leb (length f) n) f refusedText
 
--- "Which cases the report has, in which order, with which status elements, follows from the table by the rules of reading alone."
+-- the report that the rules of reading give, whatever the areas
 abbrev pub IsReport : Table → Report → Type 0
 IsReport t r = deserialize (eventsOf t) ≡ accepted (some r)
 
@@ -81,7 +81,7 @@ casesOf r = casesOfAll (publicPart r .suites)
 abbrev pub TooShort : Table → Areas → Type 0
 TooShort t a = (r : Report) × IsReport t r × (a .output < length (render r))
 
--- why reading refuses with r: 11, "Refusal 11 comes first"
+-- why reading refuses with r: 11, which comes first (rule T6)
 abbrev pub RefusesTable : Table → Refused → Type 0
 RefusesTable t r = tableOf (t .events) (t .attributes) (t .source) ≡ refused r
 
@@ -103,12 +103,12 @@ pub record Listed (t : Table) (a : Areas) : Type 0 where
 
 -- ---- the claims
 pub record Demand3 : Type 0 where
-  -- A. The listing of an accepted table is what the public machine reads from its public events.
+  -- A (rule L4). The listing of an accepted table is what the public machine reads from its public events.
   pub onlyPublic : (t : Table) (a : Areas) → isRead t a ≡ true → listing t a ≡ fitted (a .output) (publicText (public (eventsOf t)))
-  -- B. Tables that agree, both accepted or both refused by reading, have the same public listing; so with areas of equal lengths, and also where
+  -- B (rule L4). Tables that agree, both accepted or both refused by reading, have the same public listing; so with areas of equal lengths, and also where
   -- only the output areas are equally long.
   pub sameListing : (t u : Table) (a b : Areas) → Agreeing t u → isRead t a ≡ isRead u b → a .output ≡ b .output → listing t a ≡ listing u b
-  -- C. The listing of an accepted table holds exactly the cases of its report, in their order, each with what the status rule gives for it.
+  -- C (rule L5). The listing of an accepted table holds exactly the cases of its report, in their order, each with what the status rule gives for it.
   -- D. That report is the one that the rules of reading give for the table.
   pub listed : (t : Table) (a : Areas) → isRead t a ≡ true → Listed t a
   -- D. The answer is `(refused)` exactly where reading refuses or the output area is too short.

@@ -1,4 +1,4 @@
--- Document 01, "Public listing": both calls together. Definitions only.
+-- The public listing of a table: both calls together. Definitions only.
 use Prim.Native.Nat.{ℕ}
 use mathlib.Core.List.{List, [], _∷_, _++_}
 use mathlib.Core.Bool.{Bool, true, false}
@@ -9,7 +9,7 @@ use Rattle.refusal.specs.Refusal.{Outcome, accepted, refused}
 use Rattle.read_machine.specs.Reading.{reading}
 use Rattle.list_text.specs.Listing.{listingAnswer, outputOf}
 
--- "Any refusal prints `(refused)`"; "one newline ends the output"
+-- what stands for any refusal (rules L3, L12)
 unfoldable pub refusedText : List ℕ
 refusedText = bytes "(refused)" ++ (10 ∷ [])
 
@@ -17,7 +17,7 @@ abbrev pub isAccepted : {A : Type 0} → Outcome A → Bool
 isAccepted (accepted a) = true
 isAccepted (refused r) = false
 
--- "what listing writes": the bytes at the front of its output area, as many as it answers
+-- the bytes at the front of the output area, as many as listing answers
 abbrev pub written : Answer ℕ → List ℕ → List ℕ
 written (gives n) output = take n output
 written (refuses k) output = refusedText
@@ -26,8 +26,8 @@ abbrev pub behindReading : Outcome (Unit {0}) → List ℕ → List ℕ
 behindReading (accepted a) f = f
 behindReading (refused r) f = refusedText
 
--- "what listing writes from the areas as reading left them, nobody else writing there, or `(refused)` if either call refuses"; the areas
--- are of `words` words, `text` and `scratch` bytes, the output area of `out` bytes
+-- listing behind reading, from the areas as reading left them (rule L3); the areas are of `words` words, `text` and `scratch` bytes, the
+-- output area of `out` bytes
 unfoldable pub publicListing : List ℕ → List ℕ → List ℕ → ℕ → ℕ → ℕ → ℕ → List ℕ
 publicListing events attributes source words text scratch out =
     let r = reading events attributes source words text scratch in

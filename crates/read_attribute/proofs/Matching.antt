@@ -130,7 +130,7 @@ module _ (attributes source : List ℕ) (j : ℕ) where
   mark-lent : {t : Bool} → eqb (getD (lent attributes j) 0 0) 0 ≡ t → markAt attributes j ≡ t
   mark-lent e = sym (ap (λ (x : Attribute). x .good) attribute-lent) ∙ e
 
-  -- "faulty or repeated key (9)", and else the key and value
+  -- faulty (rule A2) or repeated (rule A3), and else the key and value
   module _ (p : Place) (ks : List (List ℕ)) where
     pub step-faulty : {own text : List ℕ} {s : Step} (m : Outcome Given) → (getD (lent attributes j) 0 0 ≡ 0 → ⊥) → s ≡ faultStep cause.FaultyAttribute 0 j
         → Matches p own text (need (markAt attributes j) (numbered p j) cause.FaultyAttribute (need (not (among (keyAt attributes source j) ks)) (numbered p j) cause.RepeatedKey m)) s

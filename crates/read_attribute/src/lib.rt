@@ -58,7 +58,7 @@ fn taken(took: Took, given: Given, key: usize, j: usize) -> Step
     }
 }
 
-// A refusal at attribute j whose path has no Attribute.
+// A refusal at attribute j whose path has no Attribute (rules A11 and F9).
 fn refused_at(cause: Cause, j: usize) -> Step
     requires { ⌜ j < 2 ^ 32 ⌝ }
     ensures { λ r. ⌜ r ≡ faultStep cause 0 j ⌝ }
@@ -70,7 +70,7 @@ fn refused_at(cause: Cause, j: usize) -> Step
     })
 }
 
-// "Errors of an extra [..] carry the element's path with no Attribute."
+// What is refused in an extra has the element's path alone (rule A11).
 fn gave(found: Gave, j: usize) -> Step
     requires { ⌜ j < 2 ^ 32 ⌝ }
     ensures { λ r. ⌜ r ≡ gaveStep found j ⌝ }
@@ -110,7 +110,7 @@ fn read_attribute(
     taken(read_value(role, value, fill, own, text), given, key, j)
 }
 
-// "Attributes in order: faulty or repeated key (9), then key and value."
+// Attribute j by its words (rule T2): its mark (rule A2), then a repeated key (rule A3), then key and value.
 pub fn step_attribute(
     kind: u32,
     attributes: &[u32],

@@ -31,7 +31,7 @@ pub enum Element {
     Not(Fault),
 }
 
-// The code of the first attribute that the element lacks, or 0: "a missing `name` (suite, case), `name` before `value` (property)".
+// The code of the first attribute that the element lacks, or 0 (rule A10).
 fn missing_of(kind: u32, own: &[u32]) -> u32
     ensures { λ r. ⌜ r ≡ missingOf kind (now (own .entry)) ⌝ }
 {
@@ -124,6 +124,7 @@ fn read_record(
 
 // Reads an element of a record's kind with the attributes of `range`. Its record and its extras go to the front of `own`, which
 // is zero, its texts behind the `fill` bytes that the text area holds. The keys of the attributes in `known` are free of repeats.
+// Where there is no record, it is refused before its attributes are looked at (rule M2), with its own path (rule F9).
 pub fn read_element(
     kind: u32,
     attributes: &[u32],

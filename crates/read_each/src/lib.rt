@@ -7,7 +7,8 @@ ghost use Prim.Native.Nat.{_≤_};
 ghost use Rattle.read_element.specs.inside.Refines.{tagged, areas};
 ghost use Rattle.read_each.specs.inside.Promises.{Begins, ReadsAttributes};
 
-// No two attributes of the range before number `clear` have the same key; from there on each is compared with those before it.
+// Each to its end before the next (rule A2). No two attributes of the range before number `clear` have the same key; from there on
+// each is compared with those before it.
 pub fn read_each(
     kind: u32,
     attributes: &[u32],

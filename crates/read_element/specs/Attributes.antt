@@ -1,4 +1,4 @@
--- Document 01, "Attributes in order": an element's record with what its attributes say, its extras and its texts. Definitions only.
+-- An element's record with what its attributes say, its extras and its texts (rules A2, A3 and A8 to A11). Definitions only.
 use Prim.Native.Nat.{ℕ, zero, suc, _+_}
 use mathlib.Core.List.{List, [], _∷_, _++_}
 use mathlib.Core.Bool.{Bool, true, false, cond, not, _&&_, _||_}
@@ -31,18 +31,18 @@ pub record Given : Type 0 where
 abbrev pub withMain : Given → List ℕ → Given
 withMain g r = record { main = r; extras = g .extras; texts = g .texts }
 
--- "Each finished text, dropped ones too, is stored behind the texts already there" (13)
+-- v goes behind the texts that are there (rule M4); where it doesn't fit, 13 has the place that a bad value has (rule F9)
 abbrev pub storing : {A : Type 0} → Rooms → Place → List ℕ → List ℕ → (List ℕ → Outcome A) → Outcome A
 storing rooms p texts v next = need (fits (rooms .text) (length texts + length v)) p cause.TextFull (next (texts ++ v))
 
--- "Attribute text: UTF-8 (2), references (10), filter, store"
+-- put at word o with bit k (rule X1)
 unfoldable pub readText : Rooms → Place → ℕ → ℕ → List ℕ → Given → Outcome Given
 readText rooms p o k value g =
     there p (checkedOf value) >>= λ _.
     storing rooms p (g .texts) (valueText value) λ texts.
     accepted (record { main = putText o k (length (g .texts)) (length (valueText value)) (g .main); extras = g .extras; texts = texts })
 
--- the place of the first extra whose stored key is `key`; where there is none, the number of extras
+-- the place of the first extra whose stored key is `key`; where there is none, the number of extras (rule A8)
 abbrev pub placeOf : List ℕ → List ℕ → List (List ℕ) → ℕ
 placeOf texts key [] = 0
 placeOf texts key (r ∷ rs) = cond (sameBytes (textAt texts r 2) key) 0 (suc (placeOf texts key rs))
@@ -57,13 +57,13 @@ changed (suc i) f (r ∷ rs) = r ∷ changed i f rs
 abbrev pub extraKind : ℕ → ℕ
 extraKind kind = 11 + kind
 
--- "An extra whose cleaned key is already there replaces the value in the old place."
+-- the value of extra i is replaced (rule A8); its key isn't stored again (rule M5)
 unfoldable pub oldExtra : Rooms → Place → List ℕ → ℕ → Given → Outcome Given
 oldExtra rooms p value i g =
     storing rooms p (g .texts) value λ texts.
     accepted (record { main = g .main; extras = changed i (putPair 4 (length (g .texts)) (length value)) (g .extras); texts = texts })
 
--- "if new record (12) and storing of key (13), then storing of value (13)"; `used` records stand before the element's
+-- a record (rule M2), then room for key and value, in the order of rule A9; `used` records stand before the element's
 unfoldable pub newExtra : Rooms → Place → ℕ → ℕ → List ℕ → List ℕ → Given → Outcome Given
 newExtra rooms p used kind key value g =
     need (fits (rooms .records) (used + 1 + length (g .extras) + 1)) p cause.RecordsSpent
@@ -75,7 +75,7 @@ newExtra rooms p used kind key value g =
       texts = texts;
     }))
 
--- "An extra is checked as key (2, 10), value (2, 10), [..]"; "Errors of an extra [..] carry the element's path with no Attribute"
+-- its place is looked for by the cleaned key (rule A8), behind the tests of key and value (rule A9); p has no Attribute (rule A11)
 unfoldable pub readExtra : Rooms → Place → ℕ → ℕ → Attribute → Given → Outcome Given
 readExtra rooms p used kind x g =
     there p (checkedOf (x .key)) >>= λ _.
@@ -89,7 +89,7 @@ abbrev pub keep : Bool → List ℕ → List ℕ → List ℕ
 keep true new old = new
 keep false new old = old
 
--- one attribute by its role; p is the element's place with the attribute's number
+-- one attribute by its role; p is the element's place with the attribute's number, and a known key adds the Attribute (rule A11)
 unfoldable pub byRole : Rooms → Place → ℕ → ℕ → ℕ → Role → Attribute → Given → Outcome Given
 byRole rooms p used kind key (role.Text o k) x g = readText rooms (within p key) o k (x .value) g
 byRole rooms p used kind key (role.Count o) x g = there (within p key) (integerOf (x .value)) >>= λ n. accepted (withMain g (putCount o n (g .main)))
@@ -102,15 +102,16 @@ byRole rooms p used kind key (role.Time kept) x g =
 byRole rooms p used kind key role.Extra x g = readExtra rooms p used kind x g
 byRole rooms p used kind key role.Ignored x g = accepted g
 
--- "faulty or repeated key (9)": keys are repeated if their bytes are the same
+-- byte for byte one of those before (rule A3)
 abbrev pub among : List ℕ → List (List ℕ) → Bool
 among key [] = false
 among key (k ∷ ks) = sameBytes k key || among key ks
 
+-- with the attribute's number in the table (rule F6)
 abbrev pub numbered : Place → ℕ → Place
 numbered p j = record { path = p .path; event = p .event; attribute = j }
 
--- "Attributes in order: faulty or repeated key (9), then key and value"; j is the number of the first in the table
+-- each is tested for its mark (rule A2) and for a repeated key (rule A3), and then read; j is the number of the first in the table
 unfoldable pub readAttributes : Rooms → Place → ℕ → ℕ → List (List ℕ) → ℕ → List Attribute → Given → Outcome Given
 readAttributes rooms p used kind before j [] g = accepted g
 readAttributes rooms p used kind before j (x ∷ xs) g =
@@ -119,17 +120,18 @@ readAttributes rooms p used kind before j (x ∷ xs) g =
     (byRole rooms (numbered p j) used kind (keyOf (x .key)) (roleOf kind (keyOf (x .key))) x g)) >>= λ h.
     readAttributes rooms p used kind (before ++ (x .key ∷ [])) (j + 1) xs h
 
--- "Then a missing `name` (suite, case), `name` before `value` (property)"; p has no attribute number
+-- what suite, case and property may not lack (rule A10); p has no attribute number
 unfoldable pub complete : Place → ℕ → Given → Outcome Given
 complete p kind g =
     need (not (leb 2 kind && leb kind 5) || hasBit 0 (g .main)) (within p 1) cause.MissingAttribute
     (need (not (leb 4 kind && leb kind 5) || hasBit 1 (g .main)) (within p 14) cause.MissingAttribute (accepted g))
 
--- an element of a record's kind: "A record is [..] taken [..] before its attributes" (12); its records stand behind the others
+-- all records and texts behind an element; its own records stand behind the others
 pub record Grown : Type 0 where
   pub records : List (List ℕ)
   pub texts : List ℕ
 
+-- an element of a record's kind: its record is taken before its attributes (rule M2), and 12 has its path (rule F9)
 unfoldable pub readElement : Rooms → Place → ℕ → ℕ → List Attribute → List (List ℕ) → List ℕ → Outcome Grown
 readElement rooms p kind j xs records texts =
     need (fits (rooms .records) (length records + 1)) p cause.RecordsSpent

@@ -11,12 +11,12 @@ use Rattle.refusal.specs.declared.PathElement.{PathElement}
 use Rattle.refusal.specs.declared.Cause.{Cause}
 
 infixl 20 _>>=_
--- one step behind another: the first that refuses decides
+-- one step behind another: the first that refuses decides (rule F2)
 unfoldable pub _>>=_ : {A B : Type 0} → Outcome A → (A → Outcome B) → Outcome B
 _>>=_ (accepted a) f = f a
 _>>=_ (refused r) f = refused r
 
--- where a refusal is: "a path of at most six elements, the event and attribute number"
+-- where a refusal is (rule F1)
 pub record Place : Type 0 where
   pub path : List PathElement
   pub event : ℕ
@@ -30,7 +30,7 @@ unfoldable pub there : {A : Type 0} → Place → Answer A → Outcome A
 there p (gives a) = accepted a
 there p (refuses why) = refusedAt p why
 
--- the step where the test passes, and else the refusal
+-- the step where the test passes, and else the refusal, whatever the step would come to (rule F2)
 unfoldable pub need : {A : Type 0} → Bool → Place → Cause → Outcome A → Outcome A
 need true p why m = m
 need false p why m = refusedAt p why
@@ -49,7 +49,7 @@ attributeElement key = element 16 (attributeOf key) nowhere
 abbrev pub stackTraceElement : PathElement
 stackTraceElement = element 16 15 nowhere
 
--- the place of an attribute's value: "carry the element's path" with the Attribute
+-- the place of a known key's value: the element's path, and behind it the Attribute (rule A11)
 abbrev pub within : Place → ℕ → Place
 within p key = record { path = p .path ++ (attributeElement key ∷ []); event = p .event; attribute = p .attribute }
 
@@ -64,7 +64,7 @@ pub record Rooms : Type 0 where
   pub text : Option ℕ
   pub scratch : Option ℕ
 
--- "of longer areas only that much is used"
+-- whole records, and of longer areas no more than the limits (rule M1)
 abbrev pub roomsOf : ℕ → ℕ → ℕ → Rooms
 roomsOf words text scratch = record { records = some (min (words / 32) mostRecords); text = some (min text mostBytes); scratch = some (min scratch mostBytes) }
 

@@ -52,7 +52,7 @@ fn lay(value: &[u8], fill: usize, text: &mut [u8]) -> Laid
     }
 }
 
-// "An extra whose cleaned key is already there replaces the value in the old place."
+// The value of extra i is replaced (rule A8); its key isn't stored again (rule M5).
 pub fn old_extra(value: &[u8], i: usize, given: Given, own: &mut [u32], text: &mut [u8]) -> Gave
     requires { ⌜ gives tt ≡ checkedOf (now value) ⌝ }
     requires { ⌜ i < given .extras ⌝ }
@@ -84,6 +84,7 @@ fn put_extra_words(words: &mut [u32], kind: u32, start: usize, middle: usize, en
     put_text(words, 4, 1, middle as u32, (end - middle) as u32);
 }
 
+// Behind the other extras: a record (rule M2), then room for key and value, in the order of rule A9.
 pub fn new_extra(
     kind: u32,
     key: &[u8],

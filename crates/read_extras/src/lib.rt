@@ -94,8 +94,7 @@ fn put_extra(
     new_extra(kind, key, value, given, own, text)
 }
 
-// "An extra is checked as key (2, 10), value (2, 10), if new record (12) and storing of key (13), then storing of value (13)."
-// Where it stands among the extras is looked for only without a hint.
+// By rules A8 and A9; where it stands among the extras is looked for only without a hint.
 pub fn read_extra(
     kind: u32,
     key: &[u8],

@@ -13,7 +13,7 @@ ghost use Rattle.read_content.specs.Content.{killed};
 ghost use Rattle.read_state.specs.inside.Coded.{levelOf};
 ghost use Rattle.read_content.specs.inside.Holds.{killWords, listOf, withList};
 
-// "Replaced records are marked dead": the record at the front of the part.
+// The record at the front of the part is marked dead, if it isn't.
 fn kill_record(words: &mut [u32])
     ensures { λ _. ⌜ now (words .exit) ≡ killed (now (words .entry)) ⌝ }
 {
@@ -23,7 +23,7 @@ fn kill_record(words: &mut [u32])
     }
 }
 
-// The records from number `first` to before number `end`.
+// The records from number `first` to before number `end` are marked dead (rule M3).
 pub fn kill(records: &mut [u32], first: usize, end: usize)
     requires { ⌜ first ≤ end ⌝ }
     requires { ⌜ end * 32 ≤ length (now records) ⌝ }
@@ -63,7 +63,7 @@ pub fn with_list(level: Level, content: Content, list: List) -> Content
     c
 }
 
-// "A later properties list [..] replaces the earlier one."
+// The list before is marked dead (rule R17).
 pub fn open_list(level: Level, content: Content, records: &mut [u32]) -> Content
     requires { ⌜ (listOf (levelOf level) content .first + listOf (levelOf level) content .count) * 32 ≤ length (now records) ⌝ }
     ensures { λ r. ⌜ r ≡ withList (levelOf level) content (record { first = content .used; count = 0 }) ⌝ }

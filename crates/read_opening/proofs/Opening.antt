@@ -96,7 +96,7 @@ module _ {words text scratch attributes source : List ℕ} {c : CodedContent} {s
       })
 
   module _ (p : Place) (m : Marks) where
-    -- "A later properties list [..] replaces the earlier one."
+    -- the list before is marked dead (rule R17)
     pub list-opened : (l : Level) → hasList (at l) ≡ true → Lists (at l) m c s → {words′ : List ℕ} → words′ ≡ killWords (listOf l c .count) (listOf l c .first) words
         → Performs (listing l) m p words′ text scratch attributes source (accepted (withRecords s (killKind (propertyKind l) (recordOf l m) (s .records)))) (To (withList l c (record { first = c .used; count = 0 })))
     list-opened top a li e = no a

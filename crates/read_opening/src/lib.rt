@@ -60,7 +60,7 @@ fn add_element(
     }
 }
 
-// Start `testsuites` "replaces an earlier one with its suites".
+// The report before is gone with its suites (rule R3).
 fn open_report(
     range: Range,
     content: Content,
@@ -115,7 +115,7 @@ fn open_case(
     add_element(CASE, range, c, attributes, source, records, text)
 }
 
-// An element by its record's kind.
+// An element by its record's kind, with its attributes (rule A1).
 pub fn open_element(
     kind: u32,
     range: Range,
@@ -139,7 +139,7 @@ pub fn open_element(
     }
 }
 
-// A property of the open list.
+// A property of the open list, with its attributes (rule A1).
 pub fn read_property(
     level: Level,
     range: Range,

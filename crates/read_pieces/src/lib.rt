@@ -34,7 +34,7 @@ fn is_open_status(level: Level) -> bool
     }
 }
 
-// Where pieces of text are gathered.
+// Where pieces of text are gathered (rule R20).
 pub fn is_gathering(control: Control) -> bool
     ensures { λ r. ⌜ r ≡ gathers (modeOf control) ⌝ }
 {
@@ -47,7 +47,7 @@ pub fn is_gathering(control: Control) -> bool
     }
 }
 
-// A piece of text by its event's kind, into scratch behind what it holds.
+// A piece of text by its event's kind (rule X9), into scratch behind what it holds.
 fn gather_piece(kind: u32, bytes: &[u8], out: &mut [u8]) -> Kept
     ensures { λ r. ⌜ keptAnswer cause.ScratchFull r ≡ pieceAnswer (pieceKind kind) (length (now (out .entry))) (pieceBytes kind (now (bytes .entry))) ⌝ }
     ensures { λ r. ⌜ now (out .exit) ≡ pieceLaid (pieceKind kind) (now (out .entry)) (pieceBytes kind (now (bytes .entry))) ⌝ }
@@ -75,6 +75,7 @@ fn joined(mode: Mode, content: Content, n: usize) -> Content
     c
 }
 
+// A piece goes behind the open description and the text of a child (rule M6); 21 is told here, at the Ref (rule F12).
 pub fn gather(
     mode: Mode,
     kind: u32,

@@ -205,7 +205,7 @@ record-inside status m c s o e = o .1 .1
 
 module _ {words text scratch attributes source : List ℕ} {c : CodedContent} {s : Content} (hd : Holds words text scratch attributes source c s)
     {rooms : Rooms} (sz : Sized rooms (length words) (length text) (length scratch)) (p : Place) (pa : p .attribute ≡ nowhere) (m : Marks) where
-  -- "A description empty after trimming is missing"
+  -- a description that trimming leaves empty is missing (rule X11)
   pub none-described : {clean : List ℕ} → Lists (at status) m c s → clean ≡ trimmed (take (c .description) scratch) → length clean ≡ 0 → {r : Performed} → r ≡ keptTo (Put 0) 0 c
       → Performs (at case) m p words text scratch attributes source (describing rooms p m s) r
   unfolding describing
@@ -245,7 +245,7 @@ module _ {words text scratch attributes source : List ℕ} {c : CodedContent} {s
       (t ∙ ap (λ (x : List ℕ). take (c .fill) text ++ laid (drop (c .fill) text) (cleaned x)) (description-part hd))
       (λ n. (still-open hd true (m .statusAt) 20 6 (s .description) (lit≤ tt) (lit≤ tt) (λ y. li .0 .1 .1) m case n 0 [] (li .0 .0, li .0 .1 .0), refl)))
 
-  -- "an output is kept empty"
+  -- an output is kept, an empty one too (rule X12)
   pub output-kept : {words′ text′ : List ℕ} (l : Level) (o : Output) {taken : Bool} {i w k : ℕ} {g : List ℕ} → Opened l m c s → taken ≡ takes l m → i ≡ recordOf l m → w ≡ wordOf o → k ≡ bitOf o
       → g ≡ take (c .description + c .gathered - c .description) (drop (c .description) scratch)
       → (stored : Stored) → storedAnswer cause.TextFull stored ≡ placing cause.TextFull (length text - c .fill) (cleaned g) → words′ ≡ keptWords stored taken i w k (c .fill) words

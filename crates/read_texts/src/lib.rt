@@ -57,7 +57,7 @@ fn record_of(level: Level, marks: Marks) -> usize
     }
 }
 
-// A main's stack trace and outputs are dropped: its record doesn't take them.
+// The record of a main takes no stack trace and no outputs (rule S12).
 fn is_taken(level: Level, marks: Marks) -> bool
     ensures { λ r. ⌜ r ≡ takes (levelOf level) (marksOf marks) ⌝ }
 {
@@ -69,7 +69,7 @@ fn is_taken(level: Level, marks: Marks) -> bool
     }
 }
 
-// A gathered text, trimmed, filtered, stored, and put into a record at word o with bit k, if the record takes it.
+// A gathered text, trimmed and filtered (rule X10), stored (rule M4), and put into a record at word o with bit k, if it takes it.
 fn keep_text(
     taken: bool,
     i: usize,
@@ -117,7 +117,7 @@ fn kept_text(stored: Stored, content: Content, description: usize) -> Performed
     }
 }
 
-// "A description empty after trimming is missing."
+// A description that trimming leaves empty is missing (rule X11), and nothing is stored for it (rule M5).
 pub fn close_status(
     i: usize,
     content: Content,
@@ -151,7 +151,7 @@ pub fn close_status(
     kept_text(stored, content, 0)
 }
 
-// "an output is kept empty"
+// The text of a child, also an empty one (rule X12); one that was there with this name is replaced (rule R17).
 pub fn close_text(
     level: Level,
     output: Output,

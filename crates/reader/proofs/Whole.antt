@@ -67,7 +67,7 @@ ran-whole words text w t k n a b words′ text′ o ran.Done e =
     }
 ran-whole words text w t k n a b words′ text′ o (ran.Halted st h) e = e
 
--- "of longer areas only that much is used"
+-- of longer areas only so much is used (rule M1)
 module _ (words text scratch : List ℕ) (k n m : ℕ) (kq : k ≡ min (length words / 32) 65536) (nq : n ≡ min (length text) 16777216) (mq : m ≡ min (length scratch) 16777216) where
   pub cut-words : k * 32 ≤ length words
   cut-words = omega arith
@@ -119,7 +119,7 @@ module _ (events attributes source : List ℕ) (words text scratch : ℕ) where
   told t e = ap (λ (x : Outcome (Unit {0})). readAs words text scratch (x >>= λ _. lent)) e
 
   module _ (o : Outcome (Unit {0})) (w t c : List ℕ) (cq : c ≡ zeros scratch) where
-    -- "Refusal 11 comes first"
+    -- 11 comes first (rule T6)
     pub read-bad : (r : Refused) → tableOf events attributes source ≡ refused r → o ≡ refused r → w ≡ zeros words → t ≡ zeros text → gives o w t c ≡ whole
     unfolding readAs _>>=_
     read-bad r e q wq tq = same-read q wq tq cq ∙ sym (told (refused r) e)

@@ -6,8 +6,7 @@ use Rattle.refusal.specs.Refusal.{Outcome, verdictOf, refusalOf}
 use Rattle.read_machine.specs.Reading.{Read}
 use Rattle.reader.specs.declared.Reading.{Reading}
 
--- "Each returns its number, a path of at most six elements, the event and attribute number": the answer for an outcome; where
--- the table is accepted, the field `refusal` is `noRefusal`
+-- the answer for an outcome: a refusal whole (rule F1); where the table is accepted, the field `refusal` is `noRefusal`
 abbrev pub answerOf : Outcome (Unit {0}) → Reading
 answerOf o = record { verdict = verdictOf o; refusal = refusalOf o }
 

@@ -41,6 +41,7 @@ enum Run {
     Halted(State, Halt),
 }
 
+// Event by event, up to the first refusal (rule F2).
 fn run_events(
     events: &[u32],
     attributes: &[u32],
@@ -90,7 +91,7 @@ fn accepting() -> Reading
     }
 }
 
-// The one place where a path is made.
+// The one place where a path is made, with the numbers of event and attribute (rule F6).
 fn halted(st: State, h: Halt) -> Reading
     requires { ⌜ Placed st h ⌝ }
     ensures { λ r. ⌜ ((placed : Placed st h) → r ≡ answerOf (why.refused (refusalAt st h (placed .name)))) ⌝ }
@@ -104,7 +105,7 @@ fn halted(st: State, h: Halt) -> Reading
     refusing(cause, path, h.event as u32, fault.attribute)
 }
 
-// "of longer areas only that much is used"
+// Of longer areas only so much is used (rule M1).
 fn run_within(
     events: &[u32],
     attributes: &[u32],
@@ -132,6 +133,7 @@ fn run_within(
     )
 }
 
+// Before reading (rule M11), and at a refusal (rule F13).
 fn clear_all(records: &mut [u32], text: &mut [u8], scratch: &mut [u8])
     ensures { λ _. ⌜ now (records .exit) ≡ zeros (length (now (records .entry))) ⌝ }
     ensures { λ _. ⌜ now (text .exit) ≡ zeros (length (now (text .entry))) ⌝ }
@@ -142,7 +144,7 @@ fn clear_all(records: &mut [u32], text: &mut [u8], scratch: &mut [u8])
     clear(scratch);
 }
 
-// A good table, into areas that are zero. "Result areas and scratch become zero" on a refusal.
+// A good table, into areas that are zero, and become so again at a refusal (rule F13).
 fn read_good(
     events: &[u32],
     attributes: &[u32],
@@ -170,7 +172,8 @@ fn read_good(
     }
 }
 
-// Reads a table into lent areas. "Refusal 11 comes first."
+// Reads a table into lent areas (rule R1); a plain report that was written comes back (rule W16). The whole table is checked first
+// (rule T6), and what isn't used ends zero (rule M11).
 pub fn read(
     events: &[u32],
     attributes: &[u32],

@@ -31,7 +31,7 @@ abbrev pub repeated : Table → Range → ℕ → Bool
 repeated table range j =
     among (keyAt (table .attributes) (table .source) j) (keysOf (attributesFrom (table .attributes) (table .source) (j - range .first) (range .first)))
 
--- "faulty or repeated key (9), then key and value"
+-- what attribute j comes to: its mark (rule A2), then a repeated key (rule A3), then key and value
 abbrev pub stepOf : Rooms → Place → ℕ → ℕ → Table → Range → ℕ → Given → Outcome Given
 stepOf rooms p used kind table range j g =
     need (markAt (table .attributes) j) (numbered p j) cause.FaultyAttribute

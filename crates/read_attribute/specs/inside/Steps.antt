@@ -26,7 +26,7 @@ abbrev pub takenStep : Took → Counted → ℕ → ℕ → Step
 takenStep (took.To fill) given key j = step.To (record { extras = given .extras; fill = fill })
 takenStep (took.Not why) given key j = faultStep why key j
 
--- "Errors of an extra [..] carry the element's path with no Attribute."
+-- what is refused in an extra has the element's path alone (rule A11)
 abbrev pub gaveStep : Gave → ℕ → Step
 gaveStep (gave.To given) j = step.To given
 gaveStep (gave.Not why) j = faultStep why 0 j
