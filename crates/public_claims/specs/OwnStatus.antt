@@ -1,5 +1,5 @@
--- Document 01, demand 3's status clause: the status elements of each case, found by a walk over the public events that knows neither
--- the reader's plan nor its tally, and the status rule over the list of them. Definitions only.
+-- The status elements of each case, found by a walk over the public events that knows neither the reader's plan nor its tally, and the
+-- status rule over the list of them. Definitions only.
 use Prim.Native.Nat.{ℕ, zero, suc}
 use mathlib.Core.Path.{_≡_}
 use mathlib.Core.List.{List, [], _∷_, _++_}
@@ -23,17 +23,17 @@ pub record Verdict : Type 0 where
 abbrev pub verdict : Status → RunKind → ℕ → Verdict
 verdict s k n = record { status = s; kind = k; runs = n }
 
--- "the mains `failure`, `error`, `skipped`": codes 6, 7, 8
+-- `failure`, `error` and `skipped`: codes 6, 7, 8
 abbrev pub mains : List ℕ → List ℕ
 mains [] = []
 mains (k ∷ ks) = cond (leb k 8) (k ∷ mains ks) (mains ks)
 
--- "a flaky (`flakyFailure`, `flakyError`)": codes 9 and 10
+-- `flakyFailure` and `flakyError`: codes 9 and 10
 abbrev pub flakies : List ℕ → List ℕ
 flakies [] = []
 flakies (k ∷ ks) = cond (leb 9 k && leb k 10) (k ∷ flakies ks) (flakies ks)
 
--- "reruns (`rerunFailure`, `rerunError`)": codes 11 and 12
+-- `rerunFailure` and `rerunError`: codes 11 and 12
 abbrev pub reruns : List ℕ → List ℕ
 reruns [] = []
 reruns (k ∷ ks) = cond (leb 11 k) (k ∷ reruns ks) (reruns ks)
@@ -43,19 +43,20 @@ mainStatus m = cond (eqb m 6) isFailure isError
 
 -- by the mains, flaky runs and reruns; none is refused
 abbrev pub ruleFor : List ℕ → List ℕ → List ℕ → Option Verdict
--- "no main is success with its flaky runs"; reruns alone
+-- no main is a success, with flaky runs but not with reruns (rules S10, S7)
 ruleFor [] fs [] = some (verdict isSuccess flakyKind (length fs))
 ruleFor [] fs (r ∷ rs) = none
--- "failure or error carries its runs, kind Rerun if there are none"
+-- a main alone (rule S11)
 ruleFor (m ∷ []) [] [] = some (cond (eqb m 8) (verdict isSkipped noKind 0) (verdict (mainStatus m) rerunKind 0))
--- `skipped` with a flaky or rerun
+-- a main with runs, which `skipped` may not have (rules S11, S8)
 ruleFor (m ∷ []) (f ∷ fs) [] = cond (eqb m 8) none (some (verdict (mainStatus m) flakyKind (length (f ∷ fs))))
 ruleFor (m ∷ []) [] (r ∷ rs) = cond (eqb m 8) none (some (verdict (mainStatus m) rerunKind (length (r ∷ rs))))
--- "flaky and rerun together"
+-- rule S9
 ruleFor (m ∷ []) (f ∷ fs) (r ∷ rs) = none
--- "two of the mains"
+-- rule S6
 ruleFor (m ∷ n ∷ ms) fs rs = none
 
+-- rules S6 to S11
 unfoldable pub rule : List ℕ → Option Verdict
 rule ks = ruleFor (mains ks) (flakies ks) (reruns ks)
 
@@ -67,18 +68,19 @@ pub data Spot : Type 0 where
   upTo : ℕ → Spot → Spot
   past : List ℕ → ℕ → Spot → Spot
 
--- the seven status names, codes 6 to 12
+-- the seven status names (rule S1), codes 6 to 12
 abbrev pub isStatusName : List ℕ → Bool
 isStatusName name = leb 6 (tagOf name) && leb (tagOf name) 12
 
--- the children that are read to the next End of their name: `properties` (4), `system-out` (14), `system-err` (15) of suite and
--- case, `stackTrace` (13) and the outputs of a status element; any other is skipped
+-- behind a Start that is neither case nor status element: the outputs go to the next End of their name, a properties list to its own
+-- End, and whatever else is skipped (rules R10, R11)
 abbrev pub held : List ℕ → Spot → Spot
 held name s =
     cond (eqb (tagOf name) 4) (upTo 4 s)
     (cond (eqb (tagOf name) 14) (upTo 14 s)
     (cond (eqb (tagOf name) 15) (upTo 15 s) (past name 0 s)))
 
+-- the same in a status element, which has a stack trace besides its outputs and no properties (rules S3, S4)
 abbrev pub heldByStatus : List ℕ → Spot
 heldByStatus name =
     cond (eqb (tagOf name) 13) (upTo 13 inStatus)
@@ -106,7 +108,7 @@ move seen inCase End name = cond (eqb (tagOf name) 3) inSuite inCase
 move seen inStatus Start name = heldByStatus name
 move seen inStatus Empty name = heldByStatus name
 move seen inStatus End name = cond (isStatusName name) inCase inStatus
--- "is read to the next End of its name without counting depth"
+-- a text takes in tags, also those of its own name, up to the first End of that name (rule R14)
 move seen (upTo code s) Start name = upTo code s
 move seen (upTo code s) Empty name = upTo code s
 move seen (upTo code s) End name = cond (eqb (tagOf name) code) s (upTo code s)
@@ -179,6 +181,7 @@ casesFrom seen s found (PublicTag k name xs ∷ es) =
 casesFrom seen s found (PublicEof ∷ es) = found
 casesFrom seen s found (PublicFault ∷ es) = found
 
+-- rule S5
 unfoldable pub ownStatuses : List PublicEvent → List (List ℕ)
 ownStatuses es = casesFrom false atReport [] es
 
@@ -195,7 +198,7 @@ casesListed (some r) = casesOfAll (r .suites)
 abbrev pub verdictOf : PublicCase → Verdict
 verdictOf c = verdict (c .status) (c .kind) (length (c .runs))
 
--- case by case, the rule gives what is listed
+-- case by case, the rule gives what is listed (rule L5)
 pub data Ruled : List PublicCase → List (List ℕ) → Type 0 where
   no-case : Ruled [] []
   one-case : {c : PublicCase} {cs : List PublicCase} {ks : List ℕ} {kss : List (List ℕ)} → rule ks ≡ some (verdictOf c) → Ruled cs kss → Ruled (c ∷ cs) (ks ∷ kss)

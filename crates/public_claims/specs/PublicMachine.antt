@@ -147,7 +147,7 @@ publicStep (PublicTag k name xs) s = acting (planAt (s .control .mode) (s .contr
 publicStep PublicEof s = ending s
 publicStep PublicFault s = acting (planFault (s .control .mode)) [] s
 
--- "The table's end counts as Eof."
+-- the end of the table is an Eof (rule T5)
 unfoldable pub publicRun : List PublicEvent → PublicState → PublicState
 publicRun [] s = ending s
 publicRun (e ∷ es) s = publicRun es (publicStep e s)
@@ -212,7 +212,7 @@ abbrev pub nodeStatus : List ℕ → Status
 nodeStatus [] = isSuccess
 nodeStatus (m ∷ ms) = cond (eqb m 8) isSkipped (cond (eqb m 6) isFailure isError)
 
--- "kind Rerun if there are none"
+-- of no runs Rerun (rule S11)
 abbrev pub familyOf : List ℕ → RunKind
 familyOf [] = rerunKind
 familyOf (k ∷ ks) = cond (leb k 10) flakyKind rerunKind

@@ -25,6 +25,7 @@ ghost use Rattle.read_element.specs.inside.Refines.{tagged, areas};
 ghost use Rattle.read_content.specs.inside.Holds.{apt, statusEnd};
 ghost use Rattle.read_actions.specs.inside.Promises.{Closes, ReadyIn, PerformsAct};
 
+// 20 is told at the case's End (rules S5 and F12).
 fn close(
     level: Level,
     tally: Tally,

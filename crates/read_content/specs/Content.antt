@@ -25,8 +25,7 @@ use Rattle.read_state.specs.Control.{Act, pass, openReport, openSuite, openCase
 use Rattle.read_place.specs.Marks.{Marks}
 use Rattle.refusal.specs.declared.Cause.the-variants as cause
 
--- the records, the texts stored, the open description and the text of a child: "An open description stays in scratch, with
--- its child's text behind it."
+-- the records, the texts stored, the open description, and the text of a child, which stands behind it in scratch (rule M6)
 pub record Content : Type 0 where
   pub records : List (List ℕ)
   pub texts : List ℕ
@@ -34,15 +33,16 @@ pub record Content : Type 0 where
   pub gathered : List ℕ
 
 -- ---- records
--- "Replaced records are marked dead"
+-- marked dead, in its place (rule M3)
 abbrev pub killed : List ℕ → List ℕ
 killed r = cond (live r) (set r word.kind (kindOf r + kind.dead)) r
 
+-- a report that is replaced is gone with its suites (rule R3)
 abbrev pub killAll : List (List ℕ) → List (List ℕ)
 killAll [] = []
 killAll (r ∷ rs) = killed r ∷ killAll rs
 
--- of the records from number i on, those of a kind
+-- of the records from number i on, those of a kind: the properties of the list before (rule R17)
 abbrev pub killKind : ℕ → ℕ → List (List ℕ) → List (List ℕ)
 killKind k i [] = []
 killKind k zero (r ∷ rs) = cond (eqb (kindOf r) k) (killed r) r ∷ killKind k zero rs
@@ -71,7 +71,7 @@ bitOf out = bit.out
 bitOf err = bit.err
 bitOf trace = bit.stackTrace
 
--- "The main's stack trace, outputs [..] are dropped": its record doesn't take them
+-- the record of a main takes no stack trace and no outputs (rule S12)
 abbrev pub takes : Level → Marks → Bool
 takes status m = leb kind.flakyFailure (m .statusKind)
 takes suite m = true
@@ -83,8 +83,7 @@ kept true f r = f r
 kept false f r = r
 
 -- ---- pieces of text
--- "pieces decoded one by one (2, 10, 14; CData has no references)", a Ref event's name stands for what it does in a value, else 21 (request 5),
--- or 10 for a number (request 3)
+-- a piece decoded (rule X9); the name of a Ref stands for what it does in a value, else it is 10 (rule X6) or 21 (rule X7)
 unfoldable pub pieceOf : PieceKind → List ℕ → Answer (List ℕ)
 pieceOf Text s = cond (utf8 s) (cond (refsOk s 0) (gives (decoded s 0)) (refuses cause.BadReference)) (refuses cause.NotUtf8)
 pieceOf CData s = cond (utf8 s) (gives s) (refuses cause.NotUtf8)
@@ -95,6 +94,7 @@ pieceOf Other s = gives []
 abbrev pub withTexts : Content → List ℕ → List ℕ → Content
 withTexts c d g = record { records = c .records; texts = c .texts; description = d; gathered = g }
 
+-- to the open description (rule X11), or to the text of a child behind it (rule M6)
 abbrev pub joinPiece : Mode → List ℕ → Content → Content
 joinPiece (at l) v c = withTexts c (c .description ++ v) (c .gathered)
 joinPiece (gathering l o) v c = withTexts c (c .description) (c .gathered ++ v)
@@ -102,6 +102,7 @@ joinPiece (listing l) v c = c
 joinPiece (skipping l name depth) v c = c
 joinPiece finished v c = c
 
+-- a piece is decoded, and goes into scratch (rule M6); 14 and 21 have the path of the text (rules F9 and F12)
 unfoldable pub gather : Rooms → Place → Mode → PieceKind → List ℕ → Content → Outcome Content
 gather rooms p mode k s c =
     there p (pieceOf k s) >>= λ v.
@@ -117,10 +118,11 @@ adding rooms p k j xs c = readElement rooms p k j xs (c .records) (c .texts) >>=
 abbrev pub withRecords : Content → List (List ℕ) → Content
 withRecords c rs = record { records = rs; texts = c .texts; description = c .description; gathered = c .gathered }
 
--- a gathered text v, trimmed, "then filtered", stored, and put into a record at word o with bit k
+-- a gathered text, trimmed and then filtered (rule X10)
 abbrev pub cleaned : List ℕ → List ℕ
 cleaned v = filtered (trimmed v)
 
+-- a gathered text v, cleaned, stored (rule M4), and put into record i at word o with bit k, if it is taken
 unfoldable pub keeping : Rooms → Place → Bool → ℕ → ℕ → ℕ → List ℕ → Content → Outcome Content
 keeping rooms p taken i o k v c =
     storing rooms p (c .texts) (cleaned v) λ texts.
@@ -135,18 +137,18 @@ abbrev pub isEmpty : List ℕ → Bool
 isEmpty [] = true
 isEmpty (b ∷ s) = false
 
--- "A description empty after trimming is missing"
+-- one that trimming leaves empty is missing (rule X11), and nothing is stored for it (rule M5)
 unfoldable pub describing : Rooms → Place → Marks → Content → Outcome Content
 describing rooms p m c =
     cond (isEmpty (trimmed (c .description))) (accepted (withTexts c [] []))
     (keeping rooms p true (m .statusAt) word.description bit.description (c .description) c >>= λ d. accepted (withTexts d [] []))
 
--- "an output is kept empty"
+-- an empty one is kept, too (rule X12), and replaces the one before (rule R17)
 unfoldable pub outputting : Rooms → Place → Level → Output → Marks → Content → Outcome Content
 outputting rooms p l o m c =
     keeping rooms p (takes l m) (recordOf l m) (wordOf o) (bitOf o) (c .gathered) c >>= λ d. accepted (withTexts d (d .description) [])
 
--- what an action does; j is the number of the tag's first attribute
+-- what an action does, of attributes by rule A1; j is the number of the tag's first attribute
 unfoldable pub perform : Rooms → Place → Act → ℕ → List Attribute → Control → Marks → Content → Outcome Content
 perform rooms p (pass n) j xs k m c = accepted c
 perform rooms p (openReport e) j xs k m c = adding rooms p kind.report j xs (withRecords c (killAll (c .records)))
@@ -154,7 +156,7 @@ perform rooms p (openSuite e) j xs k m c = adding rooms p kind.suite j xs c
 perform rooms p (openCase e) j xs k m c = adding rooms p kind.case j xs c
 perform rooms p (openStatus s e) j xs k m c = adding rooms p s j xs c
 perform rooms p closeSuite j xs k m c = accepted c
--- the status rule (20)
+-- 20 is told at the case's End (rules S5 and F12)
 perform rooms p closeCase j xs k m c = need (ruled (k .tally)) p cause.StatusRule (accepted c)
 perform rooms p closeStatus j xs k m c = describing rooms p m c
 perform rooms p (openText l o) j xs k m c = accepted c

@@ -158,7 +158,7 @@ keeps {rooms} {c} p taken i κ o k v u h s =
         let e : changed i (kept false (putText o k (length (c .texts)) (length (cleaned v)))) (c .records) ≡ c .records = changed-same i (kept false (putText o k (length (c .texts)) (length (cleaned v)))) (λ r. refl) (c .records) in
         (subst (Each (Kept (c .texts ++ cleaned v))) (sym e) old, ap kinds e)
 
--- "A description empty after trimming is missing"
+-- a description that trimming leaves empty is missing (rule X11)
 pub describes : {rooms : Rooms} {c : Content} (m : Marks) (p : Place) → Status (m .statusKind) → There (m .statusAt) (m .statusKind) (kinds (c .records)) → Sound rooms c → Holds (Same rooms c) (describing rooms p m c)
 unfolding describing
 describes {rooms} {c} m p st th s =
@@ -175,7 +175,7 @@ Holder suite m ks = There (m .suiteAt) 2 ks
 Holder case m ks = There (m .caseAt) 3 ks
 Holder status m ks = Status (m .statusKind) × There (m .statusAt) (m .statusKind) ks
 
--- "an output is kept empty"
+-- an output is kept, an empty one too (rule X12)
 pub puts-out : {rooms : Rooms} {c : Content} {l : Level} {o : Output} (m : Marks) (p : Place) → Gathered l o → Holder l m (kinds (c .records)) → Sound rooms c → Holds (Same rooms c) (outputting rooms p l o m c)
 unfolding outputting
 puts-out m p suite-out h s =

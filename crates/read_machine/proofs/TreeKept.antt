@@ -53,7 +53,7 @@ pub all-good : {texts : List ℕ} {rs : List (List ℕ)} → Each (Kept texts) r
 all-good done = refl
 all-good (more k ks) = both (kept-good k) (all-good ks)
 
--- ---- "Replaced records are marked dead"
+-- ---- records marked dead (rule M3)
 length-killed : (r : List ℕ) → length (killed r) ≡ length r
 length-killed r = go (ltb (getD r 0 0) 16)
   where

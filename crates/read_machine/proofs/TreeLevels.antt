@@ -189,7 +189,7 @@ suite-opens {ks} {es} h w =
 pub suite-closes : {s u : ℕ} {ks : List ℕ} → InSuite s u ks → Walk Ready ks
 suite-closes i = walk-as (i .walk) suite-ready
 
--- "A later properties list [..] replaces the earlier one."
+-- a later list replaces the one before (rule R17)
 pub suite-lists : {s u : ℕ} {ks : List ℕ} → InSuite s u ks → InSuite s 1 (killFrom 4 s ks)
 suite-lists {s} {u} {ks} i = record {
   there = there-kept 4 s refl (i .there);

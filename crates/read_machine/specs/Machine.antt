@@ -34,7 +34,7 @@ step rooms (Piece k bytes) s =
 step rooms Eof s = act rooms (planEof (s .control .mode) (s .control .seen) (s .control .closed)) 0 [] s
 step rooms Fault s = act rooms (planFault (s .control .mode)) 0 [] s
 
--- "The table's end counts as Eof."
+-- the table's end is read as Eof (rule T5), and nothing behind the first refusal (rule F2)
 unfoldable pub run : Rooms → List Event → Machine → Outcome Machine
 run rooms [] s = step rooms Eof s
 run rooms (e ∷ es) s = step rooms e s >>= λ t. run rooms es t

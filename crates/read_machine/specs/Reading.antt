@@ -20,7 +20,7 @@ pub record Read : Type 0 where
   pub text : List ℕ
   pub scratch : List ℕ
 
--- "Result areas and scratch become zero"; "Unused words, bytes and scratch end zero."
+-- what isn't used is zero (rule M11), and at a refusal everything is (rule F13)
 unfoldable pub readAs : ℕ → ℕ → ℕ → Outcome Machine → Read
 readAs words text scratch (accepted s) =
     record {
@@ -31,11 +31,11 @@ readAs words text scratch (accepted s) =
     }
 readAs words text scratch (refused r) = record { outcome = refused r; words = zeros words; text = zeros text; scratch = zeros scratch }
 
--- "Refusal 11 comes first"; then the events, from the top
+-- the whole table is checked first (rule T6); then its events are read from the top, by the rules alone (rule R1)
 unfoldable pub reading : List ℕ → List ℕ → List ℕ → ℕ → ℕ → ℕ → Read
 reading events attributes source words text scratch =
     readAs words text scratch (tableOf events attributes source >>= λ _. run (roomsOf words text scratch) (resolve events attributes source) begin)
 
--- the same without areas: "The reference is `Report::deserialize`"
+-- the same without areas, as `Report::deserialize` of the crate (rule R1)
 unfoldable pub deserialize : List Event → Outcome (Option Report)
 deserialize es = run unlimited es begin >>= λ s. accepted (reportFrom (s .content .texts) (only live (s .content .records)))

@@ -13,6 +13,7 @@ root = element 1 nowhere nowhere ∷ []
 abbrev pub suitePath : Marks → List PathElement
 suitePath m = root ++ (element 2 (m .suiteIndex) (m .suiteStart) ∷ [])
 
+-- with the indices of suite and case (rule F4)
 abbrev pub casePath : Marks → List PathElement
 casePath m = suitePath m ++ (element 3 (m .caseIndex) (m .caseStart) ∷ [])
 
@@ -22,12 +23,13 @@ levelPath suite m = suitePath m
 levelPath case m = casePath m
 levelPath status m = casePath m ++ (element (m .statusKind) nowhere nowhere ∷ [])
 
--- the path of a stack trace ends in Attribute `stackTrace`, as in the crate
+-- the path of a stack trace ends in Attribute `stackTrace` (rule F8)
 abbrev pub outputElement : Output → PathElement
 outputElement trace = stackTraceElement
 outputElement out = element 14 nowhere nowhere
 outputElement err = element 15 nowhere nowhere
 
+-- a skip has the path of the element or list that the skipped tag stands in
 abbrev pub modePath : Mode → Marks → List PathElement
 modePath (at l) m = levelPath l m
 modePath (gathering l o) m = levelPath l m ++ (outputElement o ∷ [])
@@ -37,7 +39,7 @@ modePath finished m = []
 
 -- `pass`, `closeSuite`, `openText`, `openList` and `stop` never refuse, and nothing is refused where reading is finished: the path
 -- that stands for them is a filler, so that every act has one.
--- "suite and case elements carry index and, once named, their Start's event number"
+-- A suite or case has no event number while it is opened (rule F5); without a report the path is empty (rule R9).
 abbrev pub pathOf : Act → Mode → Marks → List PathElement
 pathOf (openSuite e) mode m = root ++ (element 2 (m .suiteIndex) nowhere ∷ [])
 pathOf (openCase e) mode m = levelPath suite m ++ (element 3 (m .caseIndex) nowhere ∷ [])
@@ -55,5 +57,6 @@ pathOf (openList l) mode m = root
 pathOf stop mode m = root
 pathOf (broken n) mode m = modePath mode m
 
+-- the event that is being read, and no attribute (rule F6)
 abbrev pub actPlace : Act → Mode → Marks → Place
 actPlace a mode m = record { path = pathOf a mode m; event = m .event; attribute = nowhere }

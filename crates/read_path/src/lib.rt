@@ -41,6 +41,7 @@ fn suite_path(m: Marks) -> Path
     root().with(element_of(2, m.suite_index, m.suite_start))
 }
 
+// With the indices of suite and case (rule F4).
 fn case_path(m: Marks) -> Path
     ensures { λ r. ⌜ Leads r (standing.casePath (marksOf m)) ⌝ }
 {
@@ -58,7 +59,7 @@ fn level_path(level: Level, m: Marks) -> Path
     }
 }
 
-// The path of a stack trace ends in Attribute `stackTrace`, as in the crate.
+// The path of a stack trace ends in Attribute `stackTrace` (rule F8).
 fn output_element(output: Output) -> PathElement
     ensures { λ r. ⌜ r ≡ standing.outputElement (outputOf output) ⌝ }
 {
@@ -69,7 +70,7 @@ fn output_element(output: Output) -> PathElement
     }
 }
 
-// The path of where reading stands.
+// The path of where reading stands (rules R18 and F7).
 fn mode_path(control: Control, m: Marks) -> Path
     ensures { λ r. ⌜ Leads r (standing.modePath (modeOf control) (marksOf m)) ⌝ }
 {
@@ -83,7 +84,7 @@ fn mode_path(control: Control, m: Marks) -> Path
     }
 }
 
-// "suite and case elements carry index and, once named, their Start's event number"
+// A suite or case has no event number while it is opened (rule F5).
 fn opening_path(kind: u32, m: Marks) -> Path
     ensures { λ r. ⌜ ((empty : Bool) (mode : plan.Mode) → Leads r (standing.pathOf (opening kind empty) mode (marksOf m))) ⌝ }
 {
@@ -133,7 +134,7 @@ fn property_path(level: Level, m: Marks) -> Path
     list.with(element_of(5, m.property_index, NOWHERE))
 }
 
-// The path of a refusal at an action.
+// The path of a refusal at an action, of at most six elements (rule F3).
 pub fn path_of(act: Act, control: Control, m: Marks) -> Path
     ensures { λ r. ⌜ ((name : List ℕ) → Leads r (standing.pathOf (actOf control name act) (modeOf control) (marksOf m))) ⌝ }
 {
@@ -161,7 +162,7 @@ fn attribute_of(key: u32) -> u32
     if key <= 14 { key } else { 16 }
 }
 
-// The path of an attribute's value, where the key's code says that there is one.
+// The path of an attribute's value (rule A11), where the key's code says that there is one.
 pub fn within(path: Path, key: u32) -> Path
     ensures { λ r. ⌜ r ≡ withAttribute path key ⌝ }
 {

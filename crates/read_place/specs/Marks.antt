@@ -24,7 +24,7 @@ marks e si ss ci cs sk pi sa ca ta =
 abbrev pub more : Bool → ℕ → ℕ
 more empty n = cond empty (n + 1) n
 
--- the marks behind an action; n records stood before it
+-- the marks behind an action, with the indices of rule F4; n records stood before it
 unfoldable pub marksAfter : Act → ℕ → Marks → Marks
 marksAfter (openReport e) n m = marks (m .event) 0 0 0 0 0 0 0 0 0
 marksAfter (openSuite e) n m = marks (m .event) (more e (m .suiteIndex)) (m .event) 0 0 0 0 n 0 0

@@ -154,7 +154,7 @@ fn at_property(marks: Marks, index: u32) -> Marks
     m
 }
 
-// The marks behind an action; n records stood before it.
+// The marks behind an action, with the indices of rule F4; n records stood before it.
 pub fn marked(act: Act, control: Control, n: usize, marks: Marks) -> Marks
     requires { ⌜ Low 65536 (marksOf marks) ⌝ }
     ensures { λ r. ⌜ ((name : List ℕ) → marksOf r ≡ standing.marksAfter (actOf control name act) n (marksOf marks)) ⌝ }

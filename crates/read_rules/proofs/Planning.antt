@@ -15,7 +15,7 @@ use Rattle.read_state.specs.declared.Mode.{Mode as CodedMode}
 use Rattle.read_state.specs.declared.Mode.the-variants.{At, Text, List as Listing}
 use Rattle.refusal.specs.declared.Cause.the-variants as cause
 
--- "Kinds: 0 Start, 1 Empty, 2 End"
+-- a tag that is neither Start nor Empty is an End (rule T3)
 pub kind-end : (k : ℕ) → (k ≡ 0 → ⊥) → (k ≡ 1 → ⊥) → tagKind k ≡ End
 kind-end k a b = rw (ne-eqb k 0 a, ne-eqb k 1 b) refl
 

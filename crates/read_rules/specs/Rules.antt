@@ -1,4 +1,5 @@
--- Document 01, "Reading, from the top": what is done at a tag, at Eof and at a Fault. It sees kinds and tag names only. Definitions only.
+-- What is done at a tag, at Eof and at a Fault (rules R3 to R16, R18, R19 and S2 to S4). It sees kinds and tag names only.
+-- Definitions only.
 use Prim.Native.Nat.{ℕ, zero, suc}
 use mathlib.Core.List.{List}
 use mathlib.Core.Bool.{Bool, true, false, cond, _&&_}
@@ -9,14 +10,13 @@ use Rattle.table.specs.Event.{TagKind, Start, Empty, End}
 use Rattle.read_state.specs.Control.{Level, top, suite, case, status, Output, trace, out, err, Mode, at, gathering, listing, skipping, finished, Act, pass, openReport, openSuite, openCase, openStatus, closeSuite, closeCase, closeStatus, openText, closeText, openList, readProperty, stop, missing, broken, isStatus, orSkip}
 use Rattle.refusal.specs.declared.Cause.the-variants as cause
 
--- the outputs that suite, case and status element have
+-- the outputs that suite, case (rule R10) and status element (rule S3) have
 unfoldable pub outputs : Level → List ℕ → Act
 outputs l name =
     cond (eqb (tagOf name) system-out) (openText l out)
     (cond (eqb (tagOf name) system-err) (openText l err) (orSkip l name))
 
--- "Start `testsuites` begins a report [..] Empty does so [..] `testsuite` counts only once a report exists. End `testsuites`
--- stops. All else is passed over"
+-- at report level (rules R3 to R7); an End `testsuites` without a report is refused (rule R9)
 unfoldable pub atTop : Bool → TagKind → ℕ → Act
 atTop seen Start t = cond (eqb t testsuites) (openReport false) (cond (eqb t testsuite && seen) (openSuite false) (pass (at top)))
 atTop seen Empty t = cond (eqb t testsuites) (openReport true) (cond (eqb t testsuite && seen) (openSuite true) (pass (at top)))
@@ -28,28 +28,30 @@ atSuite Start name = cond (eqb (tagOf name) testcase) (openCase false) (cond (eq
 atSuite Empty name = cond (eqb (tagOf name) testcase) (openCase true) (pass (at suite))
 atSuite End name = cond (eqb (tagOf name) testsuite) closeSuite (pass (at suite))
 
+-- by rules R10, R12 and R13, as in a suite
 unfoldable pub atCase : TagKind → List ℕ → Act
 atCase Start name =
     cond (isStatus (tagOf name)) (openStatus (tagOf name) false) (cond (eqb (tagOf name) properties) (openList case) (outputs case name))
 atCase Empty name = cond (isStatus (tagOf name)) (openStatus (tagOf name) true) (pass (at case))
 atCase End name = cond (eqb (tagOf name) testcase) closeCase (pass (at case))
 
--- "close at an End of any of the seven status names. A child `stackTrace`, `system-out` or `system-err`, Start or Empty alike,
--- is read [..]; any other child, Empty too, is skipped"
+-- a status element closes at an End of any of the seven status names; its children are a stack trace and the outputs
 unfoldable pub child : List ℕ → Act
 child name = cond (eqb (tagOf name) stackTrace) (openText status trace) (outputs status name)
 
+-- rules S2 to S4
 unfoldable pub atStatus : TagKind → List ℕ → Act
 atStatus Start name = child name
 atStatus Empty name = child name
 atStatus End name = cond (isStatus (tagOf name)) closeStatus (pass (at status))
 
--- "is read to the next End of its name without counting depth"
+-- the tag whose next End ends the text (rule R14)
 abbrev pub tagOfOutput : Output → ℕ
 tagOfOutput trace = stackTrace
 tagOfOutput out = system-out
 tagOfOutput err = system-err
 
+-- tags are passed over, and their depth isn't counted (rule R14)
 unfoldable pub inText : Level → Output → TagKind → ℕ → Act
 inText l o Start t = pass (gathering l o)
 inText l o Empty t = pass (gathering l o)
@@ -81,7 +83,7 @@ planAt (listing l) seen k name = inList l k (tagOf name)
 planAt (skipping l skipped depth) seen k name = inSkip l skipped depth k name
 planAt finished seen k name = pass finished
 
--- "An unclosed report at Eof is refused [..]; no report, at Eof [..], with the empty path"
+-- at report level by rules R8 and R9, in an element by rule R18, in a skip by rule R19
 unfoldable pub planEof : Mode → Bool → Bool → Act
 planEof (at top) seen closed = cond seen (cond closed stop (broken cause.EofInElement)) missing
 planEof (at suite) seen closed = broken cause.EofInElement
@@ -92,6 +94,7 @@ planEof (listing l) seen closed = broken cause.EofInElement
 planEof (skipping l skipped depth) seen closed = broken cause.EofInSkip
 planEof finished seen closed = pass finished
 
+-- rule R19
 unfoldable pub planFault : Mode → Act
 planFault (at l) = broken cause.XmlFault
 planFault (gathering l o) = broken cause.XmlFault

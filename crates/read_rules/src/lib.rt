@@ -1,4 +1,4 @@
-// What is done at a tag, at Eof and at a Fault, by kinds and tag names alone: "Reading, from the top" of document 01.
+// What is done at a tag, at Eof and at a Fault, by kinds and tag names alone (rules R3 to R16, R18 and S2 to S4).
 ghost use mathlib.Core.Path.{_≡_};
 ghost use Prim.Native.Nat.{ℕ};
 ghost use mathlib.Core.List.{List, []};
@@ -28,7 +28,7 @@ use tree_record::kind::CASE;
 use tree_record::kind::REPORT;
 use tree_record::kind::SUITE;
 
-// The seven status names are the codes 6 to 12.
+// The seven status names (rule S1) are the codes 6 to 12.
 fn is_status(tag: usize) -> bool
     ensures { λ r. ⌜ r ≡ plan.isStatus tag ⌝ }
 {
@@ -46,6 +46,7 @@ fn child(tag: usize) -> Act
     }
 }
 
+// By rules R3 to R5.
 fn open_top(seen: bool, tag: usize, empty: bool) -> Act
     ensures { λ r. ⌜ ((name : List ℕ) → actIn (plan.at plan.top) name r ≡ rules.atTop seen (cond empty Empty Start) tag) ⌝ }
 {
@@ -58,6 +59,7 @@ fn open_top(seen: bool, tag: usize, empty: bool) -> Act
     Act::Pass
 }
 
+// By rules R6 and R7; an End `testsuites` without a report is refused (rule R9).
 fn step_top(seen: bool, kind: u32, tag: usize) -> Act
     ensures { λ r. ⌜ ((name : List ℕ) → actIn (plan.at plan.top) name r ≡ rules.atTop seen (tagKind kind) tag) ⌝ }
 {
@@ -83,7 +85,7 @@ fn open_suite(tag: usize) -> Act
     }
 }
 
-// "Any End but the element's own is passed over, and so is any Empty but `testcase` in a suite and a status name in a case."
+// Any End but the element's own is passed over.
 fn step_suite(kind: u32, tag: usize) -> Act
     ensures { λ r. ⌜ ((name : List ℕ) → tagOf name ≡ tag → actIn (plan.at plan.suite) name r ≡ rules.atSuite (tagKind kind) name) ⌝ }
 {
@@ -118,6 +120,7 @@ fn open_case(tag: usize) -> Act
     child(tag)
 }
 
+// By rules R10, R12 and R13, as in a suite.
 fn step_case(kind: u32, tag: usize) -> Act
     ensures { λ r. ⌜ ((name : List ℕ) → tagOf name ≡ tag → actIn (plan.at plan.case) name r ≡ rules.atCase (tagKind kind) name) ⌝ }
 {
@@ -154,6 +157,7 @@ fn step_status(kind: u32, tag: usize) -> Act
     if ends { Act::Close } else { Act::Pass }
 }
 
+// The tag whose next End ends the text (rule R14).
 fn tag_of_output(output: Output) -> usize
     ensures { λ r. ⌜ r ≡ rules.tagOfOutput (outputOf output) ⌝ }
 {
@@ -164,7 +168,7 @@ fn tag_of_output(output: Output) -> usize
     }
 }
 
-// "is read to the next End of its name without counting depth"
+// Tags are passed over, and their depth isn't counted (rule R14).
 fn step_text(output: Output, kind: u32, tag: usize) -> Act
     ensures { λ r. ⌜ ((l : plan.Level) (name : List ℕ) → actIn (plan.gathering l (outputOf output)) name r ≡ rules.inText l (outputOf output) (tagKind kind) tag) ⌝ }
 {
@@ -245,7 +249,7 @@ fn is_top(control: Control) -> bool
     }
 }
 
-// "An unclosed report at Eof is refused [..]; no report, at Eof [..], with the empty path."
+// At report level by rules R8 and R9, in an element by rule R18.
 pub fn plan_eof(control: Control) -> Act
     ensures { λ r. ⌜ actOf control [] r ≡ rules.planEof (modeOf control) (control .seen) (control .closed) ⌝ }
 {

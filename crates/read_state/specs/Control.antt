@@ -46,20 +46,20 @@ pub data Act : Type 0 where
   openList : Level → Act
   readProperty : Level → Act
   stop : Act
-  -- "no report, at Eof or at End `testsuites`, with the empty path"
+  -- no report, at Eof or at End `testsuites` (rule R9)
   missing : Act
   -- Eof inside the open element, Fault or Eof in a skip
   broken : Cause → Act
 
--- the seven status names are the codes 6 to 12
+-- the seven status names (rule S1) are the codes 6 to 12
 abbrev pub isStatus : ℕ → Bool
 isStatus t = leb 6 t && leb t 12
 
--- "An unknown Start is skipped"
+-- of a child that isn't known (rules R11 and S4)
 unfoldable pub orSkip : Level → List ℕ → Act
 orSkip l name = pass (skipping l name 0)
 
--- where pieces of text are gathered
+-- where pieces of text are gathered (rule R20)
 unfoldable pub gathers : Mode → Bool
 gathers (at top) = false
 gathers (at suite) = false
@@ -76,7 +76,7 @@ control m s c t = record { mode = m; seen = s; closed = c; tally = t }
 abbrev pub opens : Bool → Level → Level → Mode
 opens empty outer inner = at (cond empty outer inner)
 
--- the control that follows
+-- the control that follows; behind an Empty `testsuites` the table counts as closed (rule R4)
 unfoldable pub turn : Act → Control → Control
 turn (pass m) c = control m (c .seen) (c .closed) (c .tally)
 turn (openReport e) c = control (at top) true (e || c .closed) noStatus

@@ -73,6 +73,7 @@ fn inside(control: Control, level: Level, tally: Tally) -> Control
     }
 }
 
+// Behind an Empty one the table counts as closed (rule R4).
 fn reported(control: Control, empty: bool) -> Control
     ensures { λ r. ⌜ controlOf r ≡ plan.turn (plan.openReport empty) (controlOf control) ⌝ }
 {

@@ -29,7 +29,7 @@ module _ (rooms : Rooms) (a : Act) (j : ℕ) (xs : List Attribute) (s : Machine)
   unfolding act _>>=_
   act-refuses r e = ap (λ (o : Outcome Content). o >>= λ c. accepted (behind a s c)) e
 
--- "with count 0 the first is ignored"
+-- without attributes the number of the first isn't looked at (rule T11)
 perform-none : (rooms : Rooms) (p : Place) (a : Act) (i j : ℕ) (k : Control) (m : Marks) (c : Content) → perform rooms p a i [] k m c ≡ perform rooms p a j [] k m c
 unfolding perform adding readElement readAttributes
 perform-none rooms p (pass n) i j k m c = refl

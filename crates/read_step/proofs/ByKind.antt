@@ -201,7 +201,7 @@ pub stop-only : (m : Mode) (name : List ℕ) (a : CodedAct) → isStop a ≡ fal
 unfolding stopping
 stop-only m name a e q = other-act (ap stopping (sym q) ∙ stops m name a ∙ e)
 
--- "The table's end counts as Eof": reading doesn't go on behind it
+-- reading doesn't go on behind Eof, which the table's end is, too (rule T5)
 pub eof-ends : (rooms : Rooms) (j : ℕ) (xs : List Attribute) (s t : Machine) (m : CodedMode) (l : Level) (o : Output) (seen closed : Bool) → (planEof (modeAt m l o) seen closed ≡ stop → ⊥) → act rooms (planEof (modeAt m l o) seen closed) j xs s ≡ accepted t → ⊥
 unfolding planEof act perform _>>=_
 eof-ends rooms j xs s t At top o true true n e = n refl

@@ -130,7 +130,7 @@ module _ (rooms : Rooms) (events attributes source : List ℕ) (good : tableOf e
         go true e = ends e r d
         go false e = steps words text scratch (act rooms a first (attributesFrom attributes source (end - first) first) s) e (act-here e first end fq eq) r d
 
-  -- ---- the end: "End `testsuites` stops", or Eof
+  -- ---- the end: End `testsuites` (rule R6), or Eof
   pub stop-way : isPiece kind ≡ false → stop ≡ planned (controlOf (st .control)) kind bytes → (words text scratch : List ℕ) → Stands attributes source words text scratch (st .content) s → Ended words text rest
   stop-way p q words text scratch t = go (leb (countOf events) i) refl
     where

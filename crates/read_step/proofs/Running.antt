@@ -36,7 +36,7 @@ module _ (rooms : Rooms) (events attributes source : List ℕ) where
     unfolding _>>=_
     run-refuses i h l r g = turn i h l (refused r) g
 
-    -- "The table's end counts as Eof."
+    -- the table's end is read as Eof (rule T5)
     pub run-end : countOf events ≤ s .marks .event → runOn rooms events attributes source s ≡ step rooms Eof s
     unfolding run
     run-end h = ap (λ (es : List Event). run rooms es s) (resolve-end events attributes source (countOf events) (s .marks .event) h)

@@ -102,6 +102,7 @@ fn is_skip(act: Act) -> bool
     }
 }
 
+// At End `testsuites` (rule R6), or at Eof behind a closed report.
 fn is_stop(act: Act) -> bool
     ensures { λ r. ⌜ r ≡ isStop act ⌝ }
 {
@@ -121,7 +122,7 @@ fn is_stop(act: Act) -> bool
     }
 }
 
-// The action at an event that is no piece of text.
+// The action at an event that is no piece of text, by its kind (rule T3); a Fault is refused (rule R19).
 fn plan(control: Control, kind: u32, name: &[u8]) -> Act
     ensures { λ r. ⌜ actOf control (nameIn kind (now (name .entry))) r ≡ planned (controlOf control) kind (now (name .entry)) ⌝ }
     ensures { λ r. ⌜ apt r (modeOf control) ≡ true ⌝ }
@@ -133,7 +134,7 @@ fn plan(control: Control, kind: u32, name: &[u8]) -> Act
     }
 }
 
-// A refusal where reading stands.
+// A refusal where reading stands, at this event and no attribute (rule F6).
 fn halt_at(event: usize, cause: Cause) -> Step
     ensures { λ r. ⌜ r ≡ haltAt event cause ⌝ }
 {
@@ -148,7 +149,7 @@ fn halt_at(event: usize, cause: Cause) -> Step
     })
 }
 
-// A piece of text, which is read where text is gathered.
+// A piece of text, which is read where text is gathered (rule R20).
 fn step_piece(st: State, kind: u32, bytes: &[u8], scratch: &mut [u8]) -> Step
     requires { ⌜ Bounded st (length (now scratch)) ⌝ }
     ensures { λ r. ⌜ StepsPiece st kind (now (bytes .entry)) (now (scratch .entry)) (now (scratch .exit)) r ⌝ }

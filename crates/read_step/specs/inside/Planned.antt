@@ -12,11 +12,11 @@ use Rattle.read_state.specs.declared.Control.{Control as CodedControl}
 use Rattle.read_state.specs.declared.Act.{Act as CodedAct}
 use Rattle.read_state.specs.declared.Act.the-variants.{Pass, Skip, Open, Close, OpenText, CloseText, OpenList, CloseList, ReadProperty, Stop, Missing, Broken}
 
--- 3 Text, 4 CData, 5 Ref, 6 Other, [..] 9 Indent
+-- 3 Text, 4 CData, 5 Ref, 6 Other and 9 Indent (rule T3)
 abbrev pub isPiece : ℕ → Bool
 isPiece kind = (leb 3 kind && leb kind 6) || eqb kind 9
 
--- "7 Eof, 8 Fault", else a tag of that name
+-- 7 is Eof, 8 Fault (rule T3), else a tag of that name
 abbrev pub planned : Control → ℕ → List ℕ → Act
 planned k kind name =
     cond (eqb kind 7) (planEof (k .mode) (k .seen) (k .closed))

@@ -54,7 +54,7 @@ pub record Bounded (st : State) (scratch : ℕ) : Type 0 where
   pub pieces : st .content .description + st .content .gathered ≤ scratch
   pub event : st .marks .event ≤ 65536
 
--- "65,536 events, attributes, records; [..] text area, scratch [..] 16,777,216 bytes": so many words and bytes are used
+-- no more words and bytes than are used of the areas (rule M1)
 pub record Lent (words text scratch : ℕ) : Type 0 where
   pub of-records : words % 32 ≡ 0
   pub of-words : words ≤ 2097152
