@@ -70,16 +70,19 @@ laying-done short {out₀} {out} {k} {f} l =
     let n : length f ≡ k = ap length e ∙ length-take-le k out (l .fits) in
     let h : length f ≤ length out₀ = omega (arith, l .fits, l .same) in (
       rw (le-leb (length f) (length out₀) h, n) refl,
-      sym (take-append-drop k out) ∙ ap (λ (x : List ℕ). x ++ drop k out) (sym e ∙ sym (take-all (length out₀) f h)) ∙ ap (λ (x : List ℕ). take (length out₀) f ++ x) (l .rest ∙ ap (λ (j : ℕ). drop j out₀) (sym n)),
+      sym (take-append-drop k out) ∙ ap (λ (x : List ℕ). x ++ drop k out) (sym e ∙ sym (take-all (length out₀) f h))
+          ∙ ap (λ (x : List ℕ). take (length out₀) f ++ x) (l .rest ∙ ap (λ (j : ℕ). drop j out₀) (sym n)),
     )
 
-pub laying-full : (short : Cause) {out₀ out : List ℕ} {k : ℕ} {f : List ℕ} {b : ℕ} {g : List ℕ} → Laying out₀ out k f (b ∷ g) → length out ≤ k → (refuses short ≡ placing short (length out₀) f) × (out ≡ laid out₀ f)
+pub laying-full : (short : Cause) {out₀ out : List ℕ} {k : ℕ} {f : List ℕ} {b : ℕ} {g : List ℕ}
+    → Laying out₀ out k f (b ∷ g) → length out ≤ k → (refuses short ≡ placing short (length out₀) f) × (out ≡ laid out₀ f)
 laying-full short {out₀} {out} {k} {f} {b} {g} l h =
     let e : f ≡ out ++ (b ∷ g) = l .done ∙ ap (λ (x : List ℕ). x ++ (b ∷ g)) (take-all k out h) in
     let n : length f ≡ length out + suc (length g) = ap length e ∙ length-append out (b ∷ g) in
     let h′ : length out₀ < length f = omega (arith, l .same) in (
       sym (ap (λ (t : Bool). cond t (gives (length f)) (refuses short)) (lt-leb (length f) (length out₀) h′)),
-      sym (ap (λ (x : List ℕ). take (length out₀) f ++ x) (drop-of-length-le out₀ {i = length f} (omega arith)) ∙ append-nil (take (length out₀) f) ∙ ap (take (length out₀)) e ∙ take-at out (b ∷ g) (length out₀) (l .same)),
+      sym (ap (λ (x : List ℕ). take (length out₀) f ++ x) (drop-of-length-le out₀ {i = length f} (omega arith))
+          ∙ append-nil (take (length out₀) f) ∙ ap (take (length out₀)) e ∙ take-at out (b ∷ g) (length out₀) (l .same)),
     )
 
 -- several bytes at once, by a call that is lent the area from k on
@@ -99,11 +102,13 @@ module _ {out₀ out : List ℕ} {k : ℕ} {f : List ℕ} (t g : List ℕ) (l : 
   pub laying-chunk : (out′ : List ℕ) → out′ ≡ take k out ++ laid (drop k out) t → length t ≤ length out - k → Laying out₀ out′ (k + length t) f g
   laying-chunk out′ e h =
       let w : out′ ≡ (take k out ++ t) ++ drop (k + length t) out = e ∙ whole h in
-      let n : length out′ ≡ length out = ap length w ∙ length-append (take k out ++ t) (drop (k + length t) out) ∙ (let p = length-drop (k + length t) out in let q = l .fits in omega (arith, front)) in
+      let n : length out′ ≡ length out =
+      ap length w ∙ length-append (take k out ++ t) (drop (k + length t) out) ∙ (let p = length-drop (k + length t) out in let q = l .fits in omega (arith, front)) in
       record {
         same = n ∙ l .same;
         fits = let q = l .fits in omega arith;
-        done = l .done ∙ sym (append-assoc (take k out) t g) ∙ ap (λ (x : List ℕ). x ++ g) (sym (ap (take (k + length t)) w ∙ take-at (take k out ++ t) (drop (k + length t) out) (k + length t) front));
+        done =
+            l .done ∙ sym (append-assoc (take k out) t g) ∙ ap (λ (x : List ℕ). x ++ g) (sym (ap (take (k + length t)) w ∙ take-at (take k out ++ t) (drop (k + length t) out) (k + length t) front));
         rest =
             ap (drop (k + length t)) w ∙ drop-at (take k out ++ t) (drop (k + length t) out) (k + length t) front
             ∙ sym (drop-drop (length t) k out) ∙ ap (drop (length t)) (l .rest) ∙ drop-drop (length t) k out₀;
@@ -112,14 +117,16 @@ module _ {out₀ out : List ℕ} {k : ℕ} {f : List ℕ} (t g : List ℕ) (l : 
   pub laying-over : (short : Cause) (out′ : List ℕ) → out′ ≡ take k out ++ laid (drop k out) t → length out - k < length t → (refuses short ≡ placing short (length out₀) f) × (out′ ≡ laid out₀ f)
   laying-over short out′ e h =
       let m : length (drop k out) ≡ length out - k = length-drop k out in
-      let n : length f ≡ k + (length t + length g) = ap length (l .done) ∙ length-append (take k out) (t ++ g) ∙ ap (λ (j : ℕ). j + length (t ++ g)) at-k ∙ ap (λ (j : ℕ). k + j) (length-append t g) in
+      let n : length f ≡ k + (length t + length g) =
+      ap length (l .done) ∙ length-append (take k out) (t ++ g) ∙ ap (λ (j : ℕ). j + length (t ++ g)) at-k ∙ ap (λ (j : ℕ). k + j) (length-append t g) in
       let big : length out₀ < length f = (let p = l .same in let q = l .fits in omega arith) in
       let z : length out₀ ≡ length (take k out) + (length out - k) = (let p = l .same in let q = l .fits in omega (arith, at-k)) in (
         sym (ap (λ (b : Bool). cond b (gives (length f)) (refuses short)) (lt-leb (length f) (length out₀) big)),
         e
             ∙ ap (λ (x : List ℕ). take k out ++ (take (length (drop k out)) t ++ x)) (drop-of-length-le (drop k out) {i = length t} (omega arith))
             ∙ ap (λ (x : List ℕ). take k out ++ x) (append-nil (take (length (drop k out)) t) ∙ ap (λ (j : ℕ). take j t) m ∙ sym (take-append-le (length out - k) t g (omega arith)))
-            ∙ sym (ap (λ (x : List ℕ). take (length out₀) f ++ x) (drop-of-length-le out₀ {i = length f} (omega arith)) ∙ append-nil (take (length out₀) f) ∙ ap (take (length out₀)) (l .done) ∙ ap (λ (j : ℕ). take j (take k out ++ (t ++ g))) z ∙ take-append-add (take k out) (t ++ g) (length out - k)),
+            ∙ sym (ap (λ (x : List ℕ). take (length out₀) f ++ x) (drop-of-length-le out₀ {i = length f} (omega arith)) ∙ append-nil (take (length out₀) f)
+            ∙ ap (take (length out₀)) (l .done) ∙ ap (λ (j : ℕ). take j (take k out ++ (t ++ g))) z ∙ take-append-add (take k out) (t ++ g) (length out - k)),
       )
 
 -- what an answer tells

@@ -23,7 +23,8 @@ use Rattle.build_draft.specs.Draft.{_>>=_, draftOf, isOf}
 use Rattle.build_draft.specs.Parts.{countsIn, countsAt, putDisabled, putCounts, counting, summing}
 
 -- ---- one record
-pub counts-read : {t f e s d : ℕ} {p : Bool} (r : List ℕ) → t ≡ numberAt r word.tests → f ≡ numberAt r word.failures → e ≡ numberAt r word.errors → s ≡ numberAt r word.skipped → p ≡ hasBit bit.disabled r → d ≡ numberAt r word.disabled
+pub counts-read : {t f e s d : ℕ} {p : Bool} (r : List ℕ) → t ≡ numberAt r word.tests → f ≡ numberAt r word.failures
+    → e ≡ numberAt r word.errors → s ≡ numberAt r word.skipped → p ≡ hasBit bit.disabled r → d ≡ numberAt r word.disabled
     → record { tests = t; failures = f; errors = e; skipped = s; presence = p; disabled = d } ≡ countsIn r
 counts-read r t f e s p d = λ i. record { tests = t i; failures = f i; errors = e i; skipped = s i; presence = p i; disabled = d i }
 
@@ -79,7 +80,8 @@ module _ (b : Builder) (words text : List ℕ) where
   no-suite {t = true} e h = let z : _≡_ {A = ℕ} 0 1 = cc in absurd (omega arith)
 
   pub suite-summed : {t : Bool} → t ≡ isOf b words (b .suite) kind.suite → not t ≡ false
-      → counting (b .report) (withSuite (countsAt words (b .report)) (countsAt words (b .suite))) (record { builder = b; words = words; text = text }) ≡ summing (record { builder = b; words = words; text = text })
+      → counting (b .report) (withSuite (countsAt words (b .report)) (countsAt words (b .suite))) (record { builder = b; words = words; text = text })
+      ≡ summing (record { builder = b; words = words; text = text })
   unfolding summing
   suite-summed {t = true} e h = rw (sym e) refl
   suite-summed {t = false} e h = let z : _≡_ {A = ℕ} 0 1 = cc in absurd (omega arith)

@@ -77,7 +77,8 @@ fn put_counts(r: &mut [u32], c: Counts)
 
 // The counts that a method gave go into record i, unless it refused.
 fn put_counted(b: Builder, records: &mut [u32], i: u32, counted: Counted) -> Step
-    ensures { λ r. ⌜ ((text : List ℕ) (old more : Sums) → counted ≡ countedFrom old (withSuite old more) → draftOf r (now (records .exit)) text ≡ counting i (withSuite old more) (record { builder = b; words = now (records .entry); text = text })) ⌝ }
+    ensures { λ r. ⌜ ((text : List ℕ) (old more : Sums) → counted ≡ countedFrom old (withSuite old more)
+        → draftOf r (now (records .exit)) text ≡ counting i (withSuite old more) (record { builder = b; words = now (records .entry); text = text })) ⌝ }
 {
     let verdict = counted.verdict;
     let Verdict::Accepted = verdict else {
@@ -103,7 +104,8 @@ pub fn sum_suite(b: Builder, records: &mut [u32]) -> Step
 
 // A case of this outcome is added to the open suite's counts (rule B8).
 pub fn count_case(b: Builder, records: &mut [u32], outcome: Outcome) -> Step
-    ensures { λ r. ⌜ ((text : List ℕ) → draftOf r (now (records .exit)) text ≡ counting (b .suite) (withCase (countsAt (now (records .entry)) (b .suite)) outcome) (record { builder = b; words = now (records .entry); text = text })) ⌝ }
+    ensures { λ r. ⌜ ((text : List ℕ) → draftOf r (now (records .exit)) text
+        ≡ counting (b .suite) (withCase (countsAt (now (records .entry)) (b .suite)) outcome) (record { builder = b; words = now (records .entry); text = text })) ⌝ }
 {
     let suite = counts_at(records, b.suite);
     put_counted(b, records, b.suite, suite.add_test_case(outcome))

@@ -31,7 +31,8 @@ use Rattle.build_draft.specs.declared.NonSuccessKind.{NonSuccessKind}
 use Rattle.build_draft.specs.declared.FlakyOrRerun.{FlakyOrRerun}
 use Rattle.build_draft.specs.declared.FlakyOrRerun.the-variants.{Flaky, Rerun}
 use Rattle.build_draft.specs.Draft.{Draft, noBuilder, _>>=_, asks, isRecord, kindAt, isOf, onRecord, lastOf, markOf, withWords, withBuilder}
-use Rattle.build_draft.specs.Parts.{taking, keeping, putting, naming, countsAt, putNumber, counting, summing, placeFor, mayStandBehind, keyPlace, exchanged, runKind, turnRuns, hasText, wordFor, bitFor, isOutput, hasTimes}
+use Rattle.build_draft.specs.Parts.{taking, keeping, putting, naming, countsAt, putNumber, counting, summing, placeFor, mayStandBehind}
+use Rattle.build_draft.specs.Parts.{keyPlace, exchanged, runKind, turnRuns, hasText, wordFor, bitFor, isOutput, hasTimes}
 
 -- ---- reports, suites and cases
 -- a builder with these marks

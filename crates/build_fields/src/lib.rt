@@ -121,7 +121,8 @@ fn is_timed(b: Builder, words: &[u32], i: u32) -> bool
 
 // The timestamp of record i.
 pub fn stamp(b: Builder, records: &mut [u32], i: u32, m: Moment) -> Step
-    ensures { λ r. ⌜ ((text : List ℕ) → draftOf r (now (records .exit)) text ≡ asks (isTimed i (record { builder = b; words = now (records .entry); text = text })) cause.NotLayout (asks (inRange m) cause.BadTimestamp (accepted (record { builder = b; words = onRecord i (putMoment m) (now (records .entry)); text = text })))) ⌝ }
+    ensures { λ r. ⌜ ((text : List ℕ) → draftOf r (now (records .exit)) text ≡ asks (isTimed i (record { builder = b; words = now (records .entry); text = text }))
+        cause.NotLayout (asks (inRange m) cause.BadTimestamp (accepted (record { builder = b; words = onRecord i (putMoment m) (now (records .entry)); text = text })))) ⌝ }
 {
     if !is_timed(b, records, i) {
         return Step::Not(Cause::NotLayout);
@@ -136,7 +137,8 @@ pub fn stamp(b: Builder, records: &mut [u32], i: u32, m: Moment) -> Step
 
 // The time of record i.
 pub fn clock(b: Builder, records: &mut [u32], i: u32, seconds: u32, nanos: u32) -> Step
-    ensures { λ r. ⌜ ((text : List ℕ) → draftOf r (now (records .exit)) text ≡ asks (isTimed i (record { builder = b; words = now (records .entry); text = text })) cause.NotLayout (asks (leb seconds 8388607 && leb nanos 999999999) cause.BadTime (accepted (record { builder = b; words = onRecord i (putTime (seconds, nanos)) (now (records .entry)); text = text })))) ⌝ }
+    ensures { λ r. ⌜ ((text : List ℕ) → draftOf r (now (records .exit)) text ≡ asks (isTimed i (record { builder = b; words = now (records .entry); text = text })) cause.NotLayout
+        (asks (leb seconds 8388607 && leb nanos 999999999) cause.BadTime (accepted (record { builder = b; words = onRecord i (putTime (seconds, nanos)) (now (records .entry)); text = text })))) ⌝ }
 {
     if !is_timed(b, records, i) {
         return Step::Not(Cause::NotLayout);
@@ -162,7 +164,8 @@ pub fn identify(b: Builder, records: &mut [u32], w: Words) -> Step
 
 // A count with a presence bit, in record i of a kind.
 fn put_number(b: Builder, records: &mut [u32], i: u32, kind: u32, o: usize, k: u32, n: u64) -> Step
-    ensures { λ r. ⌜ ((text : List ℕ) → draftOf r (now (records .exit)) text ≡ asks (isOf b (now (records .entry)) i kind) cause.NotLayout (accepted (record { builder = b; words = onRecord i (putNumber o k n) (now (records .entry)); text = text }))) ⌝ }
+    ensures { λ r. ⌜ ((text : List ℕ) → draftOf r (now (records .exit)) text
+        ≡ asks (isOf b (now (records .entry)) i kind) cause.NotLayout (accepted (record { builder = b; words = onRecord i (putNumber o k n) (now (records .entry)); text = text }))) ⌝ }
 {
     if !is_of(b, records, i, kind) {
         return Step::Not(Cause::NotLayout);

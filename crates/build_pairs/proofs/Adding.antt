@@ -52,7 +52,8 @@ module _ (b d : Builder) (words text : List ℕ) (k y : ℕ) {place i : ℕ} (p 
 
   -- the draft by the code's own test
   chosen : Bool → ℕ → ℕ → Outcome Draft
-  chosen t j q = cond t (accepted (withWords (plain d words text) (onRecord j (putPair word.value y (d .bytes - y)) words))) (next (taking k (plain d words text)) (λ g. accepted (putPairIn q (b .bytes) y (d .bytes) g)))
+  chosen t j q = cond t (accepted (withWords (plain d words text) (onRecord j (putPair word.value y (d .bytes - y)) words)))
+      (next (taking k (plain d words text)) (λ g. accepted (putPairIn q (b .bytes) y (d .bytes) g)))
 
   chosen-is : (t : Bool) → ltb i place ≡ t → chosen t i place ≡ puttingKept k b y (plain d words text)
   unfolding chosen

@@ -71,7 +71,8 @@ own-case k b e o = o ∙ sym (ap (λ (u : Bool). cond u (b .suite) (b .case)) (n
 module _ (b : Builder) (words text key : List ℕ) (k place : ℕ) (t : List ℕ) (e : placeFor (plain b words t) ≡ place) where
   -- a property's key is never there
   pub old-none : k < kind.suiteExtra → place ≡ oldPlace k key text (plain b words t)
-  old-none h = sym (ap (λ (u : Bool). cond u (keyPlace text words key (holderOf k b + 1) (placeFor (plain b words t) - (holderOf k b + 1))) (placeFor (plain b words t))) (lt-leb kind.suiteExtra k h) ∙ e)
+  old-none h =
+      sym (ap (λ (u : Bool). cond u (keyPlace text words key (holderOf k b + 1) (placeFor (plain b words t) - (holderOf k b + 1))) (placeFor (plain b words t))) (lt-leb kind.suiteExtra k h) ∙ e)
 
   pub old-sought : kind.suiteExtra ≤ k → {own i : ℕ} → own ≡ holderOf k b → i ≡ keyPlace text words key (own + 1) (place - (own + 1)) → i ≡ oldPlace k key text (plain b words t)
   old-sought h {own} {i} o q =

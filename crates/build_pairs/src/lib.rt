@@ -94,7 +94,8 @@ fn key_place(records: &[u32], text: &[u8], key: &[u8], from: usize, to: usize) -
 // The place of the extra with this key (rule B7), or none before `place`; a property's is never there.
 fn old_place(b: Builder, records: &[u32], text: &[u8], key: &[u8], k: u32, place: u32) -> usize
     requires { ⌜ place ≤ 65536 ⌝ }
-    ensures { λ i. ⌜ ((t : List ℕ) → placeFor (record { builder = b; words = now (records .entry); text = t }) ≡ place → i ≡ oldPlace k (now (key .entry)) (now (text .entry)) (record { builder = b; words = now (records .entry); text = t })) ⌝ }
+    ensures { λ i. ⌜ ((t : List ℕ) → placeFor (record { builder = b; words = now (records .entry); text = t }) ≡ place
+        → i ≡ oldPlace k (now (key .entry)) (now (text .entry)) (record { builder = b; words = now (records .entry); text = t })) ⌝ }
 {
     if k < kind::SUITE_EXTRA {
         return place as usize;
@@ -129,7 +130,8 @@ fn put_both(records: &mut [u32], i: u32, x: u32, n: u32, y: u32, m: u32)
 // The record that was taken last gets its texts, and stands before the case's main.
 fn put_pair_in(b: Builder, records: &mut [u32], place: u32, x: u32, y: u32, z: u32) -> Builder
     requires { ⌜ (b .records ≤ 65536) × (b .records * 32 ≤ length (now records)) × (place + 2 ≤ b .records + 1) × (x ≤ y) × (y ≤ z) ⌝ }
-    ensures { λ r. ⌜ ((text : List ℕ) → (record { builder = r; words = now (records .exit); text = text }) ≡ putPairIn place x y z (record { builder = b; words = now (records .entry); text = text })) ⌝ }
+    ensures { λ r.
+        ⌜ ((text : List ℕ) → (record { builder = r; words = now (records .exit); text = text }) ≡ putPairIn place x y z (record { builder = b; words = now (records .entry); text = text })) ⌝ }
 {
     let last = last_of(b);
     put_both(records, last, x, y - x, y, z - y);
@@ -145,7 +147,8 @@ fn put_pair_in(b: Builder, records: &mut [u32], place: u32, x: u32, y: u32, z: u
 // A record for a key that is new.
 fn new_pair(b: Builder, records: &mut [u32], k: u32, place: u32, x: u32, y: u32) -> Step
     requires { ⌜ (place ≤ b .records) × (x ≤ y) × (y ≤ b .bytes) ⌝ }
-    ensures { λ r. ⌜ ((text : List ℕ) → draftOf r (now (records .exit)) text ≡ next (taking k (record { builder = b; words = now (records .entry); text = text })) (λ g. accepted (putPairIn place x y (b .bytes) g))) ⌝ }
+    ensures { λ r. ⌜ ((text : List ℕ)
+        → draftOf r (now (records .exit)) text ≡ next (taking k (record { builder = b; words = now (records .entry); text = text })) (λ g. accepted (putPairIn place x y (b .bytes) g))) ⌝ }
 {
     let taken = take_record(b, records, k);
     let Step::Done(c) = taken else {
@@ -188,7 +191,8 @@ fn add_value(
     value: &[u8],
 ) -> Step
     requires { ⌜ (isRecord b (now records) (lastOf b) ≡ true) × (c .records ≡ b .records) × (b .bytes ≤ c .bytes) ⌝ }
-    ensures { λ r. ⌜ draftOf r (now (records .exit)) (now (text .exit)) ≡ next (keeping false (now (value .entry)) (record { builder = c; words = now (records .entry); text = now (text .entry) })) (puttingKept k b (c .bytes)) ⌝ }
+    ensures { λ r. ⌜ draftOf r (now (records .exit)) (now (text .exit))
+        ≡ next (keeping false (now (value .entry)) (record { builder = c; words = now (records .entry); text = now (text .entry) })) (puttingKept k b (c .bytes)) ⌝ }
 {
     let valued = keep(c, text, value, false);
     let Step::Done(d) = valued else {
@@ -206,7 +210,8 @@ pub fn add_pair(
     key: &[u8],
     value: &[u8],
 ) -> Step
-    ensures { λ r. ⌜ draftOf r (now (records .exit)) (now (text .exit)) ≡ addPair k (now (key .entry)) (now (value .entry)) (record { builder = b; words = now (records .entry); text = now (text .entry) }) ⌝ }
+    ensures { λ r.
+        ⌜ draftOf r (now (records .exit)) (now (text .exit)) ≡ addPair k (now (key .entry)) (now (value .entry)) (record { builder = b; words = now (records .entry); text = now (text .entry) }) ⌝ }
 {
     if !may_add(b, records, k, place_for(b, records)) {
         return Step::Not(Cause::NotLayout);

@@ -139,7 +139,8 @@ module _ {b : Builder} {words text : List ℕ} (r : Report) {w : TestSuite} (e :
       comes-main {room} x z y =
           let c : suc (b .records + 1) ≡ length (rowsOf r) + 2 = omega arith in
           let q : ltb (two .builder .records) (roomFor (two .words)) ≡ leb (length (rowsOf r) + 2) room = λ i. leb (c i) (x i) in
-          comes-taking two (λ d. accepted (withBuilder d (call.marks (d .builder .report) (d .builder .suite) (d .builder .case) (lastOf (d .builder)) (d .builder)))) κ (leb (length (rowsOf r) + 2) room) q
+          comes-taking two (λ d. accepted (withBuilder d (call.marks (d .builder .report) (d .builder .suite) (d .builder .case) (lastOf (d .builder)) (d .builder))))
+          κ (leb (length (rowsOf r) + 2) room) q
           (λ t. gives (with-main z y (q ∙ t)))
 
 -- ---- the main, by the status

@@ -13,7 +13,8 @@ use Rattle.tree_put.specs.Put.{putText, putCount, putUuid, putMoment, putTime}
 use Rattle.tree_report.specs.Report.{Text}
 use Rattle.tree_report.specs.Encode.{written, isGiven, ofNumber, ofCount, uuidFront, uuidBack, Row}
 use Rattle.tree_placed.specs.inside.Placed.{Placed, recordOf, StandsAt, InTexts}
-use Rattle.tree_placed.specs.inside.Changed.{withFirst, withOut, withErr, withMiddle, withTimestamp, withTime, withSecond, withThird, withFourth, withFifth, withSixth, withFlaky, onRow, firstText, outText, errText, secondText, thirdText, fourthText}
+use Rattle.tree_placed.specs.inside.Changed.{withFirst, withOut, withErr, withMiddle, withTimestamp, withTime, withSecond, withThird, withFourth}
+use Rattle.tree_placed.specs.inside.Changed.{withFifth, withSixth, withFlaky, onRow, firstText, outText, errText, secondText, thirdText, fourthText}
 use Rattle.tree_placed.proofs.Putting as put
 use Rattle.tree_placed.proofs.Putting.{record-length}
 use Rattle.tree_placed.proofs.Fronts.{text-fronts, number-fronts, count-fronts, moment-fronts, time-fronts, uuid-fronts, mark-fronts, unmark-fronts}
@@ -58,13 +59,15 @@ module _ {texts : List ℕ} {p : Placed} (h : InTexts texts p) where
     err-becomes = made (errText x v p) (putText 6 2 x (length v)) (λ z. text-fronts (recordOf p) z (record-length p) 6 2 x (length v) (lit≤ tt)) (put.put-err p x v) (still.err-in h x v s)
 
     pub second-becomes : Becomes (putText 18 5 x (length v)) texts p (withSecond (written v) (p .row))
-    second-becomes = made (secondText x v p) (putText 18 5 x (length v)) (λ z. text-fronts (recordOf p) z (record-length p) 18 5 x (length v) (lit≤ tt)) (put.put-second p x v) (still.second-in h x v s)
+    second-becomes =
+        made (secondText x v p) (putText 18 5 x (length v)) (λ z. text-fronts (recordOf p) z (record-length p) 18 5 x (length v) (lit≤ tt)) (put.put-second p x v) (still.second-in h x v s)
 
     pub third-becomes : Becomes (putText 20 6 x (length v)) texts p (withThird (written v) (p .row))
     third-becomes = made (thirdText x v p) (putText 20 6 x (length v)) (λ z. text-fronts (recordOf p) z (record-length p) 20 6 x (length v) (lit≤ tt)) (put.put-third p x v) (still.third-in h x v s)
 
     pub fourth-becomes : Becomes (putText 22 7 x (length v)) texts p (withFourth (written v) (p .row))
-    fourth-becomes = made (fourthText x v p) (putText 22 7 x (length v)) (λ z. text-fronts (recordOf p) z (record-length p) 22 7 x (length v) (lit≤ tt)) (put.put-fourth p x v) (still.fourth-in h x v s)
+    fourth-becomes =
+        made (fourthText x v p) (putText 22 7 x (length v)) (λ z. text-fronts (recordOf p) z (record-length p) 22 7 x (length v) (lit≤ tt)) (put.put-fourth p x v) (still.fourth-in h x v s)
 
     pub text-becomes : (f : TextField) → Becomes (putText (wordFor f) (bitFor f) x (length v)) texts p (withText f v (p .row))
     text-becomes field.Classname = second-becomes
@@ -90,7 +93,8 @@ module _ {texts : List ℕ} {p : Placed} (h : InTexts texts p) where
 
   pub disabled-becomes : (n : ℕ) → Becomes (putNumber 26 8 n) texts p (withSixth (ofNumber (some n)) (p .row))
   disabled-becomes n =
-      made (onRow (withSixth (ofNumber (some n))) p) (putNumber 26 8 n) (λ z. number-fronts (recordOf p) z (record-length p) 8 26 n (lit≤ tt)) (put.put-disabled p n) (still.sixth-in h (ofNumber (some n)))
+      made (onRow (withSixth (ofNumber (some n))) p) (putNumber 26 8 n) (λ z. number-fronts (recordOf p) z (record-length p) 8 26 n (lit≤ tt))
+      (put.put-disabled p n) (still.sixth-in h (ofNumber (some n)))
 
   -- ---- words without one, where the cell had none
   pub uuid-becomes : (w : Words) → isGiven (p .row .err) ≡ false → Becomes (putUuid w) texts p (withMiddle (uuidFront (some w)) (uuidBack (some w)) (p .row))

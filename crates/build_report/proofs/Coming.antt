@@ -31,7 +31,8 @@ module _ {Q : Draft → Type 0} where
   comes-on f fails = fails
 
   -- one part behind another
-  pub comes-then : {P : Draft → Type 0} {ts us : List (Bool × Cause)} {m : Outcome Draft} {f : Draft → Outcome Draft} → Comes P ts m → ((d : Draft) → P d → Comes Q us (f d)) → Comes Q (ts ++ us) (m >>= f)
+  pub comes-then : {P : Draft → Type 0} {ts us : List (Bool × Cause)} {m : Outcome Draft} {f : Draft → Outcome Draft}
+      → Comes P ts m → ((d : Draft) → P d → Comes Q us (f d)) → Comes Q (ts ++ us) (m >>= f)
   unfolding _>>=_
   comes-then (gives {d} p) h = h d p
   comes-then (passes c) h = passes (comes-then c h)

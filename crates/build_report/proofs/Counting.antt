@@ -102,7 +102,8 @@ counts-read p c h = λ i. record {
 
 -- ---- put into its record
 -- one more store, by what it makes of the row
-then-on : {f g : List ℕ → List ℕ} {texts : List ℕ} {p : Placed} {row : Row} (u : Row → Row) (b : Becomes f texts p row) → Becomes g texts (b .after) (u (b .after .row)) → Becomes (λ r. g (f r)) texts p (u row)
+then-on : {f g : List ℕ → List ℕ} {texts : List ℕ} {p : Placed} {row : Row} (u : Row → Row) (b : Becomes f texts p row)
+    → Becomes g texts (b .after) (u (b .after .row)) → Becomes (λ r. g (f r)) texts p (u row)
 then-on u b c = becomes-on (becomes-then b c) (ap u (b .row-is))
 
 module _ {texts : List ℕ} {p : Placed} (h : InTexts texts p) {a : Counts} (k : Counted a (p .row)) where

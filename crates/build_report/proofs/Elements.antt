@@ -59,7 +59,8 @@ module _ (r : Report) {s : TestSuite} (e : lastIn (r .suites) ≡ some s) (name 
       let p : List Row = map (pairRow kind.suiteProperty) (s .properties) in
       let q : List Row = rowsOfEach caseRows (s .cases) in
       let n : suiteMark (addTestCase name o r) ≡ suiteMark r = suite-mark-on grown r e in
-      let k : length (rowsOfEach caseRows (allButLast (s .cases ++ (newCase name o ∷ [])))) ≡ length q = ap (λ (l : List TestCase). length (rowsOfEach caseRows l)) (others-append (s .cases) (newCase name o)) in
+      let k : length (rowsOfEach caseRows (allButLast (s .cases ++ (newCase name o ∷ [])))) ≡ length q =
+      ap (λ (l : List TestCase). length (rowsOfEach caseRows l)) (others-append (s .cases) (newCase name o)) in
       let h : length (rowsOf r) ≡ length (beforeSuite r) + length (suiteRows s) = ap length (rows-suite r e) ∙ length-append (beforeSuite r) (suiteRows s) in
       let b = length-before-suite r in
       let i : length (x ++ (p ++ q)) ≡ length x + length (p ++ q) = length-append x (p ++ q) in

@@ -65,39 +65,150 @@ whole-fits f =
 
 module _ (r : Row) (e : fitsRow r ≡ true) where
   pub moment-fits : (m : Option Moment) → fitsMoment m ≡ true → fitsRow (withTimestamp m r) ≡ true
-  moment-fits m h = let f = parts-fit r e in whole-fits (record { first = f .first; out = f .out; err = f .err; second = f .second; third = f .third; fourth = f .fourth; fifth = f .fifth; sixth = f .sixth; timestamp = h; time = f .time })
+  moment-fits m h = let f = parts-fit r e in
+      whole-fits (record { first = f .first; out = f .out; err = f .err; second = f .second; third = f .third; fourth = f .fourth; fifth = f .fifth; sixth = f .sixth; timestamp = h; time = f .time })
 
   pub time-fits : (d : Option Duration) → fitsTime d ≡ true → fitsRow (withTime d r) ≡ true
-  time-fits d h = let f = parts-fit r e in whole-fits (record { first = f .first; out = f .out; err = f .err; second = f .second; third = f .third; fourth = f .fourth; fifth = f .fifth; sixth = f .sixth; timestamp = f .timestamp; time = h })
+  time-fits d h = let f = parts-fit r e in whole-fits (record {
+    first = f .first;
+    out = f .out;
+    err = f .err;
+    second = f .second;
+    third = f .third;
+    fourth = f .fourth;
+    fifth = f .fifth;
+    sixth = f .sixth;
+    timestamp = f .timestamp;
+    time = h;
+  })
 
   -- both cells of a UUID
   pub middle-fits : (c d : Cell) → fitsCell c ≡ true → fitsCell d ≡ true → fitsRow (withMiddle c d r) ≡ true
-  middle-fits c d h k = let f = parts-fit r e in whole-fits (record { first = f .first; out = h; err = k; second = f .second; third = f .third; fourth = f .fourth; fifth = f .fifth; sixth = f .sixth; timestamp = f .timestamp; time = f .time })
+  middle-fits c d h k = let f = parts-fit r e in whole-fits (record {
+    first = f .first;
+    out = h;
+    err = k;
+    second = f .second;
+    third = f .third;
+    fourth = f .fourth;
+    fifth = f .fifth;
+    sixth = f .sixth;
+    timestamp = f .timestamp;
+    time = f .time;
+  })
 
   module _ (c : Cell) (h : fitsCell c ≡ true) where
     pub first-fits : fitsRow (withFirst c r) ≡ true
-    first-fits = let f = parts-fit r e in whole-fits (record { first = h; out = f .out; err = f .err; second = f .second; third = f .third; fourth = f .fourth; fifth = f .fifth; sixth = f .sixth; timestamp = f .timestamp; time = f .time })
+    first-fits = let f = parts-fit r e in whole-fits (record {
+      first = h;
+      out = f .out;
+      err = f .err;
+      second = f .second;
+      third = f .third;
+      fourth = f .fourth;
+      fifth = f .fifth;
+      sixth = f .sixth;
+      timestamp = f .timestamp;
+      time = f .time;
+    })
 
     pub out-fits : fitsRow (withOut c r) ≡ true
-    out-fits = let f = parts-fit r e in whole-fits (record { first = f .first; out = h; err = f .err; second = f .second; third = f .third; fourth = f .fourth; fifth = f .fifth; sixth = f .sixth; timestamp = f .timestamp; time = f .time })
+    out-fits = let f = parts-fit r e in whole-fits (record {
+      first = f .first;
+      out = h;
+      err = f .err;
+      second = f .second;
+      third = f .third;
+      fourth = f .fourth;
+      fifth = f .fifth;
+      sixth = f .sixth;
+      timestamp = f .timestamp;
+      time = f .time;
+    })
 
     pub err-fits : fitsRow (withErr c r) ≡ true
-    err-fits = let f = parts-fit r e in whole-fits (record { first = f .first; out = f .out; err = h; second = f .second; third = f .third; fourth = f .fourth; fifth = f .fifth; sixth = f .sixth; timestamp = f .timestamp; time = f .time })
+    err-fits = let f = parts-fit r e in whole-fits (record {
+      first = f .first;
+      out = f .out;
+      err = h;
+      second = f .second;
+      third = f .third;
+      fourth = f .fourth;
+      fifth = f .fifth;
+      sixth = f .sixth;
+      timestamp = f .timestamp;
+      time = f .time;
+    })
 
     pub second-fits : fitsRow (withSecond c r) ≡ true
-    second-fits = let f = parts-fit r e in whole-fits (record { first = f .first; out = f .out; err = f .err; second = h; third = f .third; fourth = f .fourth; fifth = f .fifth; sixth = f .sixth; timestamp = f .timestamp; time = f .time })
+    second-fits = let f = parts-fit r e in whole-fits (record {
+      first = f .first;
+      out = f .out;
+      err = f .err;
+      second = h;
+      third = f .third;
+      fourth = f .fourth;
+      fifth = f .fifth;
+      sixth = f .sixth;
+      timestamp = f .timestamp;
+      time = f .time;
+    })
 
     pub third-fits : fitsRow (withThird c r) ≡ true
-    third-fits = let f = parts-fit r e in whole-fits (record { first = f .first; out = f .out; err = f .err; second = f .second; third = h; fourth = f .fourth; fifth = f .fifth; sixth = f .sixth; timestamp = f .timestamp; time = f .time })
+    third-fits = let f = parts-fit r e in whole-fits (record {
+      first = f .first;
+      out = f .out;
+      err = f .err;
+      second = f .second;
+      third = h;
+      fourth = f .fourth;
+      fifth = f .fifth;
+      sixth = f .sixth;
+      timestamp = f .timestamp;
+      time = f .time;
+    })
 
     pub fourth-fits : fitsRow (withFourth c r) ≡ true
-    fourth-fits = let f = parts-fit r e in whole-fits (record { first = f .first; out = f .out; err = f .err; second = f .second; third = f .third; fourth = h; fifth = f .fifth; sixth = f .sixth; timestamp = f .timestamp; time = f .time })
+    fourth-fits = let f = parts-fit r e in whole-fits (record {
+      first = f .first;
+      out = f .out;
+      err = f .err;
+      second = f .second;
+      third = f .third;
+      fourth = h;
+      fifth = f .fifth;
+      sixth = f .sixth;
+      timestamp = f .timestamp;
+      time = f .time;
+    })
 
     pub fifth-fits : fitsRow (withFifth c r) ≡ true
-    fifth-fits = let f = parts-fit r e in whole-fits (record { first = f .first; out = f .out; err = f .err; second = f .second; third = f .third; fourth = f .fourth; fifth = h; sixth = f .sixth; timestamp = f .timestamp; time = f .time })
+    fifth-fits = let f = parts-fit r e in whole-fits (record {
+      first = f .first;
+      out = f .out;
+      err = f .err;
+      second = f .second;
+      third = f .third;
+      fourth = f .fourth;
+      fifth = h;
+      sixth = f .sixth;
+      timestamp = f .timestamp;
+      time = f .time;
+    })
 
     pub sixth-fits : fitsRow (withSixth c r) ≡ true
-    sixth-fits = let f = parts-fit r e in whole-fits (record { first = f .first; out = f .out; err = f .err; second = f .second; third = f .third; fourth = f .fourth; fifth = f .fifth; sixth = h; timestamp = f .timestamp; time = f .time })
+    sixth-fits = let f = parts-fit r e in whole-fits (record {
+      first = f .first;
+      out = f .out;
+      err = f .err;
+      second = f .second;
+      third = f .third;
+      fourth = f .fourth;
+      fifth = f .fifth;
+      sixth = h;
+      timestamp = f .timestamp;
+      time = f .time;
+    })
 
   -- a text
   pub text-fits : (f : TextField) (v : Text) → utf8 v ≡ true → unfiltered v ≡ true → fitsRow (withText f v r) ≡ true

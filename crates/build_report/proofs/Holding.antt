@@ -134,7 +134,8 @@ module _ {b : Builder} {words text texts : List ℕ} (front : List Placed) (p : 
   holding-set {q} g e s =
       split-other front (p ∷ back) h (q ∷ back)
       (ap (onRecord i g) (split-words front (p ∷ back) h)
-      ∙ on-record (length words) (recordsIn front) (recordOf p) (recordsIn back) (records-at front at) (split-sized front (p ∷ back)) (split-room front (p ∷ back) h) (recordOf q) (record-length q) g e)
+      ∙ on-record (length words) (recordsIn front) (recordOf p) (recordsIn back) (records-at front at)
+      (split-sized front (p ∷ back)) (split-room front (p ∷ back) h) (recordOf q) (record-length q) g e)
       refl (more s (each-tail (each-back front (p ∷ back) (h .standing))))
 
 -- ---- two records exchanged

@@ -49,7 +49,8 @@ empty-held words bytes = record {
         sym (ap (λ (k : ℕ). laid (zeros k) []) (length-replicate {A = ℕ} n 0) ∙ laid-zeros n [] (omega arith) ∙ ap zeros e)
 
 -- the same words, as records of other rows
-pub same-records : {b : Builder} {words text texts : List ℕ} {ps qs : List Placed} → Holding b words text ps texts → recordsIn ps ≡ recordsIn qs → Each (InTexts texts) qs → Holding b words text qs texts
+pub same-records : {b : Builder} {words text texts : List ℕ} {ps qs : List Placed} → Holding b words text ps texts
+    → recordsIn ps ≡ recordsIn qs → Each (InTexts texts) qs → Holding b words text qs texts
 same-records {words = words} {ps = ps} {qs = qs} h e s =
     let n : length ps ≡ length qs = sym (length-map ps recordOf) ∙ ap length e ∙ length-map qs recordOf in
     let m = h .room in

@@ -22,7 +22,8 @@ use Rattle.build_report.proofs.Openings.{beforeSuite, upToCase, upToSta
 use Rattle.build_report.proofs.Marks.{suite-marked, case-marked}
 use Rattle.build_report.proofs.Keys.{empty-list, keyIndex, renewed, OldKey, old-key, new-key}
 use Rattle.build_report.proofs.Spots.{spot-suite-extra, spot-case-extra}
-use Rattle.build_report.proofs.Pairs.{rows-suite-property, rows-suite-extra, marked-suite-pair, rows-case-property, rows-case-extra, marked-no-main, marked-main-next, marked-suite-old, marked-case-old}
+use Rattle.build_report.proofs.Pairs.{rows-suite-property, rows-suite-extra, marked-suite-pair, rows-case-property}
+use Rattle.build_report.proofs.Pairs.{rows-case-extra, marked-no-main, marked-main-next, marked-suite-old, marked-case-old}
 use Rattle.build_report.proofs.PairPlaces.{Cut, cut-suite, cut-case, property-in, extra-in, suite-rows}
 
 -- the main's number where a row stands before `back`: as it was, or n where back is the main

@@ -18,7 +18,8 @@ use Rattle.build_report.specs.Builders.{hasKey}
 use Rattle.build_report.proofs.SpotTypes.{Inserted}
 use Rattle.build_report.proofs.Lasts.{last-on}
 use Rattle.build_report.proofs.Openings.{beforeSuite, upToCase, upToStatus, length-up-to-status, rows-suite, rows-on-suite, rows-on-case, rows-status}
-use Rattle.build_report.proofs.Marks.{suite-marked, case-marked, no-case, marked-suite-alone, marked-open, main-marked, suite-mark-on, suite-mark-case, marked-suite, marked-case, suite-on-case, open-on-case, case-mark-on}
+use Rattle.build_report.proofs.Marks.{suite-marked, case-marked, no-case, marked-suite-alone, marked-open, main-marked, suite-mark-on}
+use Rattle.build_report.proofs.Marks.{suite-mark-case, marked-suite, marked-case, suite-on-case, open-on-case, case-mark-on}
 use Rattle.build_report.proofs.Keys.{OldKey, new-key}
 
 -- a row at the end

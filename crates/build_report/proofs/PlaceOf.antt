@@ -14,7 +14,8 @@ use Rattle.build_draft.specs.declared.Builder.{Builder}
 use Rattle.build_draft.specs.declared.Element.{Element}
 use Rattle.build_draft.specs.declared.Element.the-variants as element
 use Rattle.build_draft.specs.Draft.{markOf}
-use Rattle.build_report.specs.Operations.{lastIn, isEmpty, hasMain, runsIn, openCase, report, suite, case, main, run, nothing, suiteTarget, caseTarget, mainTarget, lastTarget, lastOfSuite, lastOfPairs, lastOfCase, targetOf}
+use Rattle.build_report.specs.Operations.{lastIn, isEmpty, hasMain, runsIn, openCase, report, suite, case, main, run, nothing}
+use Rattle.build_report.specs.Operations.{suiteTarget, caseTarget, mainTarget, lastTarget, lastOfSuite, lastOfPairs, lastOfCase, targetOf}
 use Rattle.build_report.specs.Stands.{suiteMark, caseMark, mainMark, Marked}
 use Rattle.build_report.proofs.Lasts.{last-none}
 use Rattle.build_report.proofs.Keys.{empty-list}
@@ -69,7 +70,8 @@ module _ (r : Report) {i : ℕ} (n : i ≡ length (rowsOf r) - 1) where
           pair-last r kind.suiteExtra same-suite-extra (beforeSuite r ++ (suiteRow s ∷ [])) (s .extra) y
           (no-properties (empty-list (s .properties) p) ∙ sym (append-assoc (beforeSuite r) (suiteRow s ∷ []) (map (pairRow kind.suiteExtra) (s .extra)))) n
       go true p true y =
-          let q : rowsOf r ≡ beforeSuite r ++ (suiteRow s ∷ []) = no-properties (empty-list (s .properties) p) ∙ (λ j. beforeSuite r ++ (suiteRow s ∷ map (pairRow kind.suiteExtra) (empty-list (s .extra) y j))) in
+          let q : rowsOf r ≡ beforeSuite r ++ (suiteRow s ∷ []) =
+          no-properties (empty-list (s .properties) p) ∙ (λ j. beforeSuite r ++ (suiteRow s ∷ map (pairRow kind.suiteExtra) (empty-list (s .extra) y j))) in
           let k : length (rowsOf r) ≡ length (beforeSuite r) + 1 = ap length q ∙ length-append (beforeSuite r) (suiteRow s ∷ []) in
           let h = length-before-suite r in
           at-suite e (omega arith)

@@ -14,7 +14,8 @@ use Rattle.build_report.specs.Operations.{onLast, lastIn, onSuite, onCas
 use Rattle.build_report.specs.Stands.{allButLast, suiteMark, caseMark, mainMark}
 use Rattle.build_report.proofs.SpotTypes.{Spot}
 use Rattle.build_report.proofs.Lasts.{last-split, on-last}
-use Rattle.build_report.proofs.Openings.{beforeSuite, upToCase, upToStatus, length-before-suite, length-up-to-case, length-up-to-status, rows-suite, rows-on-suite, rows-case, rows-on-case, rows-status, rows-on-status}
+use Rattle.build_report.proofs.Openings.{beforeSuite, upToCase, upToStatus, length-before-suite, length-up-to-case, length-up-to-status}
+use Rattle.build_report.proofs.Openings.{rows-suite, rows-on-suite, rows-case, rows-on-case, rows-status, rows-on-status}
 use Rattle.build_report.proofs.Keys.{keyIndex, renewed, OldKey}
 
 -- ---- parts of the rows that differ in one row, behind the same rows

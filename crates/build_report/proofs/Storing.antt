@@ -230,7 +230,8 @@ module _ {b : Builder} {words text : List ℕ} {r r′ : Report} {i : ℕ} {row 
       held-set g (holding-text v u c l (holding s)) (s .rows) (s .sound) t k (λ p e i. f p e i n)
 
 -- ---- a record more, at the end
-pub stored-more : {b b′ : Builder} {words words′ text text′ texts : List ℕ} {r r′ : Report} {row : Row} (s : Stored b words text r) (q : Placed) → Holding b′ words′ text′ (s .placed ++ (q ∷ [])) texts
+pub stored-more : {b b′ : Builder} {words words′ text text′ texts : List ℕ} {r r′ : Report} {row : Row} (s : Stored b words text r) (q : Placed)
+    → Holding b′ words′ text′ (s .placed ++ (q ∷ [])) texts
     → q .row ≡ row → rowsOf r′ ≡ rowsOf r ++ (row ∷ []) → fitsRow row ≡ true → Stored b′ words′ text′ r′
 stored-more {r = r} {r′ = r′} {row = row} s q h e t k =
     stored r′ h (rows-append (s .placed) (q ∷ []) ∙ (λ j. s .rows j ++ (e j ∷ [])) ∙ sym t)

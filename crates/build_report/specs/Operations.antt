@@ -10,7 +10,8 @@ use Rattle.uuid.specs.declared.Words.{Words}
 use Rattle.tree_record.specs.Kinds as kind
 use Rattle.tree_counts.specs.declared.Outcome.{Outcome}
 use Rattle.tree_counts.specs.declared.Outcome.the-variants as outcome
-use Rattle.tree_report.specs.Report.{Text, Duration, Pair, Counts, NonSuccessKind, failure, error, FlakyOrRerun, flaky, rerun, TestRerun, Reason, TestCaseStatus, success, nonSuccess, skipped, TestCase, TestSuite, Report}
+use Rattle.tree_report.specs.Report.{Text, Duration, Pair, Counts, NonSuccessKind, failure, error, FlakyOrRerun, flaky, rerun}
+use Rattle.tree_report.specs.Report.{TestRerun, Reason, TestCaseStatus, success, nonSuccess, skipped, TestCase, TestSuite, Report}
 use Rattle.build_draft.specs.declared.Element.{Element}
 use Rattle.build_draft.specs.declared.Element.the-variants as element
 use Rattle.build_draft.specs.declared.Holder.{Holder}
@@ -92,7 +93,18 @@ onCase f r = onSuite (λ s. withCases s (s .counts) (onLast f (s .cases))) r
 
 abbrev pub withStatus : TestCase → TestCaseStatus → TestCase
 withStatus c s =
-    record { name = c .name; classname = c .classname; assertions = c .assertions; timestamp = c .timestamp; time = c .time; status = s; systemOut = c .systemOut; systemErr = c .systemErr; extra = c .extra; properties = c .properties }
+    record {
+      name = c .name;
+      classname = c .classname;
+      assertions = c .assertions;
+      timestamp = c .timestamp;
+      time = c .time;
+      status = s;
+      systemOut = c .systemOut;
+      systemErr = c .systemErr;
+      extra = c .extra;
+      properties = c .properties;
+    }
 
 abbrev pub onStatus : (TestCaseStatus → TestCaseStatus) → Report → Report
 onStatus f r = onCase (λ c. withStatus c (f (c .status))) r
@@ -158,11 +170,32 @@ setRerunKind f r = onStatus (withFamily (familyFor f)) r
 -- ---- properties and extras
 abbrev pub suitePairs : List Pair → List Pair → TestSuite → TestSuite
 suitePairs extra properties s =
-    record { name = s .name; counts = s .counts; timestamp = s .timestamp; time = s .time; cases = s .cases; properties = properties; systemOut = s .systemOut; systemErr = s .systemErr; extra = extra }
+    record {
+      name = s .name;
+      counts = s .counts;
+      timestamp = s .timestamp;
+      time = s .time;
+      cases = s .cases;
+      properties = properties;
+      systemOut = s .systemOut;
+      systemErr = s .systemErr;
+      extra = extra;
+    }
 
 abbrev pub casePairs : List Pair → List Pair → TestCase → TestCase
 casePairs extra properties c =
-    record { name = c .name; classname = c .classname; assertions = c .assertions; timestamp = c .timestamp; time = c .time; status = c .status; systemOut = c .systemOut; systemErr = c .systemErr; extra = extra; properties = properties }
+    record {
+      name = c .name;
+      classname = c .classname;
+      assertions = c .assertions;
+      timestamp = c .timestamp;
+      time = c .time;
+      status = c .status;
+      systemOut = c .systemOut;
+      systemErr = c .systemErr;
+      extra = extra;
+      properties = properties;
+    }
 
 -- `add_property`
 abbrev pub addProperty : Holder → Pair → Report → Report
@@ -255,18 +288,71 @@ suiteText field.Message t s = s
 suiteText field.Ty t s = s
 suiteText field.Description t s = s
 suiteText field.StackTrace t s = s
-suiteText field.SystemOut t s = record { name = s .name; counts = s .counts; timestamp = s .timestamp; time = s .time; cases = s .cases; properties = s .properties; systemOut = some t; systemErr = s .systemErr; extra = s .extra }
-suiteText field.SystemErr t s = record { name = s .name; counts = s .counts; timestamp = s .timestamp; time = s .time; cases = s .cases; properties = s .properties; systemOut = s .systemOut; systemErr = some t; extra = s .extra }
+suiteText field.SystemOut t s = record {
+  name = s .name;
+  counts = s .counts;
+  timestamp = s .timestamp;
+  time = s .time;
+  cases = s .cases;
+  properties = s .properties;
+  systemOut = some t;
+  systemErr = s .systemErr;
+  extra = s .extra;
+}
+suiteText field.SystemErr t s = record {
+  name = s .name;
+  counts = s .counts;
+  timestamp = s .timestamp;
+  time = s .time;
+  cases = s .cases;
+  properties = s .properties;
+  systemOut = s .systemOut;
+  systemErr = some t;
+  extra = s .extra;
+}
 
 -- of a case
 abbrev pub caseText : TextField → Text → TestCase → TestCase
-caseText field.Classname t c = record { name = c .name; classname = some t; assertions = c .assertions; timestamp = c .timestamp; time = c .time; status = c .status; systemOut = c .systemOut; systemErr = c .systemErr; extra = c .extra; properties = c .properties }
+caseText field.Classname t c = record {
+  name = c .name;
+  classname = some t;
+  assertions = c .assertions;
+  timestamp = c .timestamp;
+  time = c .time;
+  status = c .status;
+  systemOut = c .systemOut;
+  systemErr = c .systemErr;
+  extra = c .extra;
+  properties = c .properties;
+}
 caseText field.Message t c = c
 caseText field.Ty t c = c
 caseText field.Description t c = c
 caseText field.StackTrace t c = c
-caseText field.SystemOut t c = record { name = c .name; classname = c .classname; assertions = c .assertions; timestamp = c .timestamp; time = c .time; status = c .status; systemOut = some t; systemErr = c .systemErr; extra = c .extra; properties = c .properties }
-caseText field.SystemErr t c = record { name = c .name; classname = c .classname; assertions = c .assertions; timestamp = c .timestamp; time = c .time; status = c .status; systemOut = c .systemOut; systemErr = some t; extra = c .extra; properties = c .properties }
+caseText field.SystemOut t c = record {
+  name = c .name;
+  classname = c .classname;
+  assertions = c .assertions;
+  timestamp = c .timestamp;
+  time = c .time;
+  status = c .status;
+  systemOut = some t;
+  systemErr = c .systemErr;
+  extra = c .extra;
+  properties = c .properties;
+}
+caseText field.SystemErr t c = record {
+  name = c .name;
+  classname = c .classname;
+  assertions = c .assertions;
+  timestamp = c .timestamp;
+  time = c .time;
+  status = c .status;
+  systemOut = c .systemOut;
+  systemErr = some t;
+  extra = c .extra;
+  properties = c .properties;
+}
 
 -- of a failure, error or skipped
 abbrev pub reasonText : TextField → Text → Reason → Reason
@@ -281,12 +367,72 @@ reasonText field.SystemErr t m = m
 -- of a run
 abbrev pub runText : TextField → Text → TestRerun → TestRerun
 runText field.Classname t e = e
-runText field.Message t e = record { kind = e .kind; timestamp = e .timestamp; time = e .time; message = some t; type = e .type; stackTrace = e .stackTrace; systemOut = e .systemOut; systemErr = e .systemErr; description = e .description }
-runText field.Ty t e = record { kind = e .kind; timestamp = e .timestamp; time = e .time; message = e .message; type = some t; stackTrace = e .stackTrace; systemOut = e .systemOut; systemErr = e .systemErr; description = e .description }
-runText field.Description t e = record { kind = e .kind; timestamp = e .timestamp; time = e .time; message = e .message; type = e .type; stackTrace = e .stackTrace; systemOut = e .systemOut; systemErr = e .systemErr; description = some t }
-runText field.StackTrace t e = record { kind = e .kind; timestamp = e .timestamp; time = e .time; message = e .message; type = e .type; stackTrace = some t; systemOut = e .systemOut; systemErr = e .systemErr; description = e .description }
-runText field.SystemOut t e = record { kind = e .kind; timestamp = e .timestamp; time = e .time; message = e .message; type = e .type; stackTrace = e .stackTrace; systemOut = some t; systemErr = e .systemErr; description = e .description }
-runText field.SystemErr t e = record { kind = e .kind; timestamp = e .timestamp; time = e .time; message = e .message; type = e .type; stackTrace = e .stackTrace; systemOut = e .systemOut; systemErr = some t; description = e .description }
+runText field.Message t e = record {
+  kind = e .kind;
+  timestamp = e .timestamp;
+  time = e .time;
+  message = some t;
+  type = e .type;
+  stackTrace = e .stackTrace;
+  systemOut = e .systemOut;
+  systemErr = e .systemErr;
+  description = e .description;
+}
+runText field.Ty t e = record {
+  kind = e .kind;
+  timestamp = e .timestamp;
+  time = e .time;
+  message = e .message;
+  type = some t;
+  stackTrace = e .stackTrace;
+  systemOut = e .systemOut;
+  systemErr = e .systemErr;
+  description = e .description;
+}
+runText field.Description t e = record {
+  kind = e .kind;
+  timestamp = e .timestamp;
+  time = e .time;
+  message = e .message;
+  type = e .type;
+  stackTrace = e .stackTrace;
+  systemOut = e .systemOut;
+  systemErr = e .systemErr;
+  description = some t;
+}
+runText field.StackTrace t e = record {
+  kind = e .kind;
+  timestamp = e .timestamp;
+  time = e .time;
+  message = e .message;
+  type = e .type;
+  stackTrace = some t;
+  systemOut = e .systemOut;
+  systemErr = e .systemErr;
+  description = e .description;
+}
+runText field.SystemOut t e = record {
+  kind = e .kind;
+  timestamp = e .timestamp;
+  time = e .time;
+  message = e .message;
+  type = e .type;
+  stackTrace = e .stackTrace;
+  systemOut = some t;
+  systemErr = e .systemErr;
+  description = e .description;
+}
+runText field.SystemErr t e = record {
+  kind = e .kind;
+  timestamp = e .timestamp;
+  time = e .time;
+  message = e .message;
+  type = e .type;
+  stackTrace = e .stackTrace;
+  systemOut = e .systemOut;
+  systemErr = some t;
+  description = e .description;
+}
 
 abbrev pub onReason : (Reason → Reason) → TestCaseStatus → TestCaseStatus
 onReason f (success runs) = success runs
@@ -309,17 +455,79 @@ setText nothing f t r = r
 -- ---- timestamps, times, the UUID, numbers
 abbrev pub setTimestamp : Target → Moment → Report → Report
 setTimestamp report m r = record { name = r .name; uuid = r .uuid; timestamp = some m; time = r .time; counts = r .counts; suites = r .suites }
-setTimestamp suite m r = onSuite (λ s. record { name = s .name; counts = s .counts; timestamp = some m; time = s .time; cases = s .cases; properties = s .properties; systemOut = s .systemOut; systemErr = s .systemErr; extra = s .extra }) r
-setTimestamp case m r = onCase (λ c. record { name = c .name; classname = c .classname; assertions = c .assertions; timestamp = some m; time = c .time; status = c .status; systemOut = c .systemOut; systemErr = c .systemErr; extra = c .extra; properties = c .properties }) r
-setTimestamp run m r = onStatus (onRun (λ e. record { kind = e .kind; timestamp = some m; time = e .time; message = e .message; type = e .type; stackTrace = e .stackTrace; systemOut = e .systemOut; systemErr = e .systemErr; description = e .description })) r
+setTimestamp suite m r = onSuite (λ s. record {
+  name = s .name;
+  counts = s .counts;
+  timestamp = some m;
+  time = s .time;
+  cases = s .cases;
+  properties = s .properties;
+  systemOut = s .systemOut;
+  systemErr = s .systemErr;
+  extra = s .extra;
+}) r
+setTimestamp case m r = onCase (λ c. record {
+  name = c .name;
+  classname = c .classname;
+  assertions = c .assertions;
+  timestamp = some m;
+  time = c .time;
+  status = c .status;
+  systemOut = c .systemOut;
+  systemErr = c .systemErr;
+  extra = c .extra;
+  properties = c .properties;
+}) r
+setTimestamp run m r = onStatus (onRun (λ e. record {
+  kind = e .kind;
+  timestamp = some m;
+  time = e .time;
+  message = e .message;
+  type = e .type;
+  stackTrace = e .stackTrace;
+  systemOut = e .systemOut;
+  systemErr = e .systemErr;
+  description = e .description;
+})) r
 setTimestamp main m r = r
 setTimestamp nothing m r = r
 
 abbrev pub setTime : Target → Duration → Report → Report
 setTime report d r = record { name = r .name; uuid = r .uuid; timestamp = r .timestamp; time = some d; counts = r .counts; suites = r .suites }
-setTime suite d r = onSuite (λ s. record { name = s .name; counts = s .counts; timestamp = s .timestamp; time = some d; cases = s .cases; properties = s .properties; systemOut = s .systemOut; systemErr = s .systemErr; extra = s .extra }) r
-setTime case d r = onCase (λ c. record { name = c .name; classname = c .classname; assertions = c .assertions; timestamp = c .timestamp; time = some d; status = c .status; systemOut = c .systemOut; systemErr = c .systemErr; extra = c .extra; properties = c .properties }) r
-setTime run d r = onStatus (onRun (λ e. record { kind = e .kind; timestamp = e .timestamp; time = some d; message = e .message; type = e .type; stackTrace = e .stackTrace; systemOut = e .systemOut; systemErr = e .systemErr; description = e .description })) r
+setTime suite d r = onSuite (λ s. record {
+  name = s .name;
+  counts = s .counts;
+  timestamp = s .timestamp;
+  time = some d;
+  cases = s .cases;
+  properties = s .properties;
+  systemOut = s .systemOut;
+  systemErr = s .systemErr;
+  extra = s .extra;
+}) r
+setTime case d r = onCase (λ c. record {
+  name = c .name;
+  classname = c .classname;
+  assertions = c .assertions;
+  timestamp = c .timestamp;
+  time = some d;
+  status = c .status;
+  systemOut = c .systemOut;
+  systemErr = c .systemErr;
+  extra = c .extra;
+  properties = c .properties;
+}) r
+setTime run d r = onStatus (onRun (λ e. record {
+  kind = e .kind;
+  timestamp = e .timestamp;
+  time = some d;
+  message = e .message;
+  type = e .type;
+  stackTrace = e .stackTrace;
+  systemOut = e .systemOut;
+  systemErr = e .systemErr;
+  description = e .description;
+})) r
 setTime main d r = r
 setTime nothing d r = r
 
@@ -330,5 +538,16 @@ abbrev pub withDisabled : ℕ → Counts → Counts
 withDisabled n c = record { tests = c .tests; failures = c .failures; errors = c .errors; skipped = c .skipped; disabled = some n }
 
 abbrev pub setNumber : NumberField → ℕ → Report → Report
-setNumber number.Assertions n r = onCase (λ c. record { name = c .name; classname = c .classname; assertions = some n; timestamp = c .timestamp; time = c .time; status = c .status; systemOut = c .systemOut; systemErr = c .systemErr; extra = c .extra; properties = c .properties }) r
+setNumber number.Assertions n r = onCase (λ c. record {
+  name = c .name;
+  classname = c .classname;
+  assertions = some n;
+  timestamp = c .timestamp;
+  time = c .time;
+  status = c .status;
+  systemOut = c .systemOut;
+  systemErr = c .systemErr;
+  extra = c .extra;
+  properties = c .properties;
+}) r
 setNumber number.Disabled n r = onSuite (λ s. withCases s (withDisabled n (s .counts)) (s .cases)) r

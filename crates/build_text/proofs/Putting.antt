@@ -80,6 +80,7 @@ module _ (step : Step) (words text s : List ℕ) where
   pub named-refused : {why : Cause} → step ≡ Not why → draftOf step words text ≡ next (draftOf step words text) (naming s)
   named-refused e = then-refused step words text (naming s) words text e refl
 
-  pub named-done : {b : Builder} {i : ℕ} {m : Outcome Draft} → step ≡ Done b → i ≡ lastOf b → m ≡ putting i word.name bit.name false s (plain b words text) → m ≡ next (draftOf step words text) (naming s)
+  pub named-done : {b : Builder} {i : ℕ} {m : Outcome Draft} → step ≡ Done b → i ≡ lastOf b
+      → m ≡ putting i word.name bit.name false s (plain b words text) → m ≡ next (draftOf step words text) (naming s)
   unfolding naming
   named-done {b} e f h = h ∙ ap (λ (x : ℕ). putting x word.name bit.name false s (plain b words text)) f ∙ then-done step words text (naming s) e refl

@@ -44,7 +44,8 @@ pub fn new_report(records: &mut [u32], text: &mut [u8], name: &[u8]) -> Built
 // By rule B2. The suite is open from then on; the one before is added to the report's sums (rule B8).
 pub fn add_test_suite(b: Builder, records: &mut [u32], text: &mut [u8], name: &[u8]) -> Built
     ensures { λ r. ⌜ r ≡ builtFrom (addTestSuite (now (name .entry)) (record { builder = b; words = now (records .entry); text = now (text .entry) })) ⌝ }
-    ensures { λ r. ⌜ now (records .exit) ≡ wordsLeft (length (now (records .entry))) (addTestSuite (now (name .entry)) (record { builder = b; words = now (records .entry); text = now (text .entry) })) ⌝ }
+    ensures { λ r.
+        ⌜ now (records .exit) ≡ wordsLeft (length (now (records .entry))) (addTestSuite (now (name .entry)) (record { builder = b; words = now (records .entry); text = now (text .entry) })) ⌝ }
     ensures { λ r. ⌜ now (text .exit) ≡ textLeft (length (now (text .entry))) (addTestSuite (now (name .entry)) (record { builder = b; words = now (records .entry); text = now (text .entry) })) ⌝ }
 {
     let step = open_suite(b, records);
@@ -61,8 +62,10 @@ pub fn add_test_case(
     outcome: Outcome,
 ) -> Built
     ensures { λ r. ⌜ r ≡ builtFrom (addTestCase (now (name .entry)) outcome (record { builder = b; words = now (records .entry); text = now (text .entry) })) ⌝ }
-    ensures { λ r. ⌜ now (records .exit) ≡ wordsLeft (length (now (records .entry))) (addTestCase (now (name .entry)) outcome (record { builder = b; words = now (records .entry); text = now (text .entry) })) ⌝ }
-    ensures { λ r. ⌜ now (text .exit) ≡ textLeft (length (now (text .entry))) (addTestCase (now (name .entry)) outcome (record { builder = b; words = now (records .entry); text = now (text .entry) })) ⌝ }
+    ensures { λ r. ⌜ now (records .exit)
+        ≡ wordsLeft (length (now (records .entry))) (addTestCase (now (name .entry)) outcome (record { builder = b; words = now (records .entry); text = now (text .entry) })) ⌝ }
+    ensures { λ r.
+        ⌜ now (text .exit) ≡ textLeft (length (now (text .entry))) (addTestCase (now (name .entry)) outcome (record { builder = b; words = now (records .entry); text = now (text .entry) })) ⌝ }
 {
     let step = open_case(b, records, outcome);
     let named = put_name(step, records, text, name);
@@ -108,8 +111,10 @@ pub fn add_property(
     value: &[u8],
 ) -> Built
     ensures { λ r. ⌜ r ≡ builtFrom (addProperty holder (now (name .entry)) (now (value .entry)) (record { builder = b; words = now (records .entry); text = now (text .entry) })) ⌝ }
-    ensures { λ r. ⌜ now (records .exit) ≡ wordsLeft (length (now (records .entry))) (addProperty holder (now (name .entry)) (now (value .entry)) (record { builder = b; words = now (records .entry); text = now (text .entry) })) ⌝ }
-    ensures { λ r. ⌜ now (text .exit) ≡ textLeft (length (now (text .entry))) (addProperty holder (now (name .entry)) (now (value .entry)) (record { builder = b; words = now (records .entry); text = now (text .entry) })) ⌝ }
+    ensures { λ r. ⌜ now (records .exit)
+        ≡ wordsLeft (length (now (records .entry))) (addProperty holder (now (name .entry)) (now (value .entry)) (record { builder = b; words = now (records .entry); text = now (text .entry) })) ⌝ }
+    ensures { λ r. ⌜ now (text .exit)
+        ≡ textLeft (length (now (text .entry))) (addProperty holder (now (name .entry)) (now (value .entry)) (record { builder = b; words = now (records .entry); text = now (text .entry) })) ⌝ }
 {
     let step = add_pair(b, records, text, property_kind(holder), name, value);
     settle(step, records, text)
@@ -125,8 +130,10 @@ pub fn add_extra(
     value: &[u8],
 ) -> Built
     ensures { λ r. ⌜ r ≡ builtFrom (addExtra holder (now (key .entry)) (now (value .entry)) (record { builder = b; words = now (records .entry); text = now (text .entry) })) ⌝ }
-    ensures { λ r. ⌜ now (records .exit) ≡ wordsLeft (length (now (records .entry))) (addExtra holder (now (key .entry)) (now (value .entry)) (record { builder = b; words = now (records .entry); text = now (text .entry) })) ⌝ }
-    ensures { λ r. ⌜ now (text .exit) ≡ textLeft (length (now (text .entry))) (addExtra holder (now (key .entry)) (now (value .entry)) (record { builder = b; words = now (records .entry); text = now (text .entry) })) ⌝ }
+    ensures { λ r. ⌜ now (records .exit)
+        ≡ wordsLeft (length (now (records .entry))) (addExtra holder (now (key .entry)) (now (value .entry)) (record { builder = b; words = now (records .entry); text = now (text .entry) })) ⌝ }
+    ensures { λ r. ⌜ now (text .exit)
+        ≡ textLeft (length (now (text .entry))) (addExtra holder (now (key .entry)) (now (value .entry)) (record { builder = b; words = now (records .entry); text = now (text .entry) })) ⌝ }
 {
     let step = add_pair(b, records, text, extra_kind(holder), key, value);
     settle(step, records, text)

@@ -39,7 +39,11 @@ fn write_field(
     s: &[u8],
     lossy: bool,
 ) -> Step
-    ensures { λ r. ⌜ draftOf r (now (records .exit)) (now (text .exit)) ≡ cond lossy (setOutputLossy element field (now (s .entry)) (record { builder = b; words = now (records .entry); text = now (text .entry) })) (setText element field (now (s .entry)) (record { builder = b; words = now (records .entry); text = now (text .entry) })) ⌝ }
+    ensures { λ r. ⌜ draftOf r (now (records .exit)) (now (text .exit)) ≡ cond lossy (setOutputLossy element field (now (s .entry)) (record {
+      builder = b;
+      words = now (records .entry);
+      text = now (text .entry);
+    })) (setText element field (now (s .entry)) (record { builder = b; words = now (records .entry); text = now (text .entry) })) ⌝ }
 {
     let i = mark_of(b, element);
     if !((is_output(field) | !lossy) & has_text(kind_at(records, i), field)) {
@@ -67,8 +71,10 @@ pub fn set_text(
     s: &[u8],
 ) -> Built
     ensures { λ r. ⌜ r ≡ builtFrom (setText element field (now (s .entry)) (record { builder = b; words = now (records .entry); text = now (text .entry) })) ⌝ }
-    ensures { λ r. ⌜ now (records .exit) ≡ wordsLeft (length (now (records .entry))) (setText element field (now (s .entry)) (record { builder = b; words = now (records .entry); text = now (text .entry) })) ⌝ }
-    ensures { λ r. ⌜ now (text .exit) ≡ textLeft (length (now (text .entry))) (setText element field (now (s .entry)) (record { builder = b; words = now (records .entry); text = now (text .entry) })) ⌝ }
+    ensures { λ r.
+        ⌜ now (records .exit) ≡ wordsLeft (length (now (records .entry))) (setText element field (now (s .entry)) (record { builder = b; words = now (records .entry); text = now (text .entry) })) ⌝ }
+    ensures { λ r.
+        ⌜ now (text .exit) ≡ textLeft (length (now (text .entry))) (setText element field (now (s .entry)) (record { builder = b; words = now (records .entry); text = now (text .entry) })) ⌝ }
 {
     let step = write_field(b, records, text, element, field, s, false);
     settle(step, records, text)
@@ -84,8 +90,10 @@ pub fn set_output_lossy(
     s: &[u8],
 ) -> Built
     ensures { λ r. ⌜ r ≡ builtFrom (setOutputLossy element field (now (s .entry)) (record { builder = b; words = now (records .entry); text = now (text .entry) })) ⌝ }
-    ensures { λ r. ⌜ now (records .exit) ≡ wordsLeft (length (now (records .entry))) (setOutputLossy element field (now (s .entry)) (record { builder = b; words = now (records .entry); text = now (text .entry) })) ⌝ }
-    ensures { λ r. ⌜ now (text .exit) ≡ textLeft (length (now (text .entry))) (setOutputLossy element field (now (s .entry)) (record { builder = b; words = now (records .entry); text = now (text .entry) })) ⌝ }
+    ensures { λ r. ⌜ now (records .exit)
+        ≡ wordsLeft (length (now (records .entry))) (setOutputLossy element field (now (s .entry)) (record { builder = b; words = now (records .entry); text = now (text .entry) })) ⌝ }
+    ensures { λ r.
+        ⌜ now (text .exit) ≡ textLeft (length (now (text .entry))) (setOutputLossy element field (now (s .entry)) (record { builder = b; words = now (records .entry); text = now (text .entry) })) ⌝ }
 {
     let step = write_field(b, records, text, element, field, s, true);
     settle(step, records, text)
@@ -117,7 +125,8 @@ pub fn set_time(
     nanos: u32,
 ) -> Built
     ensures { λ r. ⌜ r ≡ builtFrom (setTime element seconds nanos (record { builder = b; words = now (records .entry); text = now (text .entry) })) ⌝ }
-    ensures { λ r. ⌜ now (records .exit) ≡ wordsLeft (length (now (records .entry))) (setTime element seconds nanos (record { builder = b; words = now (records .entry); text = now (text .entry) })) ⌝ }
+    ensures { λ r.
+        ⌜ now (records .exit) ≡ wordsLeft (length (now (records .entry))) (setTime element seconds nanos (record { builder = b; words = now (records .entry); text = now (text .entry) })) ⌝ }
     ensures { λ r. ⌜ now (text .exit) ≡ textLeft (length (now (text .entry))) (setTime element seconds nanos (record { builder = b; words = now (records .entry); text = now (text .entry) })) ⌝ }
 {
     let step = clock(b, records, mark_of(b, element), seconds, nanos);

@@ -5,7 +5,8 @@ use Rattle.digits.specs.Digits.{digit, isNumber, numberIn, lastDigits, p
 use Rattle.digits.specs.declared.Number.the-variants.{Is, Not}
 
 -- `255`, `256`, `0255`, nothing
-limit : (numberIn 10 255 (0x32 ∷ 0x35 ∷ 0x35 ∷ []) ≡ Is 255) × (numberIn 10 255 (0x32 ∷ 0x35 ∷ 0x36 ∷ []) ≡ Not) × (numberIn 10 255 (0x30 ∷ 0x32 ∷ 0x35 ∷ 0x35 ∷ []) ≡ Is 255) × (numberIn 10 255 [] ≡ Not)
+limit : (numberIn 10 255 (0x32 ∷ 0x35 ∷ 0x35 ∷ []) ≡ Is 255) × (numberIn 10 255 (0x32 ∷ 0x35 ∷ 0x36 ∷ []) ≡ Not)
+    × (numberIn 10 255 (0x30 ∷ 0x32 ∷ 0x35 ∷ 0x35 ∷ []) ≡ Is 255) × (numberIn 10 255 [] ≡ Not)
 unfolding numberIn isNumber digit
 limit = (refl, refl, refl, refl)
 

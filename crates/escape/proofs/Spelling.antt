@@ -40,7 +40,8 @@ module _ (table : ℕ → List ℕ) where
   spelled-all P each (b ∷ s) x m = ⊎-elim (each b x) (spelled-all P each s x) (List·Memᴰ·append-cases (table b) m)
 
   -- a text is known by its spelling where a list can't be taken for another one
-  pub spelled-injective : ((b : ℕ) (x : List ℕ) → table b ++ x ≡ [] → ⊥) → ((a b : ℕ) (x y : List ℕ) → table a ++ x ≡ table b ++ y → (a ≡ b) × (x ≡ y)) → (s t : List ℕ) → spelled table s ≡ spelled table t → s ≡ t
+  pub spelled-injective : ((b : ℕ) (x : List ℕ) → table b ++ x ≡ [] → ⊥)
+      → ((a b : ℕ) (x y : List ℕ) → table a ++ x ≡ table b ++ y → (a ≡ b) × (x ≡ y)) → (s t : List ℕ) → spelled table s ≡ spelled table t → s ≡ t
   spelled-injective some told [] [] e = refl
   spelled-injective some told [] (b ∷ t) e = absurd (some b (spelled table t) (sym e))
   spelled-injective some told (a ∷ s) [] e = absurd (some a (spelled table s) e)

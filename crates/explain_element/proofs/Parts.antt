@@ -49,7 +49,8 @@ module _ (events attributes source : List ℕ) (kind index event : ℕ) where
   abbrev front : List ℕ → List ℕ
   front l = named kindNames kind ++ (indexText kind index ++ l)
 
-  whole : (s t : Bool) → hasName kind ≡ s → eqb kind attribute ≡ t → front (cond s (bracketed (nameAt events attributes source event)) [] ++ cond t (named attributeNames index) []) ≡ elementText events attributes source e
+  whole : (s t : Bool) → hasName kind ≡ s → eqb kind attribute ≡ t
+      → front (cond s (bracketed (nameAt events attributes source event)) [] ++ cond t (named attributeNames index) []) ≡ elementText events attributes source e
   unfolding elementText
   whole s t p q =
       ap (λ (b : Bool). front (cond b (bracketed (nameAt events attributes source event)) [] ++ cond t (named attributeNames index) [])) (sym p)

@@ -15,11 +15,14 @@ use Rattle.explain_name.specs.inside.Found.{namedFrom}
 
 module _ (attributes source : List ℕ) where
   -- the bytes that words k and l of attribute j tell of, where the words are lent from there on
-  pub lent-part : (j k l : ℕ) → part source (getD (take (length attributes - j * 5) (drop (j * 5) attributes)) k 0) (getD (take (length attributes - j * 5) (drop (j * 5) attributes)) l 0) ≡ part source (word attributes j k) (word attributes j l)
+  pub lent-part : (j k l : ℕ) → part source (getD (take (length attributes - j * 5) (drop (j * 5) attributes)) k 0) (getD (take (length attributes - j * 5) (drop (j * 5) attributes)) l 0)
+      ≡ part source (word attributes j k) (word attributes j l)
   lent-part j k l = ap (λ (w : List ℕ). part source (getD w k 0) (getD w l 0)) (rest-part attributes (j * 5)) ∙ sym (part-at attributes j source k l)
 
   -- what the code finds of a key
-  pub lent-key : (j : ℕ) {r t : Bool} → r ≡ sameBytes (part source (getD (take (length attributes - j * 5) (drop (j * 5) attributes)) 1 0) (getD (take (length attributes - j * 5) (drop (j * 5) attributes)) 2 0)) (bytes "name") → r ≡ t → sameBytes (keyAt attributes source j) (bytes "name") ≡ t
+  pub lent-key : (j : ℕ) {r t : Bool}
+      → r ≡ sameBytes (part source (getD (take (length attributes - j * 5) (drop (j * 5) attributes)) 1 0) (getD (take (length attributes - j * 5) (drop (j * 5) attributes)) 2 0)) (bytes "name")
+      → r ≡ t → sameBytes (keyAt attributes source j) (bytes "name") ≡ t
   lent-key j p q = ap (λ (l : List ℕ). sameBytes l (bytes "name")) (sym (lent-part j 1 2)) ∙ sym p ∙ q
 
   -- behind the table all words are 0

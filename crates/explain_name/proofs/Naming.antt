@@ -25,7 +25,8 @@ module _ (attributes source : List ℕ) where
   named-found zero j h = absurd (omega arith)
   named-found (suc n) j h = go (sameBytes (keyAt attributes source j) (bytes "name")) (named-found n (j + 1)) h
     where
-      go : (t : Bool) → (namedFrom attributes source n (j + 1) < j + 1 + n → nameIn (attributesFrom attributes source n (j + 1)) ≡ textOf (valueAt attributes source (namedFrom attributes source n (j + 1))))
+      go : (t : Bool)
+          → (namedFrom attributes source n (j + 1) < j + 1 + n → nameIn (attributesFrom attributes source n (j + 1)) ≡ textOf (valueAt attributes source (namedFrom attributes source n (j + 1))))
           → cond t j (namedFrom attributes source n (j + 1)) < j + suc n
           → cond t (textOf (valueAt attributes source j)) (nameIn (attributesFrom attributes source n (j + 1))) ≡ textOf (valueAt attributes source (cond t j (namedFrom attributes source n (j + 1))))
       go true ih l = refl
@@ -43,7 +44,8 @@ module _ (attributes source : List ℕ) where
       go false ih l = ih (omega arith)
 
 -- ---- by the kind of the event
-no-tag : (a b c d e f g : Bool) (text : List ℕ) → nameOf (cond a (Tag End text 0 []) (cond b (Piece Text text) (cond c (Piece CData text) (cond d (Piece Ref text) (cond e (Piece Other text) (cond f Eof (cond g Fault (Piece Indent (10 ∷ []))))))))) ≡ none
+no-tag : (a b c d e f g : Bool) (text : List ℕ) → nameOf (cond a (Tag End text 0 [])
+    (cond b (Piece Text text) (cond c (Piece CData text) (cond d (Piece Ref text) (cond e (Piece Other text) (cond f Eof (cond g Fault (Piece Indent (10 ∷ []))))))))) ≡ none
 no-tag true b c d e f g text = refl
 no-tag false true c d e f g text = refl
 no-tag false false true d e f g text = refl
@@ -94,7 +96,8 @@ module _ (events attributes source : List ℕ) (i : ℕ) where
     unfolding nameAt eventAt
     in-range = go (eqb i nowhere) (leb (countOf events) i) refl (ap (λ (n : ℕ). eqb i nowhere || ltb 1 n) (sym p) ∙ e)
       where
-        go : (s t : Bool) → leb (countOf events) i ≡ t → (s || ltb 1 (cond t kind.eof (kindAt events i))) ≡ false → cond (s || t) none (nameOf (eventAt events attributes source i)) ≡ nameIn (attributesFrom attributes source (end - first) first)
+        go : (s t : Bool) → leb (countOf events) i ≡ t → (s || ltb 1 (cond t kind.eof (kindAt events i))) ≡ false
+            → cond (s || t) none (nameOf (eventAt events attributes source i)) ≡ nameIn (attributesFrom attributes source (end - first) first)
         go true t q e = absurd (true≢false e)
         go false true q e = absurd (true≢false e)
         go false false q e =

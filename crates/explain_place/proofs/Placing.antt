@@ -20,4 +20,5 @@ module _ (event attribute : ℕ) where
 
     pub event-attribute : (attribute ≡ nowhere → ⊥) → bytes " (event " ++ (decimal event ++ (bytes ", attribute " ++ (decimal attribute ++ bytes ")"))) ≡ placeText event attribute
     unfolding placeText
-    event-attribute e = sym (rw (ne-eqb event nowhere h, ne-eqb attribute nowhere e) (ap (λ (l : List ℕ). bytes " (event " ++ (decimal event ++ l)) (append-assoc (bytes ", attribute ") (decimal attribute) (bytes ")"))))
+    event-attribute e = sym (rw (ne-eqb event nowhere h, ne-eqb attribute nowhere e)
+        (ap (λ (l : List ℕ). bytes " (event " ++ (decimal event ++ l)) (append-assoc (bytes ", attribute ") (decimal attribute) (bytes ")"))))

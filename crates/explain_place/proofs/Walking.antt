@@ -87,9 +87,11 @@ module _ (events attributes source : List ℕ) where
     rest-next h =
         ap (elementsText events attributes source (markAt i)) (next es n m i h)
         ∙ sym (append-assoc (markAt i) (elementText events attributes source (getD es i filler)) (elementsText events attributes source (bytes "/") (drop (i + 1) (take n (six es)))))
-        ∙ ap (λ (l : List ℕ). (markAt i ++ elementText events attributes source (getD es i filler)) ++ elementsText events attributes source l (drop (i + 1) (take n (six es)))) (other-mark (i + 1) (λ z. omega arith))
+        ∙ ap (λ (l : List ℕ). (markAt i ++ elementText events attributes source (getD es i filler)) ++ elementsText events attributes source l (drop (i + 1) (take n (six es))))
+        (other-mark (i + 1) (λ z. omega arith))
 
-    pub walking-more : {out′ : List ℕ} {k′ : Stored} → i < n → Puts (filled k out) (markAt i ++ elementText events attributes source (getD es i filler)) (filled k′ out′) → length out′ ≡ length out → Walking es n out₀ k₀ out′ (i + 1) k′
+    pub walking-more : {out′ : List ℕ} {k′ : Stored} → i < n → Puts (filled k out) (markAt i ++ elementText events attributes source (getD es i filler)) (filled k′ out′)
+        → length out′ ≡ length out → Walking es n out₀ k₀ out′ (i + 1) k′
     walking-more h q l = record { same = l ∙ g .same; coming = coming-puts (coming-on (g .coming) (rest-next h)) q }
 
     rest-over : n ≤ i → rest es n i ≡ []

@@ -50,7 +50,8 @@ attributes = (0 ∷ 27 ∷ 4 ∷ 31 ∷ 3 ∷ []) ++ (zeros 150 ++ (0 ∷ 34 ∷
 
 bad-time : lineOf events attributes source (refusal cause.BadTime (root ∷ element 2 0 1 ∷ element 3 3 nowhere ∷ element 16 5 nowhere ∷ []) 12 31)
     ≡ bytes "refused 5 at testsuites/testsuite[0](\"lab\")/testcase[3]/@time: a time must be digits with at most nine behind the point, under 8388608 seconds (event 12, attribute 31)\n"
-unfolding lineOf pathText elementsText elementText kindNames attributeNames keys indexText nameAt eventAt eventOf attributesFrom sameBytes need low high letter listed placeText sentence digit places decimal
+unfolding lineOf pathText elementsText elementText kindNames attributeNames keys indexText nameAt eventAt
+    eventOf attributesFrom sameBytes need low high letter listed placeText sentence digit places decimal
 bad-time = refl
 
 -- ---- no events at all: an empty path
@@ -59,7 +60,8 @@ unfolding lineOf pathText elementsText placeText sentence digit places decimal
 no-report = refl
 
 -- ---- a suite before it is named
-unnamed : lineOf events attributes source (refusal cause.MissingAttribute (root ∷ element 2 0 nowhere ∷ element 16 1 nowhere ∷ []) 1 nowhere) ≡ bytes "refused 7 at testsuites/testsuite[0]/@name: this attribute is missing (event 1)\n"
+unnamed : lineOf events attributes source (refusal cause.MissingAttribute (root ∷ element 2 0 nowhere ∷ element 16 1 nowhere ∷ []) 1 nowhere)
+    ≡ bytes "refused 7 at testsuites/testsuite[0]/@name: this attribute is missing (event 1)\n"
 unfolding lineOf pathText elementsText elementText kindNames attributeNames keys indexText nameAt placeText sentence digit places decimal
 unnamed = refl
 
@@ -74,7 +76,8 @@ nameOf value = elementText (1 ∷ 0 ∷ 0 ∷ 0 ∷ 2 ∷ []) (0 ∷ 4 ∷ 1 ∷
 
 -- decoded, and escaped as in the listing
 escapes : nameOf (bytes "a&quot;&#10;b\\") ≡ bytes "testcase[7](\"a\\\"\\nb\\\\\")"
-unfolding elementText kindNames indexText nameAt eventAt eventOf attributesFrom sameBytes need low high refAt isEntity entityChar entities entityChars codeFrom isCharRef number base digitsIn isNumber xmlChar encode letter listed digit places decimal
+unfolding elementText kindNames indexText nameAt eventAt eventOf attributesFrom sameBytes need low high refAt isEntity entityChar
+    entities entityChars codeFrom isCharRef number base digitsIn isNumber xmlChar encode letter listed digit places decimal
 escapes = refl
 
 -- filtered
@@ -89,7 +92,8 @@ no-value = (refl, refl)
 
 -- ---- what no refusal of reading holds
 -- kinds and attributes that aren't there
-unknown : lineOf [] [] [] (refusal cause.XmlFault (element 0 0 0 ∷ element 13 0 0 ∷ element 17 5 0 ∷ element 16 0 0 ∷ element 16 16 0 ∷ []) 4 nowhere) ≡ bytes "refused 1 at ?/?/?/@?/@?: the XML is broken here (event 4)\n"
+unknown : lineOf [] [] [] (refusal cause.XmlFault (element 0 0 0 ∷ element 13 0 0 ∷ element 17 5 0 ∷ element 16 0 0 ∷ element 16 16 0 ∷ []) 4 nowhere)
+    ≡ bytes "refused 1 at ?/?/?/@?/@?: the XML is broken here (event 4)\n"
 unfolding lineOf pathText elementsText elementText kindNames attributeNames keys indexText placeText sentence digit places decimal
 unknown = refl
 
@@ -105,7 +109,8 @@ unfolding lineOf pathText elementsText elementText kindNames indexText placeText
 nine = refl
 
 -- ---- the area: the line has 45 bytes, of which one is the newline
-fits : (explained [] [] [] (refusalFrom (late cause.OutputFull)) 45 ≡ accepted 45) × (explanationIn [] [] [] (refusalFrom (late cause.OutputFull)) 46 ≡ bytes "refused 16: the area for output is too short\n" ++ (0 ∷ []))
+fits : (explained [] [] [] (refusalFrom (late cause.OutputFull)) 45 ≡ accepted 45)
+    × (explanationIn [] [] [] (refusalFrom (late cause.OutputFull)) 46 ≡ bytes "refused 16: the area for output is too short\n" ++ (0 ∷ []))
 unfolding explanationIn lineAnswer lineOf pathText elementsText placeText sentence digit places decimal
 fits = (refl, refl)
 

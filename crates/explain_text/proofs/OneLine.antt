@@ -10,7 +10,8 @@ use lib.Dec.{eqb}
 use lib.ListN.{length}
 use Rattle.refusal.specs.Refusal.{nowhere, number}
 use Rattle.refusal.specs.declared.Cause.{Cause}
-use Rattle.refusal.specs.declared.Cause.the-variants.{XmlFault, EofInSkip, NotUtf8, BadInteger, BadTimestamp, BadTime, BadUuid, MissingAttribute, MissingReport, EofInElement, StatusRule, UnknownEntity, FaultyAttribute, RepeatedKey, BadReference, BadTable, RecordsSpent, TextFull, ScratchFull, NotLayout, OutputFull, CountLimit}
+use Rattle.refusal.specs.declared.Cause.the-variants.{XmlFault, EofInSkip, NotUtf8, BadInteger, BadTimestamp, BadTime, BadUuid, MissingAttribute, MissingReport, EofInElement, StatusRule}
+use Rattle.refusal.specs.declared.Cause.the-variants.{UnknownEntity, FaultyAttribute, RepeatedKey, BadReference, BadTable, RecordsSpent, TextFull, ScratchFull, NotLayout, OutputFull, CountLimit}
 use Rattle.refusal.specs.declared.PathElement.{PathElement}
 use Rattle.refusal.specs.declared.Refusal.{Refusal}
 use Rattle.area.specs.Area.{firstAt}
@@ -19,7 +20,8 @@ use Rattle.names.specs.Keys.{keys}
 use Rattle.digits.specs.Digits.{lastDigits, places, decimal}
 use Rattle.escape.specs.Escape.{marked, letter, listed, escaped}
 use Rattle.explain_text.specs.Sentences.{sentence}
-use Rattle.explain_text.specs.Explanation.{kindNames, attributeNames, named, attribute, hasName, hasIndex, indexText, bracketed, attributeText, elementsOf, attributeShown, placeText, nameAt, nameText, elementText, elementsText, pathText, lineOf}
+use Rattle.explain_text.specs.Explanation.{kindNames, attributeNames, named, attribute, hasName, hasIndex, indexText, bracketed, attributeText}
+use Rattle.explain_text.specs.Explanation.{elementsOf, attributeShown, placeText, nameAt, nameText, elementText, elementsText, pathText, lineOf}
 
 -- ---- texts without a newline
 abbrev flat : List ℕ → Bool
@@ -125,7 +127,8 @@ flat-attribute kind index = choose (eqb kind attribute) (named attributeNames in
 
 flat-index : (kind index : ℕ) → flat (indexText kind index) ≡ true
 unfolding indexText
-flat-index kind index = choose (hasIndex kind) (bytes "[" ++ (decimal index ++ bytes "]")) (join (bytes "[") (decimal index ++ bytes "]") refl (join (decimal index) (bytes "]") (flat-decimal index) refl))
+flat-index kind index =
+    choose (hasIndex kind) (bytes "[" ++ (decimal index ++ bytes "]")) (join (bytes "[") (decimal index ++ bytes "]") refl (join (decimal index) (bytes "]") (flat-decimal index) refl))
 
 flat-bracketed : (name : Option (List ℕ)) → flat (bracketed name) ≡ true
 flat-bracketed none = refl
@@ -145,7 +148,8 @@ module _ (events attributes source : List ℕ) where
   flat-element e =
       join (named kindNames (e .kind)) (indexText (e .kind) (e .index) ++ (nameText events attributes source (e .kind) (e .event) ++ attributeText (e .kind) (e .index))) (flat-kind (e .kind))
       (join (indexText (e .kind) (e .index)) (nameText events attributes source (e .kind) (e .event) ++ attributeText (e .kind) (e .index)) (flat-index (e .kind) (e .index))
-      (join (nameText events attributes source (e .kind) (e .event)) (attributeText (e .kind) (e .index)) (choose (hasName (e .kind)) (bracketed (nameAt events attributes source (e .event))) (flat-bracketed (nameAt events attributes source (e .event)))) (flat-attribute (e .kind) (e .index))))
+      (join (nameText events attributes source (e .kind) (e .event)) (attributeText (e .kind) (e .index))
+      (choose (hasName (e .kind)) (bracketed (nameAt events attributes source (e .event))) (flat-bracketed (nameAt events attributes source (e .event)))) (flat-attribute (e .kind) (e .index))))
 
   flat-elements : (mark : List ℕ) (es : List PathElement) → flat mark ≡ true → flat (elementsText events attributes source mark es) ≡ true
   unfolding elementsText

@@ -10,7 +10,8 @@ parts : (part 1 2 (7 ∷ 8 ∷ 9 ∷ 10 ∷ []) ≡ 8 ∷ 9 ∷ []) × (part 1 4
 parts = (refl, refl, refl)
 
 -- `59`, `60`, `5:`
-fields : (fieldOf 10 59 (0x35 ∷ 0x39 ∷ []) ≡ record { good = true; number = 59 }) × (fieldOf 10 59 (0x36 ∷ 0x30 ∷ []) ≡ record { good = false; number = 0 }) × (fieldOf 10 59 (0x35 ∷ 0x3A ∷ []) ≡ record { good = false; number = 0 })
+fields : (fieldOf 10 59 (0x35 ∷ 0x39 ∷ []) ≡ record { good = true; number = 59 })
+    × (fieldOf 10 59 (0x36 ∷ 0x30 ∷ []) ≡ record { good = false; number = 0 }) × (fieldOf 10 59 (0x35 ∷ 0x3A ∷ []) ≡ record { good = false; number = 0 })
 unfolding numberIn isNumber digit
 fields = (refl, refl, refl)
 

@@ -22,7 +22,8 @@ limit : (integerOf (bytes "18446744073709551615") ≡ gives 18446744073709551615
 unfolding unsigned isNumber digit need low high
 limit = (refl, refl)
 
-signs : (integerOf (bytes "++5") ≡ refuses cause.BadInteger) × (integerOf (bytes "+") ≡ refuses cause.BadInteger) × (integerOf [] ≡ refuses cause.BadInteger) × (integerOf (bytes "-5") ≡ refuses cause.BadInteger)
+signs : (integerOf (bytes "++5") ≡ refuses cause.BadInteger) × (integerOf (bytes "+") ≡ refuses cause.BadInteger)
+    × (integerOf [] ≡ refuses cause.BadInteger) × (integerOf (bytes "-5") ≡ refuses cause.BadInteger)
 unfolding unsigned isNumber digit need low high
 signs = (refl, refl, refl, refl)
 

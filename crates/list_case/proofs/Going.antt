@@ -26,7 +26,8 @@ module _ (shown : List (List ℕ) → List ℕ) where
   going-start out words k = record { fits = omega arith; same = refl; coming = coming-start (filled k out) (shown (recordsIn words)) }
 
   module _ {out₀ words : List ℕ} {k₀ : Stored} {out : List ℕ} {at : ℕ} {k : Stored} (g : Going out₀ words k₀ out at k) where
-    pub going-stop : (a b : Bool) → shown [] ≡ [] → (a && b) ≡ false → a ≡ not (isFull k) → b ≡ stands (take (length words - at) (drop at words)) → Puts (filled k₀ out₀) (shown (recordsIn words)) (filled k out)
+    pub going-stop : (a b : Bool) → shown [] ≡ [] → (a && b) ≡ false → a ≡ not (isFull k)
+        → b ≡ stands (take (length words - at) (drop at words)) → Puts (filled k₀ out₀) (shown (recordsIn words)) (filled k out)
     going-stop a b none e p q =
         coming-stop k (stands (take (length words - at) (drop at words))) (g .coming)
         (ap (λ (x : Bool). x && stands (take (length words - at) (drop at words))) (sym p) ∙ ap (λ (x : Bool). a && x) (sym q) ∙ e)
@@ -48,7 +49,8 @@ module _ (shown : List (List ℕ) → List ℕ) where
       pub going-pass : shown (here ∷ rest) ≡ shown rest → Going out₀ words k₀ out (at + 32) k
       going-pass e = record { fits = stands-room words at s; same = g .same; coming = coming-on (g .coming) (next ∙ e) }
 
-      pub going-puts : {out′ : List ℕ} {k′ : Stored} (f : List ℕ) → shown (here ∷ rest) ≡ f ++ shown rest → Puts (filled k out) f (filled k′ out′) → length out′ ≡ length out → Going out₀ words k₀ out′ (at + 32) k′
+      pub going-puts : {out′ : List ℕ} {k′ : Stored} (f : List ℕ) → shown (here ∷ rest) ≡ f ++ shown rest
+          → Puts (filled k out) f (filled k′ out′) → length out′ ≡ length out → Going out₀ words k₀ out′ (at + 32) k′
       going-puts f e p l = record { fits = stands-room words at s; same = l ∙ g .same; coming = coming-puts (coming-on (g .coming) (next ∙ e)) p }
 
   -- ---- a loop that looks for the record whose text is the whole
@@ -65,7 +67,8 @@ module _ (shown : List (List ℕ) → List ℕ) where
       pub seeking-pass : shown (take (at + 32 - at) (drop at words) ∷ recordsIn (drop (at + 32) words)) ≡ shown (recordsIn (drop (at + 32) words)) → Seeking out₀ words out (at + 32)
       seeking-pass e = record { fits = stands-room words at s; same = g .same; left = sym e ∙ ap shown (sym (records-here words at s)) ∙ g .left }
 
-      pub seeking-found : {f : List ℕ} (k : Stored) {t : Filled} → shown (take (at + 32 - at) (drop at words) ∷ recordsIn (drop (at + 32) words)) ≡ f → Puts (filled k out) f t → Puts (filled k out₀) (shown (recordsIn words)) t
+      pub seeking-found : {f : List ℕ} (k : Stored) {t : Filled} → shown (take (at + 32 - at) (drop at words) ∷ recordsIn (drop (at + 32) words)) ≡ f
+          → Puts (filled k out) f t → Puts (filled k out₀) (shown (recordsIn words)) t
       seeking-found k e p = rw (sym (g .same)) (other p (sym e ∙ ap shown (sym (records-here words at s)) ∙ g .left))
 
     pub seeking-none : (k : Stored) → shown [] ≡ [] → stands (take (length words - at) (drop at words)) ≡ false → Puts (filled k out₀) (shown (recordsIn words)) (filled k out)

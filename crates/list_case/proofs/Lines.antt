@@ -65,7 +65,8 @@ module _ (text r : List ℕ) (rs : List (List ℕ)) where
   unfolding caseText caseShown
   case-lined = refl
 
-  runs-lined : (st : Status) (kd : RunKind) → lined st kd (length (runsShown state)) (runTexts (runsShown state)) ≡ lined st kd (runsBy (summary rs)) (cond (isSkippedBy (summary rs)) [] (shown.runsShown rs))
+  runs-lined : (st : Status) (kd : RunKind)
+      → lined st kd (length (runsShown state)) (runTexts (runsShown state)) ≡ lined st kd (runsBy (summary rs)) (cond (isSkippedBy (summary rs)) [] (shown.runsShown rs))
   unfolding shown.runsShown summedOn
   runs-lined st kd =
       let b = isSkippedBy (summary rs) in

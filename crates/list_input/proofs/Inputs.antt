@@ -53,7 +53,8 @@ module _ (m n : ℕ) (s : List ℕ) where
     pub input-not : b ≡ false → (events attributes : List ℕ) → Answered Not events events attributes attributes
     input-not f = no-input (tested ∙ f)
 
-    pub input-is : b ≡ true → (events events′ attributes attributes′ : List ℕ) → events′ ≡ laid events (wordsOf (e * 5) (drop 12 s)) → attributes′ ≡ laid attributes (wordsOf (a * 5) (drop (12 + e * 20) s)) →
+    pub input-is : b ≡ true → (events events′ attributes attributes′ : List ℕ) → events′ ≡ laid events (wordsOf (e * 5) (drop 12 s))
+        → attributes′ ≡ laid attributes (wordsOf (a * 5) (drop (12 + e * 20) s)) →
         Answered (Is (record { events = e * 5; attributes = a * 5; at = 12 + e * 20 + a * 20; source = k })) events events′ attributes attributes′
     unfolding inputOf partsIn
     input-is f events events′ attributes attributes′ p q = (rw (tested ∙ f, he, ha, hk) refl, (rw (tested ∙ f) (p ∙ rw he refl), rw (tested ∙ f) (q ∙ rw (he, ha) refl)))
@@ -97,7 +98,8 @@ module _ (m n : ℕ) (s : List ℕ) where
       go true t = let r = bounds t in rw (is-parts t) (r .0, r .1, omega arith, r .2)
       go false t = rw (not-parts t) tt
 
-  pub parts-found : (events attributes : List ℕ) → length events ≡ m → length attributes ≡ n → foundOf (partsIn m n s) (eventsLeft (inputOf m n s) events) (attributesLeft (inputOf m n s) attributes) s ≡ inputOf m n s
+  pub parts-found : (events attributes : List ℕ) → length events ≡ m → length attributes ≡ n
+      → foundOf (partsIn m n s) (eventsLeft (inputOf m n s) events) (attributesLeft (inputOf m n s) attributes) s ≡ inputOf m n s
   parts-found events attributes p q = go (whole m n s) refl
     where
       go : (b : Bool) → whole m n s ≡ b → foundOf (partsIn m n s) (eventsLeft (inputOf m n s) events) (attributesLeft (inputOf m n s) attributes) s ≡ inputOf m n s

@@ -22,7 +22,8 @@ same-found b k o q e out n words text scratch h = rw e at h
 
 module _ (found : Found) (x : Parts) (e : found ≡ Is x) where
   pub found-is : (events attributes input : List ℕ) →
-      some (record { events = take (x .events) events; attributes = take (x .attributes) attributes; source = take (x .at + x .source - x .at) (drop (x .at) input) }) ≡ foundOf found events attributes input
+      some (record { events = take (x .events) events; attributes = take (x .attributes) attributes; source = take (x .at + x .source - x .at) (drop (x .at) input) })
+      ≡ foundOf found events attributes input
   found-is events attributes input =
       let s : x .at + x .source - x .at ≡ x .source = omega arith in
       ap (λ (n : ℕ). some (record { events = take (x .events) events; attributes = take (x .attributes) attributes; source = take n (drop (x .at) input) })) s

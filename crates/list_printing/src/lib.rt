@@ -40,11 +40,16 @@ fn print_found(
     out: &mut [u8],
 ) -> usize
     requires { ⌜ Lies found (length (now events)) (length (now attributes)) (length (now input)) ⌝ }
-    ensures out { λ _. ⌜ now (out .exit) ≡ laid (zeros (length (now (out .entry)))) (listingFor (lent (now (records .entry)) (now (text .entry)) (now (scratch .entry)) (now (out .entry))) (foundOf found (now (events .entry)) (now (attributes .entry)) (now (input .entry)))) ⌝ }
-    ensures count { λ r. ⌜ r ≡ min (length (now (out .entry))) (length (listingFor (lent (now (records .entry)) (now (text .entry)) (now (scratch .entry)) (now (out .entry))) (foundOf found (now (events .entry)) (now (attributes .entry)) (now (input .entry))))) ⌝ }
-    ensures records { λ _. ⌜ now (records .exit) ≡ areasFor (lent (now (records .entry)) (now (text .entry)) (now (scratch .entry)) (now (out .entry))) (foundOf found (now (events .entry)) (now (attributes .entry)) (now (input .entry))) .words ⌝ }
-    ensures text { λ _. ⌜ now (text .exit) ≡ areasFor (lent (now (records .entry)) (now (text .entry)) (now (scratch .entry)) (now (out .entry))) (foundOf found (now (events .entry)) (now (attributes .entry)) (now (input .entry))) .text ⌝ }
-    ensures scratch { λ _. ⌜ now (scratch .exit) ≡ areasFor (lent (now (records .entry)) (now (text .entry)) (now (scratch .entry)) (now (out .entry))) (foundOf found (now (events .entry)) (now (attributes .entry)) (now (input .entry))) .scratch ⌝ }
+    ensures out { λ _. ⌜ now (out .exit) ≡ laid (zeros (length (now (out .entry)))) (listingFor (lent (now (records .entry)) (now (text .entry)) (now (scratch .entry)) (now (out .entry)))
+        (foundOf found (now (events .entry)) (now (attributes .entry)) (now (input .entry)))) ⌝ }
+    ensures count { λ r. ⌜ r ≡ min (length (now (out .entry))) (length (listingFor (lent (now (records .entry)) (now (text .entry)) (now (scratch .entry)) (now (out .entry)))
+        (foundOf found (now (events .entry)) (now (attributes .entry)) (now (input .entry))))) ⌝ }
+    ensures records { λ _. ⌜ now (records .exit) ≡ areasFor (lent (now (records .entry)) (now (text .entry)) (now (scratch .entry)) (now (out .entry)))
+        (foundOf found (now (events .entry)) (now (attributes .entry)) (now (input .entry))) .words ⌝ }
+    ensures text { λ _. ⌜ now (text .exit) ≡ areasFor (lent (now (records .entry)) (now (text .entry)) (now (scratch .entry)) (now (out .entry)))
+        (foundOf found (now (events .entry)) (now (attributes .entry)) (now (input .entry))) .text ⌝ }
+    ensures scratch { λ _. ⌜ now (scratch .exit) ≡ areasFor (lent (now (records .entry)) (now (text .entry)) (now (scratch .entry)) (now (out .entry)))
+        (foundOf found (now (events .entry)) (now (attributes .entry)) (now (input .entry))) .scratch ⌝ }
 {
     match found {
         Found::Is(x) => {
@@ -78,13 +83,18 @@ pub fn print_listing(
     scratch: &mut [u8],
     out: &mut [u8],
 ) -> usize
-    ensures out { λ _. ⌜ now (out .exit) ≡ laid (zeros (length (now (out .entry)))) (printed (length (now (events .entry))) (length (now (attributes .entry))) (lent (now (records .entry)) (now (text .entry)) (now (scratch .entry)) (now (out .entry))) (take n (now (input .entry)))) ⌝ }
-    ensures count { λ r. ⌜ r ≡ min (length (now (out .entry))) (length (printed (length (now (events .entry))) (length (now (attributes .entry))) (lent (now (records .entry)) (now (text .entry)) (now (scratch .entry)) (now (out .entry))) (take n (now (input .entry))))) ⌝ }
+    ensures out { λ _. ⌜ now (out .exit) ≡ laid (zeros (length (now (out .entry)))) (printed (length (now (events .entry))) (length (now (attributes .entry)))
+        (lent (now (records .entry)) (now (text .entry)) (now (scratch .entry)) (now (out .entry))) (take n (now (input .entry)))) ⌝ }
+    ensures count { λ r. ⌜ r ≡ min (length (now (out .entry))) (length (printed (length (now (events .entry))) (length (now (attributes .entry)))
+        (lent (now (records .entry)) (now (text .entry)) (now (scratch .entry)) (now (out .entry))) (take n (now (input .entry))))) ⌝ }
     ensures events { λ _. ⌜ now (events .exit) ≡ zeros (length (now (events .entry))) ⌝ }
     ensures attributes { λ _. ⌜ now (attributes .exit) ≡ zeros (length (now (attributes .entry))) ⌝ }
-    ensures records { λ _. ⌜ now (records .exit) ≡ areasLeft (length (now (events .entry))) (length (now (attributes .entry))) (lent (now (records .entry)) (now (text .entry)) (now (scratch .entry)) (now (out .entry))) (take n (now (input .entry))) .words ⌝ }
-    ensures text { λ _. ⌜ now (text .exit) ≡ areasLeft (length (now (events .entry))) (length (now (attributes .entry))) (lent (now (records .entry)) (now (text .entry)) (now (scratch .entry)) (now (out .entry))) (take n (now (input .entry))) .text ⌝ }
-    ensures scratch { λ _. ⌜ now (scratch .exit) ≡ areasLeft (length (now (events .entry))) (length (now (attributes .entry))) (lent (now (records .entry)) (now (text .entry)) (now (scratch .entry)) (now (out .entry))) (take n (now (input .entry))) .scratch ⌝ }
+    ensures records { λ _. ⌜ now (records .exit) ≡ areasLeft (length (now (events .entry))) (length (now (attributes .entry)))
+        (lent (now (records .entry)) (now (text .entry)) (now (scratch .entry)) (now (out .entry))) (take n (now (input .entry))) .words ⌝ }
+    ensures text { λ _. ⌜ now (text .exit) ≡ areasLeft (length (now (events .entry))) (length (now (attributes .entry)))
+        (lent (now (records .entry)) (now (text .entry)) (now (scratch .entry)) (now (out .entry))) (take n (now (input .entry))) .text ⌝ }
+    ensures scratch { λ _. ⌜ now (scratch .exit) ≡ areasLeft (length (now (events .entry))) (length (now (attributes .entry)))
+        (lent (now (records .entry)) (now (text .entry)) (now (scratch .entry)) (now (out .entry))) (take n (now (input .entry))) .scratch ⌝ }
 {
     let given = front(input, n);
     let found = input_of(given, events, attributes);

@@ -166,12 +166,14 @@ module _ (text : List ℕ) where
   status-summed [] rs = refl
   status-summed (m ∷ ms) rs = go (eqb (kindOf m) 8) (eqb (kindOf m) 6)
     where
-      go : (a b : Bool) → statusShown (cond a (skipped (reasonOf text m)) (nonSuccess (cond b failure error) (reasonOf text m) (kindOfRuns text m rs) (map (runOf text) rs))) ≡ cond a isSkipped (cond b isFailure isError)
+      go : (a b : Bool) → statusShown (cond a (skipped (reasonOf text m)) (nonSuccess (cond b failure error) (reasonOf text m) (kindOfRuns text m rs) (map (runOf text) rs)))
+          ≡ cond a isSkipped (cond b isFailure isError)
       go true b = refl
       go false true = refl
       go false false = refl
 
-  kinds : (a f : Bool) (k : NonSuccessKind) (x : Reason) (runs : List TestRerun) → runKindShown (cond a (skipped x) (nonSuccess k x (cond f flaky rerun) runs)) ≡ cond a noKind (cond f flakyKind rerunKind)
+  kinds : (a f : Bool) (k : NonSuccessKind) (x : Reason) (runs : List TestRerun)
+      → runKindShown (cond a (skipped x) (nonSuccess k x (cond f flaky rerun) runs)) ≡ cond a noKind (cond f flakyKind rerunKind)
   kinds true f k x runs = refl
   kinds false true k x runs = refl
   kinds false false k x runs = refl
@@ -193,6 +195,7 @@ module _ (text : List ℕ) where
   runs-summed [] rs = runs-listed rs
   runs-summed (m ∷ ms) rs = go (eqb (kindOf m) 8)
     where
-      go : (a : Bool) → runsShown (cond a (skipped (reasonOf text m)) (nonSuccess (cond (eqb (kindOf m) 6) failure error) (reasonOf text m) (kindOfRuns text m rs) (map (runOf text) rs))) ≡ cond a [] (map runListed rs)
+      go : (a : Bool) → runsShown (cond a (skipped (reasonOf text m)) (nonSuccess (cond (eqb (kindOf m) 6) failure error) (reasonOf text m) (kindOfRuns text m rs) (map (runOf text) rs)))
+          ≡ cond a [] (map runListed rs)
       go true = refl
       go false = runs-listed rs

@@ -53,7 +53,8 @@ module _ (words text : List ℕ) (n : ℕ) where
         (a ∙ sym answered, ap (λ (x : Filled). x .1) l ∙ sym (output ∙ ap (λ (x : Answer ℕ). outputFor x n f) (sym a)))
 
     -- it didn't fit
-    pub short-listing : {out out′ out″ : List ℕ} → out ≡ zeros n → Puts (filled (Put 0) out) f (filled Full out′) → out″ ≡ zeros n → (refuses cause.OutputFull ≡ listingAnswer words text n) × (out″ ≡ outputOf words text n)
+    pub short-listing : {out out′ out″ : List ℕ} → out ≡ zeros n → Puts (filled (Put 0) out) f (filled Full out′)
+        → out″ ≡ zeros n → (refuses cause.OutputFull ≡ listingAnswer words text n) × (out″ ≡ outputOf words text n)
     short-listing z p y =
         let l = left-behind z p in
         let a : refuses cause.OutputFull ≡ placing cause.OutputFull n f = ap (λ (x : Filled). x .0) l in

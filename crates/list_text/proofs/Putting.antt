@@ -79,7 +79,8 @@ module _ (k : ℕ) (out : List ℕ) where
           ∙ append-assoc (take k out) f (laid rest g)
           ∙ ap (λ (x : List ℕ). take k out ++ x) (sym (laid-append (drop k out) f g dd))
 
-      answer-then : cond (leb (length g) (length with-f - (k + length f))) (gives (k + length f + length g)) (refuses cause.OutputFull) ≡ cond (leb (length (f ++ g)) room) (gives (k + length (f ++ g))) (refuses cause.OutputFull)
+      answer-then : cond (leb (length g) (length with-f - (k + length f))) (gives (k + length f + length g)) (refuses cause.OutputFull)
+          ≡ cond (leb (length (f ++ g)) room) (gives (k + length (f ++ g))) (refuses cause.OutputFull)
       answer-then =
           let m : length (f ++ g) ≡ length f + length g = length-append f g in
           let w : k + length f + length g ≡ k + length (f ++ g) = omega arith in
@@ -176,7 +177,8 @@ full-stays out t e = rw e (puts-full out t)
 abbrev lent : List ℕ → ℕ → List ℕ
 lent out from = take (length out - from) (drop from out)
 
-module _ (r : Stored) (out t ys : List ℕ) (used from : ℕ) (e : from ≡ min used (length out)) (w : ys ≡ laid (lent out from) t) (a : storedAnswer cause.OutputFull r ≡ placing cause.OutputFull (length (lent out from)) t) where
+module _ (r : Stored) (out t ys : List ℕ) (used from : ℕ) (e : from ≡ min used (length out)) (w : ys ≡ laid (lent out from) t)
+    (a : storedAnswer cause.OutputFull r ≡ placing cause.OutputFull (length (lent out from)) t) where
   back : putMid from (length out - from) out ys ≡ take from out ++ laid (drop from out) t
   back = rest-back out from ys ∙ ap (λ (z : List ℕ). take from out ++ z) (w ∙ ap (λ (z : List ℕ). laid z t) (rest-part out from))
 

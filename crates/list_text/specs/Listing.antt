@@ -10,7 +10,8 @@ use Rattle.names.specs.Bytes.{bytes}
 use Rattle.digits.specs.Digits.{decimal}
 use Rattle.time_text.specs.Written.{writtenTime}
 use Rattle.escape.specs.Escape.{escaped}
-use Rattle.tree_report.specs.Report.{Text, Duration, Counts, NonSuccessKind, failure, error, FlakyOrRerun, flaky, rerun, TestRerun, TestCaseStatus, success, nonSuccess, skipped, TestCase, TestSuite, Report}
+use Rattle.tree_report.specs.Report.{Text, Duration, Counts, NonSuccessKind, failure, error, FlakyOrRerun, flaky, rerun}
+use Rattle.tree_report.specs.Report.{TestRerun, TestCaseStatus, success, nonSuccess, skipped, TestCase, TestSuite, Report}
 use Rattle.tree_report.specs.ReportOf.{reportOf}
 use Rattle.tree_report.specs.Layout.{layout}
 use Rattle.refusal.specs.Refusal.{Outcome, accepted, refused, late}

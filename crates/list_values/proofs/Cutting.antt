@@ -15,7 +15,8 @@ take-least (x ∷ l) zero = rw (min-zero (suc (length l))) refl
 take-least (x ∷ l) (suc n) = rw (suc-min-suc (length l) n) (ap (λ (r : List ℕ). x ∷ r) (take-least l n))
 
 -- a text of the text area, cut at the area's end
-pub part-cut : (text : List ℕ) (start len from to : ℕ) → from ≡ min start (length text) → to ≡ min len (length (take (length text - from) (drop from text))) → take to (take (length text - from) (drop from text)) ≡ take len (drop start text)
+pub part-cut : (text : List ℕ) (start len from to : ℕ) → from ≡ min start (length text) → to ≡ min len (length (take (length text - from) (drop from text)))
+    → take to (take (length text - from) (drop from text)) ≡ take len (drop start text)
 part-cut text start len from to e f =
     let p : take (length text - from) (drop from text) ≡ drop from text = rest-part text from in
     let q : drop from text ≡ drop start text = (ap (λ (n : ℕ). drop n text) e ∙ go (decLe start (length text))) in

@@ -12,10 +12,12 @@ use Rattle.lister.specs.declared.Listing.{Listing}
 use Rattle.lister.specs.Answer.{listingFrom}
 
 module _ (words text : List ℕ) (n : ℕ) {out : List ℕ} where
-  pub refused-whole : {r : Listing} {c : Cause} → r ≡ listingFrom (refused (late c)) → (refuses c ≡ listingAnswer words text n) × (out ≡ outputOf words text n) → (r ≡ listingFrom (listed words text n)) × (out ≡ outputOf words text n)
+  pub refused-whole : {r : Listing} {c : Cause} → r ≡ listingFrom (refused (late c))
+      → (refuses c ≡ listingAnswer words text n) × (out ≡ outputOf words text n) → (r ≡ listingFrom (listed words text n)) × (out ≡ outputOf words text n)
   refused-whole e p = (e ∙ ap (λ (a : Answer ℕ). listingFrom (outcomeOf a)) (p .0), p .1)
 
-  pub listed-whole : {f : Refusal} {m : ℕ} → f ≡ noRefusal → (gives m ≡ listingAnswer words text n) × (out ≡ outputOf words text n) → (_≡_ {A = Listing} (record { verdict = Accepted; length = m; refusal = f }) (listingFrom (listed words text n))) × (out ≡ outputOf words text n)
+  pub listed-whole : {f : Refusal} {m : ℕ} → f ≡ noRefusal → (gives m ≡ listingAnswer words text n) × (out ≡ outputOf words text n)
+      → (_≡_ {A = Listing} (record { verdict = Accepted; length = m; refusal = f }) (listingFrom (listed words text n))) × (out ≡ outputOf words text n)
   listed-whole {f} {m} e p = (whole e ∙ ap (λ (a : Answer ℕ). listingFrom (outcomeOf a)) (p .0), p .1)
     where
       whole : f ≡ noRefusal → _≡_ {A = Listing} (record { verdict = Accepted; length = m; refusal = f }) (listingFrom (outcomeOf (gives m)))

@@ -31,7 +31,8 @@ module _ (p : List ℕ → Bool) (alive : (r : List ℕ) → p r ≡ true → li
   until-live [] = refl
   until-live (r ∷ rs) = go (live r) refl (p r) refl (until-live rs)
     where
-      go : (b : Bool) → live r ≡ b → (q : Bool) → p r ≡ q → until p (only live rs) ≡ only live (until p rs) → until p (cond b (r ∷ only live rs) (only live rs)) ≡ only live (cond q [] (r ∷ until p rs))
+      go : (b : Bool) → live r ≡ b → (q : Bool) → p r ≡ q → until p (only live rs) ≡ only live (until p rs)
+          → until p (cond b (r ∷ only live rs) (only live rs)) ≡ only live (cond q [] (r ∷ until p rs))
       go true e true u h = rw u refl
       go true e false u h = rw (u, e) (ap (λ (l : List (List ℕ)). r ∷ l) h)
       go false e true u h = absurd (true≢false (sym u ∙ fails r e))
@@ -74,7 +75,8 @@ module _ (text : List ℕ) where
   cases-live [] = refl
   cases-live (r ∷ rs) = go (live r) refl (isCase r) refl (cases-live rs)
     where
-      go : (b : Bool) → live r ≡ b → (q : Bool) → isCase r ≡ q → casesOf (only live rs) ≡ casesOf rs → casesOf (cond b (r ∷ only live rs) (only live rs)) ≡ map publicCase (map (caseOf text) (cond q (branch r (until isCase rs) ∷ branches isCase rs) (branches isCase rs)))
+      go : (b : Bool) → live r ≡ b → (q : Bool) → isCase r ≡ q → casesOf (only live rs) ≡ casesOf rs
+          → casesOf (cond b (r ∷ only live rs) (only live rs)) ≡ map publicCase (map (caseOf text) (cond q (branch r (until isCase rs) ∷ branches isCase rs) (branches isCase rs)))
       go true e true u h =
           rw u
           (ap (λ (l : List PublicCase). publicCase (caseOf text (branch r (until isCase (only live rs)))) ∷ l) h
@@ -93,7 +95,8 @@ module _ (text : List ℕ) where
   suites-live [] = refl
   suites-live (r ∷ rs) = go (live r) refl (isSuite r) refl (suites-live rs)
     where
-      go : (b : Bool) → live r ≡ b → (q : Bool) → isSuite r ≡ q → suitesOf (only live rs) ≡ suitesOf rs → suitesOf (cond b (r ∷ only live rs) (only live rs)) ≡ map publicSuite (map (suiteOf text) (cond q (branch r (until isSuite rs) ∷ branches isSuite rs) (branches isSuite rs)))
+      go : (b : Bool) → live r ≡ b → (q : Bool) → isSuite r ≡ q → suitesOf (only live rs) ≡ suitesOf rs
+          → suitesOf (cond b (r ∷ only live rs) (only live rs)) ≡ map publicSuite (map (suiteOf text) (cond q (branch r (until isSuite rs) ∷ branches isSuite rs) (branches isSuite rs)))
       go true e true u h =
           rw u
           (ap (λ (l : List PublicSuite). publicSuite (suiteOf text (branch r (until isSuite (only live rs)))) ∷ l) h

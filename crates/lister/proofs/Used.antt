@@ -12,7 +12,8 @@ use Rattle.list_sums.proofs.Used.{records-used}
 use Rattle.lister.specs.inside.Shown.{reportShown}
 use Rattle.lister.proofs.Unrolling.{listing-shown}
 
-pub used-shown : (words text : List ℕ) (limit bytes : ℕ) → limit ≡ min (length words) mostWords → bytes ≡ min (length text) mostBytes → reportShown (take bytes text) (recordsIn (take limit words)) ≡ listingOf words text
+pub used-shown : (words text : List ℕ) (limit bytes : ℕ) → limit ≡ min (length words) mostWords
+    → bytes ≡ min (length text) mostBytes → reportShown (take bytes text) (recordsIn (take limit words)) ≡ listingOf words text
 used-shown words text limit bytes p q =
     let w : take limit words ≡ usedWords words = ap (λ (n : ℕ). take n words) p ∙ take-least words mostWords in
     let t : take bytes text ≡ usedText text = ap (λ (n : ℕ). take n text) q ∙ take-least text mostBytes in

@@ -67,7 +67,8 @@ unfolding codeFrom
 none-from n [] s p e k h q = omega arith
 none-from n (x ∷ xs) s p e k h q = go (sameBytes x s) refl e k h q (none-from (suc n) xs s (omega arith))
   where
-    go : (t : Bool) → sameBytes x s ≡ t → cond t n (codeFrom (suc n) xs s) ≡ 0 → (k : ℕ) → k < suc (length xs) → getD (x ∷ xs) k [] ≡ s → (codeFrom (suc n) xs s ≡ 0 → (k : ℕ) → k < length xs → getD xs k [] ≡ s → ⊥) → ⊥
+    go : (t : Bool) → sameBytes x s ≡ t → cond t n (codeFrom (suc n) xs s) ≡ 0 → (k : ℕ) → k < suc (length xs)
+        → getD (x ∷ xs) k [] ≡ s → (codeFrom (suc n) xs s ≡ 0 → (k : ℕ) → k < length xs → getD xs k [] ≡ s → ⊥) → ⊥
     go true d e k h q r = omega arith
     go false d e zero h q r =
         let b : sameBytes x s ≡ true = rw q (same-refl s) in
@@ -87,7 +88,8 @@ own-at : (names : List (List ℕ)) (n : ℕ) (xs : List (List ℕ)) → own name
 own-at names n [] e k h = absurd (omega arith)
 own-at names n (x ∷ xs) e k h = go (eqb (codeIn names x) n) refl e k h (own-at names (suc n) xs)
   where
-    go : (t : Bool) → eqb (codeIn names x) n ≡ t → cond t (own names (suc n) xs) false ≡ true → (k : ℕ) → k < suc (length xs) → (own names (suc n) xs ≡ true → (k : ℕ) → k < length xs → codeIn names (getD xs k []) ≡ suc n + k) → codeIn names (getD (x ∷ xs) k []) ≡ n + k
+    go : (t : Bool) → eqb (codeIn names x) n ≡ t → cond t (own names (suc n) xs) false ≡ true → (k : ℕ) → k < suc (length xs)
+        → (own names (suc n) xs ≡ true → (k : ℕ) → k < length xs → codeIn names (getD xs k []) ≡ suc n + k) → codeIn names (getD (x ∷ xs) k []) ≡ n + k
     go true q p zero h r = omega (arith, eqb-true (codeIn names x) n q)
     go true q p (suc k) h r = omega (arith, r p k (omega arith))
     go false q p k h r = let z : _≡_ {A = ℕ} 0 1 = cc in absurd (omega arith)
@@ -119,7 +121,8 @@ pub key-code : (k : ℕ) → k < 14 → keyOf (getD keys k []) ≡ suc k
 key-code k h = own-code keys own-keys k (rw key-count h)
 
 -- the codes by name are those of the tables
-pub tag-codes : map tagOf tags ≡ tag.testsuites ∷ tag.testsuite ∷ tag.testcase ∷ tag.properties ∷ tag.property ∷ tag.failure ∷ tag.error ∷ tag.skipped ∷ tag.flakyFailure ∷ tag.flakyError ∷ tag.rerunFailure ∷ tag.rerunError ∷ tag.stackTrace ∷ tag.system-out ∷ tag.system-err ∷ []
+pub tag-codes : map tagOf tags ≡ tag.testsuites ∷ tag.testsuite ∷ tag.testcase ∷ tag.properties ∷ tag.property ∷ tag.failure ∷ tag.error
+    ∷ tag.skipped ∷ tag.flakyFailure ∷ tag.flakyError ∷ tag.rerunFailure ∷ tag.rerunError ∷ tag.stackTrace ∷ tag.system-out ∷ tag.system-err ∷ []
 unfolding tags codeFrom sameBytes
 tag-codes = refl
 

@@ -13,11 +13,13 @@ use Rattle.port_values.proofs.Coded.{is-code, no-code}
 
 module _ (old₁ old₂ : List ℕ) {r : KBuilt} {words text : List ℕ} where
   -- areas held old₁ and old₂; the call that was made is o, which is what was asked for
-  pub passed : {a : Built} {o p : Outcome Draft} → o ≡ p → r ≡ portBuilt a → (a ≡ builtFrom o) × ((words ≡ wordsLeft (length old₁) o) × (text ≡ textLeft (length old₂) o)) → (r ≡ builtPort p) × ((words ≡ wordsLeft (length old₁) p) × (text ≡ textLeft (length old₂) p))
+  pub passed : {a : Built} {o p : Outcome Draft} → o ≡ p → r ≡ portBuilt a → (a ≡ builtFrom o) × ((words ≡ wordsLeft (length old₁) o) × (text ≡ textLeft (length old₂) o))
+      → (r ≡ builtPort p) × ((words ≡ wordsLeft (length old₁) p) × (text ≡ textLeft (length old₂) p))
   passed e h x = (h ∙ ap portBuilt (x .0) ∙ ap builtPort e, (x .1 .0 ∙ ap (wordsLeft (length old₁)) e, x .1 .1 ∙ ap (textLeft (length old₂)) e))
 
   -- a code is none
-  pub stopped : {p : Outcome Draft} → noCode ≡ p → (r ≡ builtPort noCode) × ((words ≡ wordsLeft (length old₁) noCode) × (text ≡ textLeft (length old₂) noCode)) → (r ≡ builtPort p) × ((words ≡ wordsLeft (length old₁) p) × (text ≡ textLeft (length old₂) p))
+  pub stopped : {p : Outcome Draft} → noCode ≡ p → (r ≡ builtPort noCode) × ((words ≡ wordsLeft (length old₁) noCode) × (text ≡ textLeft (length old₂) noCode))
+      → (r ≡ builtPort p) × ((words ≡ wordsLeft (length old₁) p) × (text ≡ textLeft (length old₂) p))
   stopped e x = (x .0 ∙ ap builtPort e, (x .1 .0 ∙ ap (wordsLeft (length old₁)) e, x .1 .1 ∙ ap (textLeft (length old₂)) e))
 
 module _ {A : Type 0} (variants : List A) (code : ℕ) where

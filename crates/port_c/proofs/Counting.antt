@@ -11,7 +11,8 @@ use Rattle.port_values.specs.Codes.{outcomes, outcomeAt, coded}
 use Rattle.port_values.proofs.Coded.{is-code}
 
 module _ {p q : Counts} (same : q ≡ p) {a : Counted} where
-  pub counted-case : {o : Outcome} (code : ℕ) → o ≡ outcomeAt code → code < length outcomes → a ≡ countedFrom q (withCase q o) → portCounted a ≡ countedPort p (coded outcomes code (withCase p (outcomeAt code)))
+  pub counted-case : {o : Outcome} (code : ℕ) → o ≡ outcomeAt code → code < length outcomes
+      → a ≡ countedFrom q (withCase q o) → portCounted a ≡ countedPort p (coded outcomes code (withCase p (outcomeAt code)))
   counted-case {o = o} code named known e =
       ap portCounted
       (e ∙ ap (λ (c : Counts). countedFrom c (withCase c o)) same ∙ ap (λ (s : Outcome). countedFrom p (withCase p s)) named

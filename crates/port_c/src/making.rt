@@ -44,7 +44,8 @@ pub extern "C" fn kerzhoma_add_test_suite(
     name: &[u8],
 ) -> KBuilt
     ensures { λ r. ⌜ r ≡ builtPort (addTestSuite (now (name .entry)) (record { builder = b; words = now (records .entry); text = now (text .entry) })) ⌝ }
-    ensures { λ _. ⌜ now (records .exit) ≡ wordsLeft (length (now (records .entry))) (addTestSuite (now (name .entry)) (record { builder = b; words = now (records .entry); text = now (text .entry) })) ⌝ }
+    ensures { λ _.
+        ⌜ now (records .exit) ≡ wordsLeft (length (now (records .entry))) (addTestSuite (now (name .entry)) (record { builder = b; words = now (records .entry); text = now (text .entry) })) ⌝ }
     ensures { λ _. ⌜ now (text .exit) ≡ textLeft (length (now (text .entry))) (addTestSuite (now (name .entry)) (record { builder = b; words = now (records .entry); text = now (text .entry) })) ⌝ }
 {
     built(builder::add_test_suite(b, records, text, name))
@@ -59,8 +60,10 @@ pub extern "C" fn kerzhoma_add_test_case(
     outcome: u32,
 ) -> KBuilt
     ensures { λ r. ⌜ r ≡ builtPort (coded outcomes outcome (addTestCase (now (name .entry)) (outcomeAt outcome) (record { builder = b; words = now (records .entry); text = now (text .entry) }))) ⌝ }
-    ensures { λ _. ⌜ now (records .exit) ≡ wordsLeft (length (now (records .entry))) (coded outcomes outcome (addTestCase (now (name .entry)) (outcomeAt outcome) (record { builder = b; words = now (records .entry); text = now (text .entry) }))) ⌝ }
-    ensures { λ _. ⌜ now (text .exit) ≡ textLeft (length (now (text .entry))) (coded outcomes outcome (addTestCase (now (name .entry)) (outcomeAt outcome) (record { builder = b; words = now (records .entry); text = now (text .entry) }))) ⌝ }
+    ensures { λ _. ⌜ now (records .exit) ≡ wordsLeft (length (now (records .entry)))
+        (coded outcomes outcome (addTestCase (now (name .entry)) (outcomeAt outcome) (record { builder = b; words = now (records .entry); text = now (text .entry) }))) ⌝ }
+    ensures { λ _. ⌜ now (text .exit) ≡ textLeft (length (now (text .entry)))
+        (coded outcomes outcome (addTestCase (now (name .entry)) (outcomeAt outcome) (record { builder = b; words = now (records .entry); text = now (text .entry) }))) ⌝ }
 {
     if outcome >= OUTCOMES {
         return not_built(records, text);
@@ -76,8 +79,10 @@ pub extern "C" fn kerzhoma_add_rerun(
     kind: u32,
 ) -> KBuilt
     ensures { λ r. ⌜ r ≡ builtPort (coded kinds kind (addRerun (kindAt kind) (record { builder = b; words = now (records .entry); text = now (text .entry) }))) ⌝ }
-    ensures { λ _. ⌜ now (records .exit) ≡ wordsLeft (length (now (records .entry))) (coded kinds kind (addRerun (kindAt kind) (record { builder = b; words = now (records .entry); text = now (text .entry) }))) ⌝ }
-    ensures { λ _. ⌜ now (text .exit) ≡ textLeft (length (now (text .entry))) (coded kinds kind (addRerun (kindAt kind) (record { builder = b; words = now (records .entry); text = now (text .entry) }))) ⌝ }
+    ensures { λ _. ⌜ now (records .exit)
+        ≡ wordsLeft (length (now (records .entry))) (coded kinds kind (addRerun (kindAt kind) (record { builder = b; words = now (records .entry); text = now (text .entry) }))) ⌝ }
+    ensures { λ _.
+        ⌜ now (text .exit) ≡ textLeft (length (now (text .entry))) (coded kinds kind (addRerun (kindAt kind) (record { builder = b; words = now (records .entry); text = now (text .entry) }))) ⌝ }
 {
     if kind >= KINDS {
         return not_built(records, text);
@@ -94,9 +99,12 @@ pub extern "C" fn kerzhoma_add_property(
     name: &[u8],
     value: &[u8],
 ) -> KBuilt
-    ensures { λ r. ⌜ r ≡ builtPort (coded holders holder (addProperty (holderAt holder) (now (name .entry)) (now (value .entry)) (record { builder = b; words = now (records .entry); text = now (text .entry) }))) ⌝ }
-    ensures { λ _. ⌜ now (records .exit) ≡ wordsLeft (length (now (records .entry))) (coded holders holder (addProperty (holderAt holder) (now (name .entry)) (now (value .entry)) (record { builder = b; words = now (records .entry); text = now (text .entry) }))) ⌝ }
-    ensures { λ _. ⌜ now (text .exit) ≡ textLeft (length (now (text .entry))) (coded holders holder (addProperty (holderAt holder) (now (name .entry)) (now (value .entry)) (record { builder = b; words = now (records .entry); text = now (text .entry) }))) ⌝ }
+    ensures { λ r. ⌜ r ≡ builtPort (coded holders holder
+        (addProperty (holderAt holder) (now (name .entry)) (now (value .entry)) (record { builder = b; words = now (records .entry); text = now (text .entry) }))) ⌝ }
+    ensures { λ _. ⌜ now (records .exit) ≡ wordsLeft (length (now (records .entry)))
+        (coded holders holder (addProperty (holderAt holder) (now (name .entry)) (now (value .entry)) (record { builder = b; words = now (records .entry); text = now (text .entry) }))) ⌝ }
+    ensures { λ _. ⌜ now (text .exit) ≡ textLeft (length (now (text .entry)))
+        (coded holders holder (addProperty (holderAt holder) (now (name .entry)) (now (value .entry)) (record { builder = b; words = now (records .entry); text = now (text .entry) }))) ⌝ }
 {
     if holder >= HOLDERS {
         return not_built(records, text);
@@ -113,9 +121,12 @@ pub extern "C" fn kerzhoma_add_extra(
     key: &[u8],
     value: &[u8],
 ) -> KBuilt
-    ensures { λ r. ⌜ r ≡ builtPort (coded holders holder (addExtra (holderAt holder) (now (key .entry)) (now (value .entry)) (record { builder = b; words = now (records .entry); text = now (text .entry) }))) ⌝ }
-    ensures { λ _. ⌜ now (records .exit) ≡ wordsLeft (length (now (records .entry))) (coded holders holder (addExtra (holderAt holder) (now (key .entry)) (now (value .entry)) (record { builder = b; words = now (records .entry); text = now (text .entry) }))) ⌝ }
-    ensures { λ _. ⌜ now (text .exit) ≡ textLeft (length (now (text .entry))) (coded holders holder (addExtra (holderAt holder) (now (key .entry)) (now (value .entry)) (record { builder = b; words = now (records .entry); text = now (text .entry) }))) ⌝ }
+    ensures { λ r. ⌜ r
+        ≡ builtPort (coded holders holder (addExtra (holderAt holder) (now (key .entry)) (now (value .entry)) (record { builder = b; words = now (records .entry); text = now (text .entry) }))) ⌝ }
+    ensures { λ _. ⌜ now (records .exit) ≡ wordsLeft (length (now (records .entry)))
+        (coded holders holder (addExtra (holderAt holder) (now (key .entry)) (now (value .entry)) (record { builder = b; words = now (records .entry); text = now (text .entry) }))) ⌝ }
+    ensures { λ _. ⌜ now (text .exit) ≡ textLeft (length (now (text .entry)))
+        (coded holders holder (addExtra (holderAt holder) (now (key .entry)) (now (value .entry)) (record { builder = b; words = now (records .entry); text = now (text .entry) }))) ⌝ }
 {
     if holder >= HOLDERS {
         return not_built(records, text);

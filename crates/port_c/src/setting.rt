@@ -31,9 +31,12 @@ pub extern "C" fn kerzhoma_set_text(
     field: u32,
     s: &[u8],
 ) -> KBuilt
-    ensures { λ r. ⌜ r ≡ builtPort (coded elements element (coded fields field (setText (elementAt element) (fieldAt field) (now (s .entry)) (record { builder = b; words = now (records .entry); text = now (text .entry) })))) ⌝ }
-    ensures { λ _. ⌜ now (records .exit) ≡ wordsLeft (length (now (records .entry))) (coded elements element (coded fields field (setText (elementAt element) (fieldAt field) (now (s .entry)) (record { builder = b; words = now (records .entry); text = now (text .entry) })))) ⌝ }
-    ensures { λ _. ⌜ now (text .exit) ≡ textLeft (length (now (text .entry))) (coded elements element (coded fields field (setText (elementAt element) (fieldAt field) (now (s .entry)) (record { builder = b; words = now (records .entry); text = now (text .entry) })))) ⌝ }
+    ensures { λ r. ⌜ r ≡ builtPort (coded elements element
+        (coded fields field (setText (elementAt element) (fieldAt field) (now (s .entry)) (record { builder = b; words = now (records .entry); text = now (text .entry) })))) ⌝ }
+    ensures { λ _. ⌜ now (records .exit) ≡ wordsLeft (length (now (records .entry))) (coded elements element
+        (coded fields field (setText (elementAt element) (fieldAt field) (now (s .entry)) (record { builder = b; words = now (records .entry); text = now (text .entry) })))) ⌝ }
+    ensures { λ _. ⌜ now (text .exit) ≡ textLeft (length (now (text .entry))) (coded elements element
+        (coded fields field (setText (elementAt element) (fieldAt field) (now (s .entry)) (record { builder = b; words = now (records .entry); text = now (text .entry) })))) ⌝ }
 {
     if element >= ELEMENTS {
         return not_built(records, text);
@@ -53,9 +56,12 @@ pub extern "C" fn kerzhoma_set_output_lossy(
     field: u32,
     s: &[u8],
 ) -> KBuilt
-    ensures { λ r. ⌜ r ≡ builtPort (coded elements element (coded fields field (setOutputLossy (elementAt element) (fieldAt field) (now (s .entry)) (record { builder = b; words = now (records .entry); text = now (text .entry) })))) ⌝ }
-    ensures { λ _. ⌜ now (records .exit) ≡ wordsLeft (length (now (records .entry))) (coded elements element (coded fields field (setOutputLossy (elementAt element) (fieldAt field) (now (s .entry)) (record { builder = b; words = now (records .entry); text = now (text .entry) })))) ⌝ }
-    ensures { λ _. ⌜ now (text .exit) ≡ textLeft (length (now (text .entry))) (coded elements element (coded fields field (setOutputLossy (elementAt element) (fieldAt field) (now (s .entry)) (record { builder = b; words = now (records .entry); text = now (text .entry) })))) ⌝ }
+    ensures { λ r. ⌜ r ≡ builtPort (coded elements element
+        (coded fields field (setOutputLossy (elementAt element) (fieldAt field) (now (s .entry)) (record { builder = b; words = now (records .entry); text = now (text .entry) })))) ⌝ }
+    ensures { λ _. ⌜ now (records .exit) ≡ wordsLeft (length (now (records .entry))) (coded elements element
+        (coded fields field (setOutputLossy (elementAt element) (fieldAt field) (now (s .entry)) (record { builder = b; words = now (records .entry); text = now (text .entry) })))) ⌝ }
+    ensures { λ _. ⌜ now (text .exit) ≡ textLeft (length (now (text .entry))) (coded elements element
+        (coded fields field (setOutputLossy (elementAt element) (fieldAt field) (now (s .entry)) (record { builder = b; words = now (records .entry); text = now (text .entry) })))) ⌝ }
 {
     if element >= ELEMENTS {
         return not_built(records, text);
@@ -75,8 +81,10 @@ pub extern "C" fn kerzhoma_set_timestamp(
     m: KMoment,
 ) -> KBuilt
     ensures { λ r. ⌜ r ≡ builtPort (coded elements element (setTimestamp (elementAt element) (plainMoment m) (record { builder = b; words = now (records .entry); text = now (text .entry) }))) ⌝ }
-    ensures { λ _. ⌜ now (records .exit) ≡ wordsLeft (length (now (records .entry))) (coded elements element (setTimestamp (elementAt element) (plainMoment m) (record { builder = b; words = now (records .entry); text = now (text .entry) }))) ⌝ }
-    ensures { λ _. ⌜ now (text .exit) ≡ textLeft (length (now (text .entry))) (coded elements element (setTimestamp (elementAt element) (plainMoment m) (record { builder = b; words = now (records .entry); text = now (text .entry) }))) ⌝ }
+    ensures { λ _. ⌜ now (records .exit) ≡ wordsLeft (length (now (records .entry)))
+        (coded elements element (setTimestamp (elementAt element) (plainMoment m) (record { builder = b; words = now (records .entry); text = now (text .entry) }))) ⌝ }
+    ensures { λ _. ⌜ now (text .exit) ≡ textLeft (length (now (text .entry)))
+        (coded elements element (setTimestamp (elementAt element) (plainMoment m) (record { builder = b; words = now (records .entry); text = now (text .entry) }))) ⌝ }
 {
     if element >= ELEMENTS {
         return not_built(records, text);
@@ -94,8 +102,10 @@ pub extern "C" fn kerzhoma_set_time(
     nanos: u32,
 ) -> KBuilt
     ensures { λ r. ⌜ r ≡ builtPort (coded elements element (setTime (elementAt element) seconds nanos (record { builder = b; words = now (records .entry); text = now (text .entry) }))) ⌝ }
-    ensures { λ _. ⌜ now (records .exit) ≡ wordsLeft (length (now (records .entry))) (coded elements element (setTime (elementAt element) seconds nanos (record { builder = b; words = now (records .entry); text = now (text .entry) }))) ⌝ }
-    ensures { λ _. ⌜ now (text .exit) ≡ textLeft (length (now (text .entry))) (coded elements element (setTime (elementAt element) seconds nanos (record { builder = b; words = now (records .entry); text = now (text .entry) }))) ⌝ }
+    ensures { λ _. ⌜ now (records .exit) ≡ wordsLeft (length (now (records .entry)))
+        (coded elements element (setTime (elementAt element) seconds nanos (record { builder = b; words = now (records .entry); text = now (text .entry) }))) ⌝ }
+    ensures { λ _. ⌜ now (text .exit) ≡ textLeft (length (now (text .entry)))
+        (coded elements element (setTime (elementAt element) seconds nanos (record { builder = b; words = now (records .entry); text = now (text .entry) }))) ⌝ }
 {
     if element >= ELEMENTS {
         return not_built(records, text);
@@ -126,8 +136,10 @@ pub extern "C" fn kerzhoma_set_number(
     n: u64,
 ) -> KBuilt
     ensures { λ r. ⌜ r ≡ builtPort (coded numbers field (setNumber (numberAt field) n (record { builder = b; words = now (records .entry); text = now (text .entry) }))) ⌝ }
-    ensures { λ _. ⌜ now (records .exit) ≡ wordsLeft (length (now (records .entry))) (coded numbers field (setNumber (numberAt field) n (record { builder = b; words = now (records .entry); text = now (text .entry) }))) ⌝ }
-    ensures { λ _. ⌜ now (text .exit) ≡ textLeft (length (now (text .entry))) (coded numbers field (setNumber (numberAt field) n (record { builder = b; words = now (records .entry); text = now (text .entry) }))) ⌝ }
+    ensures { λ _. ⌜ now (records .exit)
+        ≡ wordsLeft (length (now (records .entry))) (coded numbers field (setNumber (numberAt field) n (record { builder = b; words = now (records .entry); text = now (text .entry) }))) ⌝ }
+    ensures { λ _. ⌜ now (text .exit)
+        ≡ textLeft (length (now (text .entry))) (coded numbers field (setNumber (numberAt field) n (record { builder = b; words = now (records .entry); text = now (text .entry) }))) ⌝ }
 {
     if field >= NUMBERS {
         return not_built(records, text);
@@ -143,8 +155,10 @@ pub extern "C" fn kerzhoma_set_rerun_kind(
     family: u32,
 ) -> KBuilt
     ensures { λ r. ⌜ r ≡ builtPort (coded families family (setRerunKind (familyAt family) (record { builder = b; words = now (records .entry); text = now (text .entry) }))) ⌝ }
-    ensures { λ _. ⌜ now (records .exit) ≡ wordsLeft (length (now (records .entry))) (coded families family (setRerunKind (familyAt family) (record { builder = b; words = now (records .entry); text = now (text .entry) }))) ⌝ }
-    ensures { λ _. ⌜ now (text .exit) ≡ textLeft (length (now (text .entry))) (coded families family (setRerunKind (familyAt family) (record { builder = b; words = now (records .entry); text = now (text .entry) }))) ⌝ }
+    ensures { λ _. ⌜ now (records .exit)
+        ≡ wordsLeft (length (now (records .entry))) (coded families family (setRerunKind (familyAt family) (record { builder = b; words = now (records .entry); text = now (text .entry) }))) ⌝ }
+    ensures { λ _. ⌜ now (text .exit)
+        ≡ textLeft (length (now (text .entry))) (coded families family (setRerunKind (familyAt family) (record { builder = b; words = now (records .entry); text = now (text .entry) }))) ⌝ }
 {
     if family >= FAMILIES {
         return not_built(records, text);

@@ -53,7 +53,8 @@ pub extern "C" fn kerzhoma_read(
     ensures { λ r. ⌜ r ≡ portOutcome (readInto (now (events .entry)) (now (attributes .entry)) (now (source .entry)) (now (records .entry)) (now (text .entry)) (now (scratch .entry)) .outcome) ⌝ }
     ensures { λ _. ⌜ now (records .exit) ≡ readInto (now (events .entry)) (now (attributes .entry)) (now (source .entry)) (now (records .entry)) (now (text .entry)) (now (scratch .entry)) .words ⌝ }
     ensures { λ _. ⌜ now (text .exit) ≡ readInto (now (events .entry)) (now (attributes .entry)) (now (source .entry)) (now (records .entry)) (now (text .entry)) (now (scratch .entry)) .text ⌝ }
-    ensures { λ _. ⌜ now (scratch .exit) ≡ readInto (now (events .entry)) (now (attributes .entry)) (now (source .entry)) (now (records .entry)) (now (text .entry)) (now (scratch .entry)) .scratch ⌝ }
+    ensures { λ _.
+        ⌜ now (scratch .exit) ≡ readInto (now (events .entry)) (now (attributes .entry)) (now (source .entry)) (now (records .entry)) (now (text .entry)) (now (scratch .entry)) .scratch ⌝ }
 {
     let answer = reader::read(events, attributes, source, records, text, scratch);
     let verdict = answer.verdict;
@@ -85,11 +86,15 @@ pub extern "C" fn kerzhoma_public_listing(
     scratch: &mut [u8],
     out: &mut [u8],
 ) -> usize
-    ensures out { λ _. ⌜ now (out .exit) ≡ laid (zeros (length (now (out .entry)))) (listingInto (now (events .entry)) (now (attributes .entry)) (now (source .entry)) (now (records .entry)) (now (text .entry)) (now (scratch .entry)) (now (out .entry))) ⌝ }
-    ensures count { λ r. ⌜ r ≡ min (length (now (out .entry))) (length (listingInto (now (events .entry)) (now (attributes .entry)) (now (source .entry)) (now (records .entry)) (now (text .entry)) (now (scratch .entry)) (now (out .entry)))) ⌝ }
-    ensures records { λ _. ⌜ now (records .exit) ≡ readInto (now (events .entry)) (now (attributes .entry)) (now (source .entry)) (now (records .entry)) (now (text .entry)) (now (scratch .entry)) .words ⌝ }
+    ensures out { λ _. ⌜ now (out .exit) ≡ laid (zeros (length (now (out .entry))))
+        (listingInto (now (events .entry)) (now (attributes .entry)) (now (source .entry)) (now (records .entry)) (now (text .entry)) (now (scratch .entry)) (now (out .entry))) ⌝ }
+    ensures count { λ r. ⌜ r ≡ min (length (now (out .entry)))
+        (length (listingInto (now (events .entry)) (now (attributes .entry)) (now (source .entry)) (now (records .entry)) (now (text .entry)) (now (scratch .entry)) (now (out .entry)))) ⌝ }
+    ensures records { λ _.
+        ⌜ now (records .exit) ≡ readInto (now (events .entry)) (now (attributes .entry)) (now (source .entry)) (now (records .entry)) (now (text .entry)) (now (scratch .entry)) .words ⌝ }
     ensures text { λ _. ⌜ now (text .exit) ≡ readInto (now (events .entry)) (now (attributes .entry)) (now (source .entry)) (now (records .entry)) (now (text .entry)) (now (scratch .entry)) .text ⌝ }
-    ensures scratch { λ _. ⌜ now (scratch .exit) ≡ readInto (now (events .entry)) (now (attributes .entry)) (now (source .entry)) (now (records .entry)) (now (text .entry)) (now (scratch .entry)) .scratch ⌝ }
+    ensures scratch { λ _.
+        ⌜ now (scratch .exit) ≡ readInto (now (events .entry)) (now (attributes .entry)) (now (source .entry)) (now (records .entry)) (now (text .entry)) (now (scratch .entry)) .scratch ⌝ }
 {
     public_call::public_listing(events, attributes, source, records, text, scratch, out)
 }
@@ -111,7 +116,8 @@ pub extern "C" fn kerzhoma_write(
 ) -> KWriting
     ensures { λ r. ⌜ r ≡ writingPort (wrote (now (records .entry)) (now (text .entry)) (length (now (events .entry))) (length (now (attributes .entry))) (length (now (bytes .entry)))) ⌝ }
     ensures { λ _. ⌜ now (events .exit) ≡ eventsLeft (now (records .entry)) (now (text .entry)) (length (now (events .entry))) (length (now (attributes .entry))) (length (now (bytes .entry))) ⌝ }
-    ensures { λ _. ⌜ now (attributes .exit) ≡ attributesLeft (now (records .entry)) (now (text .entry)) (length (now (events .entry))) (length (now (attributes .entry))) (length (now (bytes .entry))) ⌝ }
+    ensures { λ _.
+        ⌜ now (attributes .exit) ≡ attributesLeft (now (records .entry)) (now (text .entry)) (length (now (events .entry))) (length (now (attributes .entry))) (length (now (bytes .entry))) ⌝ }
     ensures { λ _. ⌜ now (bytes .exit) ≡ bytesLeft (now (records .entry)) (now (text .entry)) (length (now (events .entry))) (length (now (attributes .entry))) (length (now (bytes .entry))) ⌝ }
 {
     let answer = writer::write(records, text, events, attributes, bytes);

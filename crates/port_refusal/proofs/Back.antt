@@ -5,7 +5,8 @@ use mathlib.Core.List.{List, [], _∷_, _++_}
 use native.Mathlib.Omega.{arith}
 use lib.ListN.{length, getD, replicate, length-append, length-replicate, List·getD-eq-default}
 use Rattle.refusal.specs.declared.Cause.{Cause}
-use Rattle.refusal.specs.declared.Cause.the-variants.{XmlFault, EofInSkip, NotUtf8, BadInteger, BadTimestamp, BadTime, BadUuid, MissingAttribute, MissingReport, EofInElement, StatusRule, UnknownEntity, FaultyAttribute, RepeatedKey, BadReference, BadTable, RecordsSpent, TextFull, ScratchFull, NotLayout, OutputFull, CountLimit}
+use Rattle.refusal.specs.declared.Cause.the-variants.{XmlFault, EofInSkip, NotUtf8, BadInteger, BadTimestamp, BadTime, BadUuid, MissingAttribute, MissingReport, EofInElement, StatusRule}
+use Rattle.refusal.specs.declared.Cause.the-variants.{UnknownEntity, FaultyAttribute, RepeatedKey, BadReference, BadTable, RecordsSpent, TextFull, ScratchFull, NotLayout, OutputFull, CountLimit}
 use Rattle.refusal.specs.declared.PathElement.{PathElement}
 use Rattle.refusal.specs.Refusal.{filler, Refused, pathFrom, refusalFrom}
 use Rattle.port_refusal.specs.Port.{code, pathWords, refusedPort}
@@ -64,6 +65,8 @@ pub refusal-back : (q : Refused) → length (q .path) ≤ 6 → plainRefusal (re
 refusal-back q h =
     let p = pathFrom (q .path) in
     let n : min (min (length (q .path)) 6) 6 ≡ length (q .path) = omega (arith, h) in
-    ap (λ (c : Cause). record { cause = c; path = record { elements = pathElements (pathWords (p .elements)); len = min (min (length (q .path)) 6) 6 }; event = q .event; attribute = q .attribute }) (cause-back (q .cause))
-    ∙ ap (λ (es : List PathElement). record { cause = q .cause; path = record { elements = es; len = min (min (length (q .path)) 6) 6 }; event = q .event; attribute = q .attribute }) (elements-back (p .elements) (six (q .path) h))
+    ap (λ (c : Cause). record { cause = c; path = record { elements = pathElements (pathWords (p .elements)); len = min (min (length (q .path)) 6) 6 }; event = q .event; attribute = q .attribute })
+    (cause-back (q .cause))
+    ∙ ap (λ (es : List PathElement). record { cause = q .cause; path = record { elements = es; len = min (min (length (q .path)) 6) 6 }; event = q .event; attribute = q .attribute })
+    (elements-back (p .elements) (six (q .path) h))
     ∙ ap (λ (k : ℕ). record { cause = q .cause; path = record { elements = p .elements; len = k }; event = q .event; attribute = q .attribute }) n

@@ -16,11 +16,14 @@ module _ (events attributes source : List ℕ) (words text scratch out : ℕ) wh
       w ≡ reading events attributes source words text scratch .words → t ≡ reading events attributes source words text scratch .text →
       written (listingAnswer w t out) (outputOf w t out) ≡ publicListing events attributes source words text scratch out
   unfolding publicListing
-  listing-accepted w t e p q = rw (p, q) (ap (λ (o : Outcome (Unit {0})). behindReading o (written (listingAnswer (reading events attributes source words text scratch .words) (reading events attributes source words text scratch .text) out) (outputOf (reading events attributes source words text scratch .words) (reading events attributes source words text scratch .text) out))) e)
+  listing-accepted w t e p q = rw (p, q) (ap (λ (o : Outcome (Unit {0})). behindReading o (written (listingAnswer (reading events attributes source words text scratch .words) (reading events
+      attributes source words text scratch .text) out) (outputOf (reading events attributes source words text scratch .words) (reading events attributes source words text scratch .text) out))) e)
 
   pub listing-refused : (r : Refused) → refused r ≡ reading events attributes source words text scratch .outcome → refusedText ≡ publicListing events attributes source words text scratch out
   unfolding publicListing
-  listing-refused r e = ap (λ (o : Outcome (Unit {0})). behindReading o (written (listingAnswer (reading events attributes source words text scratch .words) (reading events attributes source words text scratch .text) out) (outputOf (reading events attributes source words text scratch .words) (reading events attributes source words text scratch .text) out))) e
+  listing-refused r e =
+      ap (λ (o : Outcome (Unit {0})). behindReading o (written (listingAnswer (reading events attributes source words text scratch .words) (reading events attributes source words text scratch .text)
+      out) (outputOf (reading events attributes source words text scratch .words) (reading events attributes source words text scratch .text) out))) e
 
 -- by the verdict of reading
 module _ (x : Reading) (o : Outcome (Unit {0})) (e : x ≡ answerOf o) where

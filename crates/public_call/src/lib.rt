@@ -48,11 +48,15 @@ pub fn public_listing(
     scratch: &mut [u8],
     out: &mut [u8],
 ) -> usize
-    ensures out { λ _. ⌜ now (out .exit) ≡ laid (zeros (length (now (out .entry)))) (listingInto (now (events .entry)) (now (attributes .entry)) (now (source .entry)) (now (records .entry)) (now (text .entry)) (now (scratch .entry)) (now (out .entry))) ⌝ }
-    ensures count { λ r. ⌜ r ≡ min (length (now (out .entry))) (length (listingInto (now (events .entry)) (now (attributes .entry)) (now (source .entry)) (now (records .entry)) (now (text .entry)) (now (scratch .entry)) (now (out .entry)))) ⌝ }
-    ensures records { λ _. ⌜ now (records .exit) ≡ readInto (now (events .entry)) (now (attributes .entry)) (now (source .entry)) (now (records .entry)) (now (text .entry)) (now (scratch .entry)) .words ⌝ }
+    ensures out { λ _. ⌜ now (out .exit) ≡ laid (zeros (length (now (out .entry))))
+        (listingInto (now (events .entry)) (now (attributes .entry)) (now (source .entry)) (now (records .entry)) (now (text .entry)) (now (scratch .entry)) (now (out .entry))) ⌝ }
+    ensures count { λ r. ⌜ r ≡ min (length (now (out .entry)))
+        (length (listingInto (now (events .entry)) (now (attributes .entry)) (now (source .entry)) (now (records .entry)) (now (text .entry)) (now (scratch .entry)) (now (out .entry)))) ⌝ }
+    ensures records { λ _.
+        ⌜ now (records .exit) ≡ readInto (now (events .entry)) (now (attributes .entry)) (now (source .entry)) (now (records .entry)) (now (text .entry)) (now (scratch .entry)) .words ⌝ }
     ensures text { λ _. ⌜ now (text .exit) ≡ readInto (now (events .entry)) (now (attributes .entry)) (now (source .entry)) (now (records .entry)) (now (text .entry)) (now (scratch .entry)) .text ⌝ }
-    ensures scratch { λ _. ⌜ now (scratch .exit) ≡ readInto (now (events .entry)) (now (attributes .entry)) (now (source .entry)) (now (records .entry)) (now (text .entry)) (now (scratch .entry)) .scratch ⌝ }
+    ensures scratch { λ _.
+        ⌜ now (scratch .exit) ≡ readInto (now (events .entry)) (now (attributes .entry)) (now (source .entry)) (now (records .entry)) (now (text .entry)) (now (scratch .entry)) .scratch ⌝ }
 {
     let read = read(events, attributes, source, records, text, scratch);
     let verdict = read.verdict;

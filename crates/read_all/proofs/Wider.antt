@@ -26,7 +26,8 @@ held-wider {own} {text} {extras} {fill} {g} z hd = record {
   left = hd .left;
   records = ap (λ (l : List ℕ). l ++ zeros z) (hd .records)
       ∙ append-assoc (g .main) (joined (g .extras) ++ zeros (hd .room)) (zeros z)
-      ∙ ap (λ (l : List ℕ). g .main ++ l) (append-assoc (joined (g .extras)) (zeros (hd .room)) (zeros z) ∙ ap (λ (l : List ℕ). joined (g .extras) ++ l) (replicate-append-replicate {A = ℕ} (hd .room) z 0));
+      ∙ ap (λ (l : List ℕ). g .main ++ l)
+      (append-assoc (joined (g .extras)) (zeros (hd .room)) (zeros z) ∙ ap (λ (l : List ℕ). joined (g .extras) ++ l) (replicate-append-replicate {A = ℕ} (hd .room) z 0));
   main-words = hd .main-words;
   keyed = hd .keyed;
   count = hd .count;
@@ -49,7 +50,8 @@ module _ (kind fill : ℕ) (texts own text : List ℕ) (hd : Held own text 0 fil
         let z : k ≡ 32 + (k - 32) = omega arith in
         let s = size in
         let y : hd .room - (k - 32) ≡ length own - k = omega arith in
-        ap (λ (n : ℕ). drop n own) z ∙ sym (drop-drop (k - 32) 32 own) ∙ ap (drop (k - 32)) (ap (drop 32) (hd .records) ∙ drop-at (fresh kind texts .main) (zeros (hd .room)) 32 refl) ∙ drop-zeros (k - 32) (hd .room) ∙ ap zeros y
+        ap (λ (n : ℕ). drop n own) z ∙ sym (drop-drop (k - 32) 32 own)
+        ∙ ap (drop (k - 32)) (ap (drop 32) (hd .records) ∙ drop-at (fresh kind texts .main) (zeros (hd .room)) 32 refl) ∙ drop-zeros (k - 32) (hd .room) ∙ ap zeros y
 
     pub front-held : Held (take k own) text 0 fill (fresh kind texts)
     front-held =
@@ -58,7 +60,8 @@ module _ (kind fill : ℕ) (texts own text : List ℕ) (hd : Held own text 0 fil
         record {
           room = k - 32;
           left = hd .left;
-          records = ap (λ (n : ℕ). take n own) z ∙ ap (take (32 + (k - 32))) (hd .records) ∙ take-append-add (fresh kind texts .main) (zeros (hd .room)) (k - 32) ∙ ap (λ (l : List ℕ). fresh kind texts .main ++ l) (take-zeros (k - 32) (hd .room) (omega arith));
+          records = ap (λ (n : ℕ). take n own) z ∙ ap (take (32 + (k - 32))) (hd .records) ∙ take-append-add (fresh kind texts .main) (zeros (hd .room)) (k - 32)
+              ∙ ap (λ (l : List ℕ). fresh kind texts .main ++ l) (take-zeros (k - 32) (hd .room) (omega arith));
           main-words = refl;
           keyed = tt;
           count = refl;
@@ -67,7 +70,8 @@ module _ (kind fill : ℕ) (texts own text : List ℕ) (hd : Held own text 0 fil
         }
 
 -- the words behind the first k were cleared
-pub cleared : {p : Place} (k n : ℕ) (own : List ℕ) {own′ text back : List ℕ} {o : Outcome Given} {s : Step} → own′ ≡ take k own ++ back → back ≡ zeros n → Matches p (take k own) text o s → Matches p own′ text o s
+pub cleared : {p : Place} (k n : ℕ) (own : List ℕ) {own′ text back : List ℕ} {o : Outcome Given} {s : Step}
+    → own′ ≡ take k own ++ back → back ≡ zeros n → Matches p (take k own) text o s → Matches p own′ text o s
 cleared {p} k n own {own′} {text} {back} {o} {s} e z x = subst (λ (l : List ℕ). Matches p l text o s) (sym (e ∙ ap (λ (l : List ℕ). take k own ++ l) z)) (matches-wider n x)
 
 -- the words behind the part came back as they were

@@ -83,7 +83,8 @@ module _ (kind j : ℕ) (x : Attribute) (g : Given) (rooms : Rooms) (p : Place) 
       subst (λ (k : ℕ). Matches p own text (byRole rooms (numbered p j) used kind k (roleOf kind k) x g) s) ek
       (subst (λ (t : Role). Matches p own text (byRole rooms (numbered p j) used kind key t x g) s) er m)
 
-  pub value-step : (given : Counted) (t : Took) {s : Step} → (r ≡ role.Extra → ⊥) → Meets (within (numbered p j) key) own text (byRole rooms (numbered p j) used kind key r x g) (tookGiven (given .extras) t)
+  pub value-step : (given : Counted) (t : Took) {s : Step} → (r ≡ role.Extra → ⊥)
+      → Meets (within (numbered p j) key) own text (byRole rooms (numbered p j) used kind key r x g) (tookGiven (given .extras) t)
       → s ≡ takenStep t given key j → Matches p own text (byKey rooms (numbered p j) used kind x g) s
   value-step given t n m e =
       let quiet : key ≡ 0 → Accepts (byRole rooms (numbered p j) used kind key r x g) =
@@ -137,7 +138,8 @@ module _ (attributes source : List ℕ) (j : ℕ) where
     unfolding need
     step-faulty m h q = rw (q, mark-lent (ne-eqb (getD (lent attributes j) 0 0) 0 h)) stopped
 
-    module _ {found free : Bool} (h : getD (lent attributes j) 0 0 ≡ 0) (e : found ≡ (not free && among (attributeIn (lent attributes j) source .key) ks)) (k : free ≡ true → among (keyAt attributes source j) ks ≡ false) where
+    module _ {found free : Bool} (h : getD (lent attributes j) 0 0 ≡ 0) (e : found ≡ (not free && among (attributeIn (lent attributes j) source .key) ks))
+        (k : free ≡ true → among (keyAt attributes source j) ks ≡ false) where
       good : markAt attributes j ≡ true
       good = mark-lent (ap (λ (n : ℕ). eqb n 0) h)
 
@@ -149,9 +151,12 @@ module _ (attributes source : List ℕ) (j : ℕ) where
       unfolding need
       step-repeated m f q = rw (q, good, told ∙ f) stopped
 
-      pub step-on : {own text : List ℕ} {s : Step} (rooms : Rooms) (used kind : ℕ) (g : Given) → found ≡ false → Matches p own text (byKey rooms (numbered p j) used kind (attributeIn (lent attributes j) source) g) s
-          → Matches p own text (need (markAt attributes j) (numbered p j) cause.FaultyAttribute (need (not (among (keyAt attributes source j) ks)) (numbered p j) cause.RepeatedKey (byKey rooms (numbered p j) used kind (attributeAt attributes source j) g))) s
+      pub step-on : {own text : List ℕ} {s : Step} (rooms : Rooms) (used kind : ℕ) (g : Given) → found ≡ false
+          → Matches p own text (byKey rooms (numbered p j) used kind (attributeIn (lent attributes j) source) g) s
+          → Matches p own text (need (markAt attributes j) (numbered p j) cause.FaultyAttribute
+          (need (not (among (keyAt attributes source j) ks)) (numbered p j) cause.RepeatedKey (byKey rooms (numbered p j) used kind (attributeAt attributes source j) g))) s
       step-on {own} {text} {s} rooms used kind g f m =
-          passed (numbered p j) cause.FaultyAttribute (markAt attributes j) (need (not (among (keyAt attributes source j) ks)) (numbered p j) cause.RepeatedKey (byKey rooms (numbered p j) used kind (attributeAt attributes source j) g)) good
+          passed (numbered p j) cause.FaultyAttribute (markAt attributes j)
+          (need (not (among (keyAt attributes source j) ks)) (numbered p j) cause.RepeatedKey (byKey rooms (numbered p j) used kind (attributeAt attributes source j) g)) good
           (passed (numbered p j) cause.RepeatedKey (not (among (keyAt attributes source j) ks)) (byKey rooms (numbered p j) used kind (attributeAt attributes source j) g) (ap not (told ∙ f))
           (subst (λ (x : Attribute). Matches p own text (byKey rooms (numbered p j) used kind x g) s) attribute-lent m))

@@ -53,7 +53,8 @@ Accepts (accepted g) = Unit {0}
 Accepts (refused r) = ⊥
 
 -- such a key is an extra's, or it refuses nothing
-pub unknown-accepts : (rooms : Rooms) (p : Place) (used kind key : ℕ) (x : Attribute) (g : Given) → (roleOf kind key ≡ role.Extra → ⊥) → key ≡ 0 → Accepts (byRole rooms p used kind key (roleOf kind key) x g)
+pub unknown-accepts : (rooms : Rooms) (p : Place) (used kind key : ℕ) (x : Attribute) (g : Given)
+    → (roleOf kind key ≡ role.Extra → ⊥) → key ≡ 0 → Accepts (byRole rooms p used kind key (roleOf kind key) x g)
 unfolding byRole
 unknown-accepts rooms p used kind key x g n e = go (roleOf kind key) (subst (λ (k : ℕ). Unread (roleOf kind k)) (sym e) (unknown-unread kind)) n
   where

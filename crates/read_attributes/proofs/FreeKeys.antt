@@ -24,19 +24,23 @@ and-true true b e = (refl, e)
 and-true false b e = let z : _≡_ {A = ℕ} 0 1 = cc in absurd (omega arith)
 
 -- which range `known_of` answers
-pub known-answer : (known range : Range) {b t : Bool} → b ≡ (leb (known .first) (range .first) && leb (range .end) (known .end)) → (eqb (range .first) (range .end) || b) ≡ t → cond t known range ≡ knownOf known range
+pub known-answer : (known range : Range) {b t : Bool} → b ≡ (leb (known .first) (range .first) && leb (range .end) (known .end))
+    → (eqb (range .first) (range .end) || b) ≡ t → cond t known range ≡ knownOf known range
 known-answer known range e q = sym (ap (λ (u : Bool). cond (eqb (range .first) (range .end) || u) known range) (sym e) ∙ ap (λ (u : Bool). cond u known range) q)
 
 module _ (attributes source : List ℕ) where
-  pub free-within : (known range : Range) → Free attributes source (known .first) (known .end) → (leb (known .first) (range .first) && leb (range .end) (known .end)) ≡ true → Free attributes source (range .first) (range .end)
+  pub free-within : (known range : Range) → Free attributes source (known .first) (known .end)
+      → (leb (known .first) (range .first) && leb (range .end) (known .end)) ≡ true → Free attributes source (range .first) (range .end)
   free-within known range f e i j a b c =
       let q = and-true (leb (known .first) (range .first)) (leb (range .end) (known .end)) e in
       let x = leb-true (known .first) (range .first) (q .0) in
       let y = leb-true (range .end) (known .end) (q .1) in
       f i j (omega arith) b (omega arith)
 
-  pub free-either : (known range : Range) → Free attributes source (known .first) (known .end) → Free attributes source (range .first) (range .end) → {r : Range} → r ≡ knownOf known range → Free attributes source (r .first) (r .end)
-  free-either known range f h {r} e = subst (λ (x : Range). Free attributes source (x .first) (x .end)) (sym e) (go (eqb (range .first) (range .end) || (leb (known .first) (range .first) && leb (range .end) (known .end))))
+  pub free-either : (known range : Range) → Free attributes source (known .first) (known .end)
+      → Free attributes source (range .first) (range .end) → {r : Range} → r ≡ knownOf known range → Free attributes source (r .first) (r .end)
+  free-either known range f h {r} e =
+      subst (λ (x : Range). Free attributes source (x .first) (x .end)) (sym e) (go (eqb (range .first) (range .end) || (leb (known .first) (range .first) && leb (range .end) (known .end))))
     where
       go : (t : Bool) → Free attributes source (cond t known range .first) (cond t known range .end)
       go true = f
@@ -61,10 +65,12 @@ module _ (attributes source : List ℕ) (rooms : Rooms) (p : Place) (used kind f
       (keys-next attributes source first j h)
       (weaken (free-from n (j + 1) g′ (omega arith) (unrepeated-more attributes source first j f q)) (λ _ r i k a b c. r i k a b (omega arith))))
 
-  pub free-read : (end : ℕ) (g : Given) → first ≤ end → Holds (λ _. Free attributes source first end) (readAttributes rooms p used kind [] first (attributesFrom attributes source (end - first) first) g)
+  pub free-read : (end : ℕ) (g : Given) → first ≤ end
+      → Holds (λ _. Free attributes source first end) (readAttributes rooms p used kind [] first (attributesFrom attributes source (end - first) first) g)
   unfolding attributesFrom
   free-read end g h =
       let z : first - first ≡ 0 = omega arith in
-      weaken (subst (λ (n : ℕ). Holds (λ _. Free attributes source first (first + (end - first))) (readAttributes rooms p used kind (keysOf (attributesFrom attributes source n first)) first (attributesFrom attributes source (end - first) first) g))
+      weaken (subst (λ (n : ℕ). Holds (λ _. Free attributes source first (first + (end - first)))
+      (readAttributes rooms p used kind (keysOf (attributesFrom attributes source n first)) first (attributesFrom attributes source (end - first) first) g))
       z (free-from (end - first) first g (omega arith) (λ i k a b c. absurd (omega arith))))
       (λ _ r i k a b c. r i k a b (omega arith))

@@ -113,7 +113,8 @@ module _ {rooms : Rooms} (p : Place) (before : List (List ℕ)) {n m : ℕ} (ro 
     behind e = opened (ro .for-records 1 ∙ le-leb (1 * 32) n (omega arith)) ∙ ap (λ (o : Outcome Given). o >>= rest p kind before) e
 
     module _ {own text attributes source : List ℕ} where
-      pub element-halted : {f : Fault} → readAttributes rooms p (length before) kind [] j xs (fresh kind texts) ≡ refused (faultAt p f) → Becomes p before own text attributes source (readElement rooms p kind j xs before texts) (element.Not f)
+      pub element-halted : {f : Fault} → readAttributes rooms p (length before) kind [] j xs (fresh kind texts) ≡ refused (faultAt p f)
+          → Becomes p before own text attributes source (readElement rooms p kind j xs before texts) (element.Not f)
       unfolding _>>=_
       element-halted {f} e = subst (λ (o : Outcome Grown). Becomes p before own text attributes source o (element.Not f)) (sym (behind e)) stopped
 
@@ -146,7 +147,8 @@ module _ (kind : ℕ) (attributes source : List ℕ) (range : Range) (texts own�
   told : {t : Step} → r ≡ t → (rooms : Rooms) (p : Place) (used : ℕ) → Roomy rooms used (length own₀) (length text)
       → Matches p own′ text′ (readAttributes rooms p used kind [] (range .first) (attributesFrom attributes source (range .end - range .first) (range .first)) (fresh kind texts)) t
   told q rooms p used ro =
-      subst (λ (t : Step). Matches p own′ text′ (readAttributes rooms p used kind [] (range .first) (attributesFrom attributes source (range .end - range .first) (range .first)) (fresh kind texts)) t) q
+      subst (λ (t : Step).
+      Matches p own′ text′ (readAttributes rooms p used kind [] (range .first) (attributesFrom attributes source (range .end - range .first) (range .first)) (fresh kind texts)) t) q
       (s rooms p used (subst (λ (n : ℕ). Roomy rooms used n (length text)) (sym (ap length put ∙ length-set own₀ 0 kind)) ro))
 
   -- the extras have room
@@ -155,8 +157,10 @@ module _ (kind : ℕ) (attributes source : List ℕ) (range : Range) (texts own�
 
   module _ (rooms : Rooms) (p : Place) (before : List (List ℕ)) (w : p .attribute ≡ nowhere) (ro : Roomy rooms (length before) (length own₀) (length text)) where
     pub record-halted : {f : Fault} → r ≡ step.Not f
-        → Becomes p before own′ text′ attributes source (readElement rooms p kind (range .first) (attributesFrom attributes source (range .end - range .first) (range .first)) before texts) (element.Not f)
-    record-halted q = element-halted p before ro kind (range .first) (attributesFrom attributes source (range .end - range .first) (range .first)) texts room (halted (told q rooms p (length before) ro))
+        → Becomes p before own′ text′ attributes source
+        (readElement rooms p kind (range .first) (attributesFrom attributes source (range .end - range .first) (range .first)) before texts) (element.Not f)
+    record-halted q =
+        element-halted p before ro kind (range .first) (attributesFrom attributes source (range .end - range .first) (range .first)) texts room (halted (told q rooms p (length before) ro))
 
     module _ {given : Counted} (q : r ≡ step.To given) {k : ℕ} (e : k ≡ missingOf kind own′) where
       pub record-lacking : (k ≡ 0 → ⊥) → {t : Element} → t ≡ faultElement MissingAttribute k nowhere

@@ -95,7 +95,8 @@ module _ (kind : ℕ) (attributes source : List ℕ) (first end : ℕ) (own₀ t
     along = λ rooms p used ro. record {
       said = g₀;
       holds = hd;
-      same = ap (λ (xs : List Attribute). readAttributes rooms p used kind (keysOf xs) first (attributesFrom attributes source (end - first) first) g₀) (sym (attributes-end attributes source first first (omega arith)));
+      same = ap (λ (xs : List Attribute). readAttributes rooms p used kind (keysOf xs) first (attributesFrom attributes source (end - first) first) g₀)
+          (sym (attributes-end attributes source first first (omega arith)));
     };
   }
 
@@ -112,20 +113,23 @@ module _ {kind : ℕ} {attributes source : List ℕ} {first end : ℕ} {own₀ t
   unfolding readAttributes
   going-done h rooms p used ro =
       let a = x .along rooms p used ro in
-      let e = a .same ∙ ap (λ (xs : List Attribute). readAttributes rooms p used kind (keysOf (attributesFrom attributes source (j - first) first)) j xs (a .said)) (attributes-end attributes source end j h) in
+      let e = a .same
+      ∙ ap (λ (xs : List Attribute). readAttributes rooms p used kind (keysOf (attributesFrom attributes source (j - first) first)) j xs (a .said)) (attributes-end attributes source end j h) in
       subst (λ (m : Outcome Given). Matches p own text m (step.To given)) (sym e) (went (a .holds))
 
   -- the definition with attribute j taken first
   turn : j < end → (rooms : Rooms) (p : Place) (used : ℕ) (ro : Roomy rooms used (length own₀) (length text₀))
       → readAttributes rooms p used kind [] first (attributesFrom attributes source (end - first) first) g₀
       ≡ (attributeStep attributes source kind first rooms p used j (x .along rooms p used ro .said)
-      >>= λ g. readAttributes rooms p used kind (keysOf (attributesFrom attributes source (j - first) first) ++ (keyAt attributes source j ∷ [])) (j + 1) (attributesFrom attributes source (end - (j + 1)) (j + 1)) g)
+      >>= λ g. readAttributes rooms p used kind (keysOf (attributesFrom attributes source (j - first) first) ++ (keyAt attributes source j ∷ []))
+      (j + 1) (attributesFrom attributes source (end - (j + 1)) (j + 1)) g)
   unfolding readAttributes
   turn h rooms p used ro =
       let a = x .along rooms p used ro in
       a .same ∙ ap (λ (xs : List Attribute). readAttributes rooms p used kind (keysOf (attributesFrom attributes source (j - first) first)) j xs (a .said)) (attributes-next attributes source end j h)
 
-  module _ (h : j < end) {clear : ℕ} (f : Unrepeated attributes source first clear) {own′ text′ : List ℕ} {r : Step} (s : Stepped attributes source kind first (ltb j clear) (given .extras + 1) j given own text own′ text′ r) where
+  module _ (h : j < end) {clear : ℕ} (f : Unrepeated attributes source first clear) {own′ text′ : List ℕ} {r : Step}
+      (s : Stepped attributes source kind first (ltb j clear) (given .extras + 1) j given own text own′ text′ r) where
     -- attribute j at a place and in rooms
     taking : {t : Step} → r ≡ t → (rooms : Rooms) (p : Place) (used : ℕ) (ro : Roomy rooms used (length own₀) (length text₀))
         → Matches p own′ text′ (attributeStep attributes source kind first rooms p used j (x .along rooms p used ro .said)) t
@@ -142,7 +146,8 @@ module _ {kind : ℕ} {attributes source : List ℕ} {first end : ℕ} {own₀ t
     unfolding _>>=_
     going-stopped {fault} q rooms p used ro =
         let e = turn h rooms p used ro
-        ∙ ap (λ (m : Outcome Given). m >>= λ g. readAttributes rooms p used kind (keysOf (attributesFrom attributes source (j - first) first) ++ (keyAt attributes source j ∷ [])) (j + 1) (attributesFrom attributes source (end - (j + 1)) (j + 1)) g)
+        ∙ ap (λ (m : Outcome Given). m >>= λ g. readAttributes rooms p used kind (keysOf (attributesFrom attributes source (j - first) first) ++ (keyAt attributes source j ∷ []))
+        (j + 1) (attributesFrom attributes source (end - (j + 1)) (j + 1)) g)
         (halted (taking q rooms p used ro)) in
         subst (λ (m : Outcome Given). Matches p own′ text′ m (step.Not fault)) (sym e) stopped
 
@@ -158,7 +163,9 @@ module _ {kind : ℕ} {attributes source : List ℕ} {first end : ℕ} {own₀ t
         said = w .said;
         holds = w .holds;
         same = turn h rooms p used ro
-            ∙ ap (λ (m : Outcome Given). m >>= λ g. readAttributes rooms p used kind (keysOf (attributesFrom attributes source (j - first) first) ++ (keyAt attributes source j ∷ [])) (j + 1) (attributesFrom attributes source (end - (j + 1)) (j + 1)) g) (w .same)
-            ∙ ap (λ (ks : List (List ℕ)). readAttributes rooms p used kind ks (j + 1) (attributesFrom attributes source (end - (j + 1)) (j + 1)) (w .said)) (sym (keys-next attributes source first j (x .low)));
+            ∙ ap (λ (m : Outcome Given). m >>= λ g. readAttributes rooms p used kind (keysOf (attributesFrom attributes source (j - first) first) ++ (keyAt attributes source j ∷ []))
+            (j + 1) (attributesFrom attributes source (end - (j + 1)) (j + 1)) g) (w .same)
+            ∙ ap (λ (ks : List (List ℕ)). readAttributes rooms p used kind ks (j + 1) (attributesFrom attributes source (end - (j + 1)) (j + 1)) (w .said))
+            (sym (keys-next attributes source first j (x .low)));
       });
     }

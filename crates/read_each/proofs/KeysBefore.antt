@@ -27,7 +27,8 @@ module _ (attributes source : List ℕ) where
       (keys-more n (i + 1) ∙ ap (λ (k : ℕ). keysOf (attributesFrom attributes source n (i + 1)) ++ (keyAt attributes source k ∷ [])) z)
 
   -- the keys before attribute j + 1 are those before j, and j's
-  pub keys-next : (first j : ℕ) → first ≤ j → keysOf (attributesFrom attributes source (j + 1 - first) first) ≡ keysOf (attributesFrom attributes source (j - first) first) ++ (keyAt attributes source j ∷ [])
+  pub keys-next : (first j : ℕ) → first ≤ j
+      → keysOf (attributesFrom attributes source (j + 1 - first) first) ≡ keysOf (attributesFrom attributes source (j - first) first) ++ (keyAt attributes source j ∷ [])
   keys-next first j h =
       let y : j + 1 - first ≡ suc (j - first) = omega arith in
       let z : first + (j - first) ≡ j = omega arith in
@@ -35,5 +36,6 @@ module _ (attributes source : List ℕ) where
       ∙ keys-more (j - first) first
       ∙ ap (λ (k : ℕ). keysOf (attributesFrom attributes source (j - first) first) ++ (keyAt attributes source k ∷ [])) z
 
-  pub free-key : (first end j : ℕ) → Unrepeated attributes source first end → first ≤ j → j < end → among (keyAt attributes source j) (keysOf (attributesFrom attributes source (j - first) first)) ≡ false
+  pub free-key : (first end j : ℕ) → Unrepeated attributes source first end → first ≤ j → j < end
+      → among (keyAt attributes source j) (keysOf (attributesFrom attributes source (j - first) first)) ≡ false
   free-key first end j f l h = among-none (keyAt attributes source j) (j - first) first (λ k a b. f k j a (omega arith) h)

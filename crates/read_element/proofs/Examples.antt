@@ -39,7 +39,8 @@ abbrev bytesOf : ℕ → Rooms
 bytesOf n = record { records = none; text = some n; scratch = none }
 
 -- the last byte of the text area is used; then a text is refused with 13
-text-full : (storing (bytesOf 2) suite (bytes "a") (bytes "b") (λ texts. accepted texts) ≡ accepted (bytes "ab")) × (storing (bytesOf 2) suite (bytes "ab") (bytes "c") (λ texts. accepted texts) ≡ refusedAt suite cause.TextFull)
+text-full : (storing (bytesOf 2) suite (bytes "a") (bytes "b") (λ texts. accepted texts) ≡ accepted (bytes "ab"))
+    × (storing (bytesOf 2) suite (bytes "ab") (bytes "c") (λ texts. accepted texts) ≡ refusedAt suite cause.TextFull)
 unfolding need fits
 text-full = (refl, refl)
 
@@ -59,7 +60,8 @@ replaced = refl
 
 -- the path of a value's refusal has the Attribute, that of an extra's hasn't
 attribute-in-path :
-    (readAttributes unlimited suite 0 2 [] 4 (attribute (bytes "name") (0xFF ∷ []) ∷ []) begun ≡ refused (record { cause = cause.NotUtf8; path = element 2 0 1 ∷ element 16 1 nowhere ∷ []; event = 1; attribute = 4 }))
+    (readAttributes unlimited suite 0 2 [] 4 (attribute (bytes "name") (0xFF ∷ []) ∷ []) begun
+    ≡ refused (record { cause = cause.NotUtf8; path = element 2 0 1 ∷ element 16 1 nowhere ∷ []; event = 1; attribute = 4 }))
     × (readAttributes unlimited suite 0 2 [] 4 (attribute (bytes "k") (0xFF ∷ []) ∷ []) begun ≡ refused (record { cause = cause.NotUtf8; path = element 2 0 1 ∷ []; event = 1; attribute = 4 }))
 unfolding readAttributes byRole readText readExtra _>>=_ there need wanted roleOf suiteRole roleIn keys codeFrom sameBytes
 attribute-in-path = (refl, refl)

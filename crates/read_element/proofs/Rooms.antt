@@ -123,13 +123,15 @@ fitting {most} {most′} w n p why s h = need-more (fits most n) (fits most′ n
 
 -- ---- an element
 module _ (rooms rooms′ : Rooms) (w : Wider rooms rooms′) where
-  records-fit : {A : Type 0} (n : ℕ) (p : Place) {k l : Outcome A} → Agrees k l → Agrees (need (fits (rooms .records) n) p cause.RecordsSpent k) (need (fits (rooms′ .records) n) p cause.RecordsSpent l)
+  records-fit : {A : Type 0} (n : ℕ) (p : Place) {k l : Outcome A} → Agrees k l
+      → Agrees (need (fits (rooms .records) n) p cause.RecordsSpent k) (need (fits (rooms′ .records) n) p cause.RecordsSpent l)
   records-fit n p h = fitting (w .records) n p cause.RecordsSpent (inl refl) h
 
   pub text-fits : {A : Type 0} (n : ℕ) (p : Place) {k l : Outcome A} → Agrees k l → Agrees (need (fits (rooms .text) n) p cause.TextFull k) (need (fits (rooms′ .text) n) p cause.TextFull l)
   text-fits n p h = fitting (w .text) n p cause.TextFull (inr (inl refl)) h
 
-  pub scratch-fits : {A : Type 0} (n : ℕ) (p : Place) {k l : Outcome A} → Agrees k l → Agrees (need (fits (rooms .scratch) n) p cause.ScratchFull k) (need (fits (rooms′ .scratch) n) p cause.ScratchFull l)
+  pub scratch-fits : {A : Type 0} (n : ℕ) (p : Place) {k l : Outcome A} → Agrees k l
+      → Agrees (need (fits (rooms .scratch) n) p cause.ScratchFull k) (need (fits (rooms′ .scratch) n) p cause.ScratchFull l)
   scratch-fits n p h = fitting (w .scratch) n p cause.ScratchFull (inr (inr refl)) h
 
   text-agrees : (p : Place) (o k : ℕ) (value : List ℕ) (g : Given) → Agrees (readText rooms p o k value g) (readText rooms′ p o k value g)
@@ -168,7 +170,8 @@ module _ (rooms rooms′ : Rooms) (w : Wider rooms rooms′) where
   unfolding readAttributes
   attributes-agree p used kind before j [] g = same
   attributes-agree p used kind before j (x ∷ xs) g =
-      bind (needing _ (numbered p j) cause.FaultyAttribute (needing _ (numbered p j) cause.RepeatedKey (role-agrees (numbered p j) used kind (keyOf (x .key)) (roleOf kind (keyOf (x .key))) x g))) λ h.
+      bind (needing _ (numbered p j) cause.FaultyAttribute (needing _ (numbered p j) cause.RepeatedKey (role-agrees (numbered p j) used kind (keyOf (x .key)) (roleOf kind (keyOf (x .key))) x g)))
+      λ h.
       attributes-agree p used kind (before ++ (x .key ∷ [])) (j + 1) xs h
 
   pub element-agrees : (p : Place) (kind j : ℕ) (xs : List Attribute) (records : List (List ℕ)) (texts : List ℕ) →

@@ -70,7 +70,8 @@ unfolding readExtra newExtra oldExtra
 low-extra p used kind x g =
     low-bind (low-leaf p (utf8 (x .key)) (refsOk (x .key) 0) tt cause.BadReference (inl (lit≤ tt))) λ _.
     low-bind (low-leaf p (utf8 (x .value)) (refsOk (x .value) 0) tt cause.BadReference (inl (lit≤ tt))) λ _.
-    low-cond (leb (length (g .extras)) (placeOf (g .texts) (valueText (x .key)) (g .extras))) (low-room _ p cause.RecordsSpent (low-room _ p cause.TextFull (low-room _ p cause.TextFull fine))) (low-room _ p cause.TextFull fine)
+    low-cond (leb (length (g .extras)) (placeOf (g .texts) (valueText (x .key)) (g .extras)))
+    (low-room _ p cause.RecordsSpent (low-room _ p cause.TextFull (low-room _ p cause.TextFull fine))) (low-room _ p cause.TextFull fine)
 
 low-role : (p : Place) (used kind key : ℕ) (role : Role) (x : Attribute) (g : Given) → ByRules (byRole unlimited p used kind key role x g)
 unfolding byRole timestampOf uuidOf
@@ -87,7 +88,8 @@ low-attributes : (p : Place) (used kind : ℕ) (before : List (List ℕ)) (j : �
 unfolding readAttributes
 low-attributes p used kind before j [] g = fine
 low-attributes p used kind before j (x ∷ xs) g =
-    low-bind (low-need _ (numbered p j) cause.FaultyAttribute (inl (lit≤ tt)) (low-need _ (numbered p j) cause.RepeatedKey (inl (lit≤ tt)) (low-role (numbered p j) used kind (keyOf (x .key)) (roleOf kind (keyOf (x .key))) x g))) λ h.
+    low-bind (low-need _ (numbered p j) cause.FaultyAttribute (inl (lit≤ tt))
+    (low-need _ (numbered p j) cause.RepeatedKey (inl (lit≤ tt)) (low-role (numbered p j) used kind (keyOf (x .key)) (roleOf kind (keyOf (x .key))) x g))) λ h.
     low-attributes p used kind (before ++ (x .key ∷ [])) (j + 1) xs h
 
 pub low-element : (p : Place) (kind j : ℕ) (xs : List Attribute) (records : List (List ℕ)) (texts : List ℕ) → ByRules (readElement unlimited p kind j xs records texts)

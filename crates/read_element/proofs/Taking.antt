@@ -64,11 +64,13 @@ module _ (l : List ℕ) (fill : ℕ) (value : List ℕ) where
 
   module _ (f : ℕ → List ℕ → List ℕ) (w : List ℕ) {ys : List ℕ} (b : ys ≡ valueLaid (take (length l - fill) (drop fill l)) value) where
     pub text-put : {n : ℕ} {w′ : List ℕ} → gives n ≡ valueOf (length (take (length l - fill) (drop fill l))) value → w′ ≡ f n w
-        → (gives (fill + n) ≡ moved fill (valueOf (length l - fill) value)) × ((w′ ≡ putting f (valueOf (length l - fill) value) w) × (putMid fill (length l - fill) l ys ≡ take fill l ++ valueLaid (drop fill l) value))
+        → (gives (fill + n) ≡ moved fill (valueOf (length l - fill) value))
+        × ((w′ ≡ putting f (valueOf (length l - fill) value) w) × (putMid fill (length l - fill) l ys ≡ take fill l ++ valueLaid (drop fill l) value))
     text-put e o = (ap (moved fill) (sized e), (o ∙ ap (λ (x : Answer ℕ). putting f x w) (sized e), text-back b))
 
     pub text-none : {n : Cause} → refuses n ≡ valueOf (length (take (length l - fill) (drop fill l))) value
-        → (refuses n ≡ moved fill (valueOf (length l - fill) value)) × ((w ≡ putting f (valueOf (length l - fill) value) w) × (putMid fill (length l - fill) l ys ≡ take fill l ++ valueLaid (drop fill l) value))
+        → (refuses n ≡ moved fill (valueOf (length l - fill) value))
+        × ((w ≡ putting f (valueOf (length l - fill) value) w) × (putMid fill (length l - fill) l ys ≡ take fill l ++ valueLaid (drop fill l) value))
     text-none e = (ap (moved fill) (sized e), (ap (λ (x : Answer ℕ). putting f x w) (sized e), text-back b))
 
   -- of a value whose form is good, the text itself
@@ -89,7 +91,8 @@ module _ (l : List ℕ) (fill : ℕ) (value : List ℕ) where
     lay-put e = (ap (moved fill) (sized e ∙ placed (length l - fill)), lay-back)
 
     pub lay-full : {n : Cause} → refuses n ≡ valueOf (length (take (length l - fill) (drop fill l))) value
-        → (refuses cause.TextFull ≡ moved fill (placing cause.TextFull (length l - fill) (valueText value))) × (putMid fill (length l - fill) l ys ≡ take fill l ++ laid (drop fill l) (valueText value))
+        → (refuses cause.TextFull ≡ moved fill (placing cause.TextFull (length l - fill) (valueText value)))
+        × (putMid fill (length l - fill) l ys ≡ take fill l ++ laid (drop fill l) (valueText value))
     lay-full {n} e = (ap (moved fill) (go (leb (length (valueText value)) (length l - fill)) (sized e ∙ placed (length l - fill))), lay-back)
       where
         go : (t : Bool) → refuses n ≡ cond t (gives (length (valueText value))) (refuses cause.TextFull) → refuses cause.TextFull ≡ cond t (gives (length (valueText value))) (refuses cause.TextFull)

@@ -31,12 +31,14 @@ use Rattle.read_keys.specs.declared.Role.{Role}
 use Rattle.read_keys.specs.Roles.{roleOf}
 use Rattle.tree_record.specs.Record.{marked, hasBit}
 use Rattle.tree_put.specs.Put.{blank, putPair, putText}
-use Rattle.read_element.specs.Attributes.{Given, withMain, readText, placeOf, changed, extraKind, oldExtra, newExtra, readExtra, keep, byRole, among, numbered, readAttributes, complete, Grown, readElement}
+use Rattle.read_element.specs.Attributes.{Given, withMain, readText, placeOf, changed, extraKind, oldExtra, newExtra, readExtra}
+use Rattle.read_element.specs.Attributes.{keep, byRole, among, numbered, readAttributes, complete, Grown, readElement}
 use Rattle.read_element.proofs.TreeOutcome.{Holds, accept, bind, needed, answered, either}
 use Rattle.read_element.proofs.TreeSheet.{text, name, value, pair, named, empty, full-value, untimed, Sorts, Sheet, sheet, goodAt, Grows, good-new, good-more, sheet-more}
 use Rattle.read_element.proofs.TreeSheet.{put-first, put-value, put-second, put-assertions, put-disabled, put-moment, put-time, put-uuid, put-tests, put-failures, put-errors, put-skipped}
 use Rattle.read_element.proofs.TreeGood.{pairSorts}
-use Rattle.read_element.proofs.TreeRoles.{Wide, Suits, as-first, as-value, as-second, as-tests, as-failures, as-errors, as-skipped, as-disabled, as-assertions, as-uuid, as-moment, as-time, as-extra, as-ignored, Class, class-roles, class-blank, class-named}
+use Rattle.read_element.proofs.TreeRoles.{Wide, Suits, as-first, as-value, as-second, as-tests, as-failures, as-errors, as-skipped, as-disabled}
+use Rattle.read_element.proofs.TreeRoles.{as-assertions, as-uuid, as-moment, as-time, as-extra, as-ignored, Class, class-roles, class-blank, class-named}
 use Rattle.refusal.specs.declared.Cause.the-variants as cause
 
 -- ---- texts
@@ -168,7 +170,8 @@ module _ {rooms : Rooms} {S : Sorts} {κ used : ℕ} {start : List ℕ} where
         main = sheet-more d (sheet-more b (w .main));
         extras =
             each-append (each-on (λ q h. sheet-more d (sheet-more b h)) (w .extras))
-            (more (pair-new (extraKind κ) (length (g .texts)) (length key) (length keyed) (length v) (good-more (length (g .texts)) (length key) d (good-new (g .texts) key uk)) (good-new keyed v u)) done);
+            (more (pair-new (extraKind κ) (length (g .texts)) (length key) (length keyed) (length v) (good-more (length (g .texts)) (length key) d (good-new (g .texts) key uk)) (good-new keyed v u))
+            done);
         few = extras-of wide;
         grows = grows-on (w .grows) (grows-on b d);
         stored = t;
@@ -213,7 +216,8 @@ module _ {rooms : Rooms} {S : Sorts} {κ used : ℕ} {start : List ℕ} where
   unfolding readAttributes
   attributes-read roles p before j [] w = accept w
   attributes-read roles p before j (x ∷ xs) w =
-      bind (needed (x .good) (numbered p j) cause.FaultyAttribute λ _. needed (not (among (x .key) before)) (numbered p j) cause.RepeatedKey (λ e. by-role (numbered p j) (keyOf (x .key)) x (roles (keyOf (x .key))) w)) λ h v.
+      bind (needed (x .good) (numbered p j) cause.FaultyAttribute λ _.
+      needed (not (among (x .key) before)) (numbered p j) cause.RepeatedKey (λ e. by-role (numbered p j) (keyOf (x .key)) x (roles (keyOf (x .key))) w)) λ h v.
       attributes-read roles p (before ++ (x .key ∷ [])) (j + 1) xs v
 
 -- ---- the element
@@ -235,7 +239,14 @@ element-read {rooms} {κ} {S} {T} p j xs records texts class stored =
     bind
     (needed (fits (rooms .records) (length records + 1)) p cause.RecordsSpent λ e.
     attributes-read {rooms = rooms} {S = S} {κ = κ} {used = length records} {start = texts} (class-roles class) p [] j xs
-    (record { main = class-blank class; extras = done; few = no-extras; grows = grows-refl texts; stored = stored; space = (let z : length records + 1 + 0 ≡ length records + 1 = omega arith in ap (fits (rooms .records)) z ∙ e) }))
+    (record {
+      main = class-blank class;
+      extras = done;
+      few = no-extras;
+      grows = grows-refl texts;
+      stored = stored;
+      space = (let z : length records + 1 + 0 ≡ length records + 1 = omega arith in ap (fits (rooms .records)) z ∙ e);
+    }))
     λ g w.
     bind {Q = λ h. Sheet T (h .texts) κ (h .main) × Going rooms S κ (length records) texts h}
     (needed (not (leb 2 κ && leb κ 5) || hasBit 0 (g .main)) (within p 1) cause.MissingAttribute λ a.

@@ -15,7 +15,8 @@ use Rattle.tree_report.specs.Fields.{hasBit}
 use Rattle.tree_report.specs.Layout.{slot, zeroAt, textSlot, goodTextAt, goodCommon, goodOutputs, goodCounts, goodReport, goodSuite, goodCase, bitsFor, goodOther, goodRecord}
 use Rattle.tree_report.proofs.EncodeLists.{both}
 use Rattle.tree_report.proofs.EncodeCells.{bit-flag, only-bits, weights, Pairing, moment-back, time-back}
-use Rattle.read_element.proofs.TreeSheet.{Sort, text, name, number, count, nothing, Fits, textless, placed, named, numberless, numbered, counted, empty, Middle, outputs, uuid, pair, hidden, InMiddle, two, idless, id, full-value, without, untimed, timed, Sorts, flags, rest, Sheet, sheet}
+use Rattle.read_element.proofs.TreeSheet.{Sort, text, name, number, count, nothing, Fits, textless, placed, named, numberless, numbered, counted, empty, Middle, outputs}
+use Rattle.read_element.proofs.TreeSheet.{uuid, pair, hidden, InMiddle, two, idless, id, full-value, without, untimed, timed, Sorts, flags, rest, Sheet, sheet}
 
 -- ---- the parts of each kind; a suite's, case's or property's name is missing until it is read
 abbrev pub sorts : Sort → Middle → Bool → (second third fourth fifth sixth : Sort) → Sorts
@@ -78,11 +79,13 @@ unfolding goodTextAt
 text-slot r k o textless b w = rw (b, w .2) refl
 text-slot r k o (placed p) b w = rw (b, w .0, w .1) p
 
-number-slot : {texts : List ℕ} {c : Cell} (r : List ℕ) (k o : ℕ) → Fits texts number c → hasBit k r ≡ isGiven c → Pairing r o (firstWord 0 c) (secondWord c) → slot (hasBit k r) true (zeroAt r o 2) ≡ true
+number-slot : {texts : List ℕ} {c : Cell} (r : List ℕ) (k o : ℕ) → Fits texts number c → hasBit k r ≡ isGiven c
+    → Pairing r o (firstWord 0 c) (secondWord c) → slot (hasBit k r) true (zeroAt r o 2) ≡ true
 number-slot r k o numberless b w = rw (b, w .2) refl
 number-slot r k o numbered b w = rw b refl
 
-id-slot : {texts : List ℕ} {c d : Cell} (r : List ℕ) → InMiddle texts uuid c d → hasBit 1 r ≡ isGiven c → take 4 (drop 4 r) ≡ firstWord 0 c ∷ secondWord c ∷ firstWord 0 d ∷ secondWord d ∷ [] → slot (hasBit 1 r) true (zeroAt r 4 4) ≡ true
+id-slot : {texts : List ℕ} {c d : Cell} (r : List ℕ) → InMiddle texts uuid c d → hasBit 1 r ≡ isGiven c
+    → take 4 (drop 4 r) ≡ firstWord 0 c ∷ secondWord c ∷ firstWord 0 d ∷ secondWord d ∷ [] → slot (hasBit 1 r) true (zeroAt r 4 4) ≡ true
 id-slot r idless b w = rw (b, w) refl
 id-slot r id b w = rw b refl
 
@@ -135,7 +138,8 @@ pair-good κ l u q (sheet a b c m d e f g h i (named p) (full-value o) untimed e
     or-yes true = refl
     or-yes false = refl
 
-main-good : {texts : List ℕ} {r : List ℕ} (κ : ℕ) → 6 ≤ κ → κ ≤ 8 → ((e f g : Cell) → flagsOf (flags e absent absent none none f g absent absent) ≡ weights (bitsFor κ) (flags e absent absent none none f g absent absent)) → Sheet mainSorts texts κ r → goodRecord texts r ≡ true
+main-good : {texts : List ℕ} {r : List ℕ} (κ : ℕ) → 6 ≤ κ → κ ≤ 8 → ((e f g : Cell)
+    → flagsOf (flags e absent absent none none f g absent absent) ≡ weights (bitsFor κ) (flags e absent absent none none f g absent absent)) → Sheet mainSorts texts κ r → goodRecord texts r ≡ true
 main-good κ l u q (sheet a b c m d e f g h i pa without untimed pe pf empty empty empty) =
     other-good κ a absent absent none none e f absent (omega arith) (omega arith) (q a e f) (rw (le-leb 6 κ l, le-leb κ 12 (omega arith)) refl) pa textless textless refl refl pe pf textless
 

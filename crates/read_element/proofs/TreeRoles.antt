@@ -13,7 +13,8 @@ use Rattle.read_keys.specs.declared.Role.{Role}
 use Rattle.read_keys.specs.declared.Role.the-variants as role
 use Rattle.read_keys.specs.Roles.{roleIn, countKeys, reportRole, suiteRole, caseRole, propertyRole, statusRole, roleOf}
 use Rattle.tree_report.proofs.EncodeLists.{Each, done, more}
-use Rattle.read_element.proofs.TreeSheet.{text, name, number, count, Fits, textless, placed, named, numberless, counted, empty, uuid, value, pair, InMiddle, two, idless, open-value, full-value, without, untimed, timed, Sorts, flags, Sheet, sheet}
+use Rattle.read_element.proofs.TreeSheet.{text, name, number, count, Fits, textless, placed, named, numberless, counted, empty, uuid, value, pair}
+use Rattle.read_element.proofs.TreeSheet.{InMiddle, two, idless, open-value, full-value, without, untimed, timed, Sorts, flags, Sheet, sheet}
 use Rattle.read_element.proofs.TreeGood.{reportSorts, suiteSorts, caseSorts, pairSorts, mainSorts, runSorts, Final}
 use Rattle.read_element.proofs.TreeGood
 

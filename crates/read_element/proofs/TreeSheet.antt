@@ -266,25 +266,29 @@ module _ {S : Sorts} {texts : List ℕ} {κ : ℕ} where
   put-uuid w q (sheet a b c m d e f g h i pa pb pt pe pf pg ph pi) =
       subst (Sheet S texts κ)
       (sym (marked-flags κ 1 (flags a b c m d e f g i) (rest a (valued (w .a) (w .b)) (constant (w .c) (w .d)) m d e f g h i) (lit≤ tt) (lit≤ tt)
-      ∙ ap (λ (u : Bool). κ ∷ flagsOf (isGiven a ∷ true ∷ u ∷ isSome m ∷ isSome d ∷ isGiven e ∷ isGiven f ∷ isGiven g ∷ isGiven i ∷ false ∷ []) ∷ rest a (valued (w .a) (w .b)) (constant (w .c) (w .d)) m d e f g h i) (middle-hidden q pb)))
+      ∙ ap (λ (u : Bool). κ ∷ flagsOf (isGiven a ∷ true ∷ u ∷ isSome m ∷ isSome d ∷ isGiven e ∷ isGiven f ∷ isGiven g ∷ isGiven i ∷ false ∷ [])
+      ∷ rest a (valued (w .a) (w .b)) (constant (w .c) (w .d)) m d e f g h i) (middle-hidden q pb)))
       (sheet a (valued (w .a) (w .b)) (constant (w .c) (w .d)) m d e f g h i pa (new-id q) pt pe pf pg ph pi)
 
   pub put-tests : {r : List ℕ} (n : ℕ) → S .second ≡ count → Sheet S texts κ r → Sheet S texts κ (putCount 18 n r)
   put-tests n q (sheet a b c m d e f g h i pa pb pt pe pf pg ph pi) =
       subst (Sheet S texts κ)
-      (sym (ap (λ (u : Bool). κ ∷ flagsOf (isGiven a ∷ isGiven b ∷ isGiven c ∷ isSome m ∷ isSome d ∷ u ∷ isGiven f ∷ isGiven g ∷ isGiven i ∷ false ∷ []) ∷ rest a b c m d (constant (n % 4294967296) (n / 4294967296)) f g h i) (count-hidden q pe)))
+      (sym (ap (λ (u : Bool). κ ∷ flagsOf (isGiven a ∷ isGiven b ∷ isGiven c ∷ isSome m ∷ isSome d ∷ u ∷ isGiven f ∷ isGiven g ∷ isGiven i ∷ false ∷ [])
+      ∷ rest a b c m d (constant (n % 4294967296) (n / 4294967296)) f g h i) (count-hidden q pe)))
       (sheet a b c m d (constant (n % 4294967296) (n / 4294967296)) f g h i pa pb pt (into q counted) pf pg ph pi)
 
   pub put-failures : {r : List ℕ} (n : ℕ) → S .third ≡ count → Sheet S texts κ r → Sheet S texts κ (putCount 20 n r)
   put-failures n q (sheet a b c m d e f g h i pa pb pt pe pf pg ph pi) =
       subst (Sheet S texts κ)
-      (sym (ap (λ (u : Bool). κ ∷ flagsOf (isGiven a ∷ isGiven b ∷ isGiven c ∷ isSome m ∷ isSome d ∷ isGiven e ∷ u ∷ isGiven g ∷ isGiven i ∷ false ∷ []) ∷ rest a b c m d e (constant (n % 4294967296) (n / 4294967296)) g h i) (count-hidden q pf)))
+      (sym (ap (λ (u : Bool). κ ∷ flagsOf (isGiven a ∷ isGiven b ∷ isGiven c ∷ isSome m ∷ isSome d ∷ isGiven e ∷ u ∷ isGiven g ∷ isGiven i ∷ false ∷ [])
+      ∷ rest a b c m d e (constant (n % 4294967296) (n / 4294967296)) g h i) (count-hidden q pf)))
       (sheet a b c m d e (constant (n % 4294967296) (n / 4294967296)) g h i pa pb pt pe (into q counted) pg ph pi)
 
   pub put-errors : {r : List ℕ} (n : ℕ) → S .fourth ≡ count → Sheet S texts κ r → Sheet S texts κ (putCount 22 n r)
   put-errors n q (sheet a b c m d e f g h i pa pb pt pe pf pg ph pi) =
       subst (Sheet S texts κ)
-      (sym (ap (λ (u : Bool). κ ∷ flagsOf (isGiven a ∷ isGiven b ∷ isGiven c ∷ isSome m ∷ isSome d ∷ isGiven e ∷ isGiven f ∷ u ∷ isGiven i ∷ false ∷ []) ∷ rest a b c m d e f (constant (n % 4294967296) (n / 4294967296)) h i) (count-hidden q pg)))
+      (sym (ap (λ (u : Bool). κ ∷ flagsOf (isGiven a ∷ isGiven b ∷ isGiven c ∷ isSome m ∷ isSome d ∷ isGiven e ∷ isGiven f ∷ u ∷ isGiven i ∷ false ∷ [])
+      ∷ rest a b c m d e f (constant (n % 4294967296) (n / 4294967296)) h i) (count-hidden q pg)))
       (sheet a b c m d e f (constant (n % 4294967296) (n / 4294967296)) h i pa pb pt pe pf (into q counted) ph pi)
 
   pub put-skipped : {r : List ℕ} (n : ℕ) → S .fifth ≡ count → Sheet S texts κ r → Sheet S texts κ (putCount 24 n r)

@@ -88,7 +88,8 @@ module _ {own text : List ℕ} {extras fill : ℕ} {g : Given} (hd : Held own te
             ∙ ap (λ (k : ℕ). take (i * 32 + 32) own ++ putPair 4 fill k (drop (i * 32 + 32) own)) n
             ∙ ap (λ (k : ℕ). take (i * 32 + 32) own ++ putPair 4 k (length v) (drop (i * 32 + 32) own)) (hd .filled)
             ∙ behind-main (putPair 4 (length (g .texts)) (length v)) own (g .main) (joined (g .extras) ++ zeros (hd .room)) (i * 32) (hd .records) (hd .main-words)
-            ∙ ap (λ (x : List ℕ). g .main ++ x) (extras-changed (putPair 4 (length (g .texts)) (length v)) (pair-local 4 (length (g .texts)) (length v) (omega arith)) (length (g .texts)) (g .extras) i (zeros (hd .room)) (hd .keyed) (omega arith))
+            ∙ ap (λ (x : List ℕ). g .main ++ x) (extras-changed (putPair 4 (length (g .texts)) (length v))
+            (pair-local 4 (length (g .texts)) (length v) (omega arith)) (length (g .texts)) (g .extras) i (zeros (hd .room)) (hd .keyed) (omega arith))
 
         pub old-put : Meets p (putMid (i * 32 + 32) (length own - (i * 32 + 32)) own ys) text′ (oldExtra rooms p v i g) (gives (extras, end))
         unfolding oldExtra
@@ -100,7 +101,8 @@ module _ {own text : List ℕ} {extras fill : ℕ} {g : Given} (hd : Held own te
               left = hd .left - length v;
               records = own-now;
               main-words = hd .main-words;
-              keyed = changed-keyed (putPair 4 a (length v)) (pair-length 4 a (length v)) (λ r. pair-other 4 a (length v) r 2 (omega arith) (omega arith)) (λ r. pair-other 4 a (length v) r 3 (omega arith) (omega arith))
+              keyed = changed-keyed (putPair 4 a (length v)) (pair-length 4 a (length v))
+                  (λ r. pair-other 4 a (length v) r 2 (omega arith) (omega arith)) (λ r. pair-other 4 a (length v) r 3 (omega arith) (omega arith))
                   (length (g .texts ++ v)) (g .extras) i (keyed-more a (length (g .texts ++ v)) (g .extras) (omega arith) (hd .keyed));
               count = hd .count ∙ sym (changed-length (putPair 4 a (length v)) (g .extras) i);
               stored = text-grown v text′ long t;

@@ -120,7 +120,8 @@ same-words x {k} {s} {n} {s′} {n′} {k₁} {s₁} {n₁} {s₂} {n₂} a b c 
     ap (λ (z : ℕ). extraWords z s n s′ n′ x) a ∙ ap (λ (z : ℕ). extraWords k₁ z n s′ n′ x) b ∙ ap (λ (z : ℕ). extraWords k₁ s₁ z s′ n′ x) c
     ∙ ap (λ (z : ℕ). extraWords k₁ s₁ n₁ z n′ x) d ∙ ap (λ (z : ℕ). extraWords k₁ s₁ n₁ s₂ z x) e
 
-module _ {own text : List ℕ} {extras fill : ℕ} {g : Given} (hd : Held own text extras fill g) {rooms : Rooms} {used : ℕ} (ro : Roomy rooms used (length own) (length text)) (p : Place) (kind : ℕ) (key value : List ℕ) where
+module _ {own text : List ℕ} {extras fill : ℕ} {g : Given} (hd : Held own text extras fill g) {rooms : Rooms}
+    {used : ℕ} (ro : Roomy rooms used (length own) (length text)) (p : Place) (kind : ℕ) (key value : List ℕ) where
   asked : used + 1 + length (g .extras) + 1 ≡ used + (extras + 2)
   asked = let c = hd .count in omega arith
 
@@ -132,7 +133,8 @@ module _ {own text : List ℕ} {extras fill : ℕ} {g : Given} (hd : Held own te
     spare : fits (rooms .records) (used + 1 + length (g .extras) + 1) ≡ true
     spare = ap (fits (rooms .records)) asked ∙ ro .for-records (extras + 2) ∙ le-leb ((extras + 2) * 32) (length own) (omega arith)
 
-    pub key-full : {own′ text′ : List ℕ} → refuses cause.TextFull ≡ moved fill (placing cause.TextFull (length text - fill) key) → Meets p own′ text′ (newExtra rooms p used kind key value g) (refuses cause.TextFull)
+    pub key-full : {own′ text′ : List ℕ} → refuses cause.TextFull ≡ moved fill (placing cause.TextFull (length text - fill) key)
+        → Meets p own′ text′ (newExtra rooms p used kind key value g) (refuses cause.TextFull)
     unfolding newExtra
     key-full e = meets-need cause.RecordsSpent _ spare (meets-refused cause.TextFull _ (text-none hd ro key (end-full fill (length text - fill) key e)))
 
@@ -165,9 +167,11 @@ module _ {own text : List ℕ} {extras fill : ℕ} {g : Given} (hd : Held own te
       roomy₁ : Roomy rooms used (length own) (length text₁)
       roomy₁ = rw size₁ ro
 
-      pub value-full : {own′ text′ : List ℕ} → refuses cause.TextFull ≡ moved middle (placing cause.TextFull (length text₁ - middle) value) → Meets p own′ text′ (newExtra rooms p used kind key value g) (refuses cause.TextFull)
+      pub value-full : {own′ text′ : List ℕ} → refuses cause.TextFull ≡ moved middle (placing cause.TextFull (length text₁ - middle) value)
+          → Meets p own′ text′ (newExtra rooms p used kind key value g) (refuses cause.TextFull)
       unfolding newExtra
-      value-full q = meets-need cause.RecordsSpent _ spare (meets-need cause.TextFull _ (text-room hd ro key long) (meets-refused cause.TextFull _ (text-none held₁ roomy₁ value (end-full middle (length text₁ - middle) value q))))
+      value-full q = meets-need cause.RecordsSpent _ spare
+          (meets-need cause.TextFull _ (text-room hd ro key long) (meets-refused cause.TextFull _ (text-none held₁ roomy₁ value (end-full middle (length text₁ - middle) value q))))
 
       module _ {end : ℕ} {text₂ ys : List ℕ} (e′ : gives end ≡ moved middle (placing cause.TextFull (length text₁ - middle) value)) (t′ : text₂ ≡ take middle text₁ ++ laid (drop middle text₁) value)
           (o : ys ≡ extraWords (kind + 11) fill (middle - fill) middle (end - middle) (take (length own - (extras * 32 + 32)) (drop (extras * 32 + 32) own))) where
@@ -202,7 +206,8 @@ module _ {own text : List ℕ} {extras fill : ℕ} {g : Given} (hd : Held own te
               left = held₁ .left - length value;
               records = own-now;
               main-words = hd .main-words;
-              keyed = keyed-snoc n (g .extras) (made (extraKind kind) (length (g .texts)) (length key) (length (g .texts ++ key)) (length value)) (keyed-more (length (g .texts)) n (g .extras) (omega arith) (hd .keyed))
+              keyed = keyed-snoc n (g .extras) (made (extraKind kind) (length (g .texts)) (length key) (length (g .texts ++ key)) (length value))
+                  (keyed-more (length (g .texts)) n (g .extras) (omega arith) (hd .keyed))
                   (made-length (extraKind kind) (length (g .texts)) (length key) (length (g .texts ++ key)) (length value)) (omega arith);
               count = let k = hd .count in omega arith;
               stored = text-grown held₁ value text₂ long′ t′;

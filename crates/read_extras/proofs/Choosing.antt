@@ -50,7 +50,8 @@ place-from own texts z key (r ∷ rs) i y e k = go (sameBytes (textAt texts r 2)
     told = ap (λ (l : List ℕ). sameBytes (textAt (texts ++ z) l 2) key) here ∙ ap (λ (l : List ℕ). sameBytes l key) (text-in texts z r (joined rs ++ y) (k .0) (k .1 .0))
 
     go : (b : Bool) → placeAt own (texts ++ z) key (length rs) (i + 1) ≡ (i + 1) + placeOf texts key rs
-        → cond (sameBytes (textAt (texts ++ z) (drop (i * 32 + 32) own) 2) key) i (placeAt own (texts ++ z) key (length rs) (i + 1)) ≡ i + cond (sameBytes (textAt texts r 2) key) 0 (suc (placeOf texts key rs))
+        → cond (sameBytes (textAt (texts ++ z) (drop (i * 32 + 32) own) 2) key) i (placeAt own (texts ++ z) key (length rs) (i + 1))
+        ≡ i + cond (sameBytes (textAt texts r 2) key) 0 (suc (placeOf texts key rs))
     go b ih = ap (λ (t : Bool). cond t i (placeAt own (texts ++ z) key (length rs) (i + 1))) told ∙ by (sameBytes (textAt texts r 2) key)
       where
         by : (t : Bool) → cond t i (placeAt own (texts ++ z) key (length rs) (i + 1)) ≡ i + cond t 0 (suc (placeOf texts key rs))
@@ -61,7 +62,8 @@ pub place-held : {own text : List ℕ} {extras fill : ℕ} {g : Given} → Held 
 place-held {own} {text} {extras} {fill} {g} hd key =
     ap (λ (t : List ℕ). placeAt own t key extras 0) (hd .stored)
     ∙ ap (λ (n : ℕ). placeAt own (g .texts ++ zeros (hd .left)) key n 0) (hd .count)
-    ∙ place-from own (g .texts) (zeros (hd .left)) key (g .extras) 0 (zeros (hd .room)) (ap (drop 32) (hd .records) ∙ drop-at (g .main) (joined (g .extras) ++ zeros (hd .room)) 32 (hd .main-words)) (hd .keyed)
+    ∙ place-from own (g .texts) (zeros (hd .left)) key (g .extras) 0 (zeros (hd .room))
+    (ap (drop 32) (hd .records) ∙ drop-at (g .main) (joined (g .extras) ++ zeros (hd .room)) 32 (hd .main-words)) (hd .keyed)
     ∙ omega arith
 
 -- a hint, in the areas
@@ -71,8 +73,10 @@ hint-held hd key k h = place-held hd key ∙ k (let c = hd .count in omega arith
 pub hint-keyed : {hint : ℕ} (g : Given) {a b : List ℕ} → a ≡ b → Hinted hint g (valueText a) → Hinted hint g (valueText b)
 hint-keyed {hint} g e k h = ap (λ (l : List ℕ). placeOf (g .texts) (valueText l) (g .extras)) (sym e) ∙ k h
 
-module _ {own text : List ℕ} {extras fill : ℕ} {g : Given} (hd : Held own text extras fill g) (rooms : Rooms) (p : Place) (used kind : ℕ) (key value : List ℕ) {own′ text′ : List ℕ} {a : Answer (ℕ × ℕ)} {i : ℕ} (e : i ≡ placeAt own text key extras 0) where
-  choose : (b : Bool) → leb (length (g .extras)) i ≡ b → Meets p own′ text′ (cond b (newExtra rooms p used kind key value g) (oldExtra rooms p value i g)) a → Meets p own′ text′ (putExtra rooms p used kind key value g) a
+module _ {own text : List ℕ} {extras fill : ℕ} {g : Given} (hd : Held own text extras fill g) (rooms : Rooms) (p : Place) (used kind : ℕ)
+    (key value : List ℕ) {own′ text′ : List ℕ} {a : Answer (ℕ × ℕ)} {i : ℕ} (e : i ≡ placeAt own text key extras 0) where
+  choose : (b : Bool) → leb (length (g .extras)) i ≡ b → Meets p own′ text′ (cond b (newExtra rooms p used kind key value g) (oldExtra rooms p value i g)) a
+      → Meets p own′ text′ (putExtra rooms p used kind key value g) a
   unfolding putExtra
   choose b q m =
       subst (λ (j : ℕ). Meets p own′ text′ (cond (leb (length (g .extras)) j) (newExtra rooms p used kind key value g) (oldExtra rooms p value j g)) a) (e ∙ place-held hd key)
@@ -104,7 +108,8 @@ module _ (rooms : Rooms) (p : Place) (used kind : ℕ) (x : Attribute) (g : Give
     unfolding readExtra
     read-value e = meets-then _ (good ∙ ap checkedOf (sym ek)) (meets-first _ (e ∙ ap checkedOf (sym ev)))
 
-    pub read-put : {a : Answer (ℕ × ℕ)} → gives tt ≡ checkedOf value → Meets p own text (putExtra rooms p used kind (valueText key) (valueText value) g) a → Meets p own text (readExtra rooms p used kind x g) a
+    pub read-put : {a : Answer (ℕ × ℕ)} → gives tt ≡ checkedOf value
+        → Meets p own text (putExtra rooms p used kind (valueText key) (valueText value) g) a → Meets p own text (readExtra rooms p used kind x g) a
     unfolding readExtra putExtra
     read-put {a} e m =
         meets-then _ (good ∙ ap checkedOf (sym ek)) (meets-then _ (e ∙ ap checkedOf (sym ev))

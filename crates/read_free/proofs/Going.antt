@@ -21,7 +21,8 @@ pub record Going (attributes source : List ℕ) (first end m : ℕ) (work₀ wor
   pub none : Unrepeated attributes source first j
   pub chains : Chained (falls attributes source first m) (j - first) m work
 
-pub going-start : (attributes source : List ℕ) (first end m : ℕ) (work : List ℕ) → first ≤ end → end - first < length work → m ≡ length work - (end - first) → work ≡ zeros (length work) → Going attributes source first end m work work first
+pub going-start : (attributes source : List ℕ) (first end m : ℕ) (work : List ℕ) → first ≤ end → end - first < length work
+    → m ≡ length work - (end - first) → work ≡ zeros (length work) → Going attributes source first end m work work first
 going-start attributes source first end m work h l e z =
     let y : 0 ≡ first - first = omega arith in
     record {
@@ -36,5 +37,6 @@ module _ {attributes source : List ℕ} {first end m : ℕ} {work₀ work : List
   pub going-room : j < end → m + (j - first) < length work
   going-room h = omega (arith, g .room, g .kept, g .begun)
 
-  pub going-more : {work′ : List ℕ} {r : Bool} → j < end → length work′ ≡ length work → (r ≡ among (keyAt attributes source j) (keysIn attributes source first j)) × (r ≡ false → Chained (falls attributes source first m) (j + 1 - first) m work′) → r ≡ false → Going attributes source first end m work₀ work′ (j + 1)
+  pub going-more : {work′ : List ℕ} {r : Bool} → j < end → length work′ ≡ length work → (r ≡ among (keyAt attributes source j) (keysIn attributes source first j))
+      × (r ≡ false → Chained (falls attributes source first m) (j + 1 - first) m work′) → r ≡ false → Going attributes source first end m work₀ work′ (j + 1)
   going-more h l e q = record { begun = omega (arith, g .begun); room = g .room; kept = l ∙ g .kept; none = unrepeated-more attributes source first j (g .none) (sym (e .0) ∙ q); chains = e .1 q }

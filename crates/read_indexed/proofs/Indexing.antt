@@ -47,7 +47,8 @@ pub record Indexing (kind : ℕ) (attributes source : List ℕ) (first end k m :
   pub low : first ≤ j
   pub high : j ≤ end
   pub few : given .extras ≤ j - first
-  pub along : (rooms : Rooms) (p : Place) (used whole : ℕ) → length own₀ ≤ whole → Roomy rooms used whole (length text₀) → Along kind attributes source first end g₀ rooms p used (take k own) text j given
+  pub along : (rooms : Rooms) (p : Place) (used whole : ℕ) → length own₀ ≤ whole → Roomy rooms used whole (length text₀)
+      → Along kind attributes source first end g₀ rooms p used (take k own) text j given
   pub chains : Indexed k m (given .extras) own text
 
 module _ (kind : ℕ) (attributes source : List ℕ) (first end k m : ℕ) (own₀ text₀ : List ℕ) (g₀ : Given) where
@@ -64,7 +65,8 @@ module _ (kind : ℕ) (attributes source : List ℕ) (first end k m : ℕ) (own�
         along = λ rooms p used whole w ro. record {
           said = g₀;
           holds = hd;
-          same = ap (λ (xs : List Attribute). readAttributes rooms p used kind (keysOf xs) first (attributesFrom attributes source (end - first) first) g₀) (sym (attributes-end attributes source first first (omega arith)));
+          same = ap (λ (xs : List Attribute). readAttributes rooms p used kind (keysOf xs) first (attributesFrom attributes source (end - first) first) g₀)
+              (sym (attributes-end attributes source first first (omega arith)));
         };
         chains = chained-start (stands (take k own₀) text₀ m) m (z ∙ ap zeros (sym l)) some (omega arith);
       }
@@ -86,14 +88,16 @@ module _ {kind : ℕ} {attributes source : List ℕ} {first end k m : ℕ} {own�
   unfolding readAttributes
   indexing-done h rooms p used whole w ro =
       let a = x .along rooms p used whole w ro in
-      let e = a .same ∙ ap (λ (xs : List Attribute). readAttributes rooms p used kind (keysOf (attributesFrom attributes source (j - first) first)) j xs (a .said)) (attributes-end attributes source end j h) in
+      let e = a .same
+      ∙ ap (λ (xs : List Attribute). readAttributes rooms p used kind (keysOf (attributesFrom attributes source (j - first) first)) j xs (a .said)) (attributes-end attributes source end j h) in
       subst (λ (o : Outcome Given). Matches p (take k own) text o (step.To given)) (sym e) (went (a .holds))
 
   -- the definition with attribute j taken first
   turn : j < end → (rooms : Rooms) (p : Place) (used whole : ℕ) (w : length own₀ ≤ whole) (ro : Roomy rooms used whole (length text₀))
       → readAttributes rooms p used kind [] first (attributesFrom attributes source (end - first) first) g₀
       ≡ (attributeStep attributes source kind first rooms p used j (x .along rooms p used whole w ro .said)
-      >>= λ g. readAttributes rooms p used kind (keysOf (attributesFrom attributes source (j - first) first) ++ (keyAt attributes source j ∷ [])) (j + 1) (attributesFrom attributes source (end - (j + 1)) (j + 1)) g)
+      >>= λ g. readAttributes rooms p used kind (keysOf (attributesFrom attributes source (j - first) first) ++ (keyAt attributes source j ∷ []))
+      (j + 1) (attributesFrom attributes source (end - (j + 1)) (j + 1)) g)
   unfolding readAttributes
   turn h rooms p used whole w ro =
       let a = x .along rooms p used whole w ro in
@@ -126,7 +130,8 @@ module _ {kind : ℕ} {attributes source : List ℕ} {first end k m : ℕ} {own�
     unfolding _>>=_
     indexing-stopped {fault} q rooms p used whole w ro =
         let e = turn h rooms p used whole w ro
-        ∙ ap (λ (o : Outcome Given). o >>= λ g. readAttributes rooms p used kind (keysOf (attributesFrom attributes source (j - first) first) ++ (keyAt attributes source j ∷ [])) (j + 1) (attributesFrom attributes source (end - (j + 1)) (j + 1)) g)
+        ∙ ap (λ (o : Outcome Given). o >>= λ g. readAttributes rooms p used kind (keysOf (attributesFrom attributes source (j - first) first) ++ (keyAt attributes source j ∷ []))
+        (j + 1) (attributesFrom attributes source (end - (j + 1)) (j + 1)) g)
         (halted (taking q rooms p used whole w ro)) in
         subst (λ (o : Outcome Given). Matches p front text′ o (step.Not fault)) (sym e) stopped
 
@@ -146,7 +151,8 @@ module _ {kind : ℕ} {attributes source : List ℕ} {first end k m : ℕ} {own�
       went-on = gone (taking q (spacious (length own₀) (length text₀)) somewhere 0 (length own₀) (itself (length own₀)) (roomy-spacious (length own₀) (length text₀)))
 
       kept : Kept (plain .said) (went-on .said)
-      kept = held (subst (λ (o : Outcome Given). Holds (λ g. Kept (plain .said) g) o) (went-on .same) (kept-step attributes source kind first (spacious (length own₀) (length text₀)) somewhere 0 j (plain .said) (plain .holds .keyed)))
+      kept = held (subst (λ (o : Outcome Given). Holds (λ g. Kept (plain .said) g) o) (went-on .same)
+          (kept-step attributes source kind first (spacious (length own₀) (length text₀)) somewhere 0 j (plain .said) (plain .holds .keyed)))
 
       pub next-least : given .extras ≤ next .extras
       next-least = kept-least (plain .holds) (went-on .holds) kept
@@ -179,8 +185,10 @@ module _ {kind : ℕ} {attributes source : List ℕ} {first end k m : ℕ} {own�
                 said = d .said;
                 holds = subst (λ (z : List ℕ). Held z text′ (next .extras) (next .fill) (d .said)) (sym e) (d .holds);
                 same = turn h rooms p used whole w ro
-                    ∙ ap (λ (o : Outcome Given). o >>= λ g. readAttributes rooms p used kind (keysOf (attributesFrom attributes source (j - first) first) ++ (keyAt attributes source j ∷ [])) (j + 1) (attributesFrom attributes source (end - (j + 1)) (j + 1)) g) (d .same)
-                    ∙ ap (λ (ks : List (List ℕ)). readAttributes rooms p used kind ks (j + 1) (attributesFrom attributes source (end - (j + 1)) (j + 1)) (d .said)) (sym (keys-next attributes source first j (x .low)));
+                    ∙ ap (λ (o : Outcome Given). o >>= λ g. readAttributes rooms p used kind (keysOf (attributesFrom attributes source (j - first) first) ++ (keyAt attributes source j ∷ []))
+                    (j + 1) (attributesFrom attributes source (end - (j + 1)) (j + 1)) g) (d .same)
+                    ∙ ap (λ (ks : List (List ℕ)). readAttributes rooms p used kind ks (j + 1) (attributesFrom attributes source (end - (j + 1)) (j + 1)) (d .said))
+                    (sym (keys-next attributes source first j (x .low)));
               });
               chains = c;
             }

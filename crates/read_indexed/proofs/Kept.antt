@@ -75,7 +75,8 @@ module _ (rooms : Rooms) (p : Place) (used kind : ℕ) (g : Given) (keyed : Keye
   kept-text q o k value =
       bind (answered q (checkedOf value)) λ _ _.
       needed (fits (rooms .text) (length (g .texts) + length (valueText value))) q cause.TextFull λ _.
-      accept (none-more g (record { main = putText o k (length (g .texts)) (length (valueText value)) (g .main); extras = g .extras; texts = g .texts ++ valueText value }) (keys-grown (g .texts) (valueText value) (g .extras) keyed))
+      accept (none-more g (record { main = putText o k (length (g .texts)) (length (valueText value)) (g .main); extras = g .extras; texts = g .texts ++ valueText value })
+      (keys-grown (g .texts) (valueText value) (g .extras) keyed))
 
   kept-old : (value : List ℕ) (i : ℕ) → Holds (λ h. Kept g h) (oldExtra rooms p value i g)
   unfolding oldExtra
@@ -123,7 +124,8 @@ module _ (rooms : Rooms) (p : Place) (used kind : ℕ) (g : Given) (keyed : Keye
   kept-role key role.Ignored x = accept (same-extras g refl refl)
 
 -- attribute j
-pub kept-step : (attributes source : List ℕ) (kind first : ℕ) (rooms : Rooms) (p : Place) (used j : ℕ) (g : Given) → Keyed (length (g .texts)) (g .extras) → Holds (λ h. Kept g h) (attributeStep attributes source kind first rooms p used j g)
+pub kept-step : (attributes source : List ℕ) (kind first : ℕ) (rooms : Rooms) (p : Place) (used j : ℕ) (g : Given)
+    → Keyed (length (g .texts)) (g .extras) → Holds (λ h. Kept g h) (attributeStep attributes source kind first rooms p used j g)
 kept-step attributes source kind first rooms p used j g keyed =
     needed (markAt attributes j) (numbered p j) cause.FaultyAttribute λ _.
     needed (not (among (keyAt attributes source j) (keysOf (attributesFrom attributes source _ first)))) (numbered p j) cause.RepeatedKey λ _.

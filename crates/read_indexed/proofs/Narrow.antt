@@ -34,7 +34,8 @@ roomy-narrow {rooms} {used} k ro = record { for-records = λ n. go n (leb (n * 3
     go n true e = let h = leb-true (n * 32) k e in le-leb (used + n) (used + k / 32) (omega arith) ∙ sym e
     go n false e = let h = leb-false (n * 32) k e in lt-leb (used + n) (used + k / 32) (omega arith) ∙ sym e
 
-module _ (rooms : Rooms) (k : ℕ) (p : Place) (used kind : ℕ) (g : Given) (e : fits (rooms .records) (used + 1 + length (g .extras) + 1) ≡ fits (some (used + k / 32)) (used + 1 + length (g .extras) + 1)) where
+module _ (rooms : Rooms) (k : ℕ) (p : Place) (used kind : ℕ) (g : Given)
+    (e : fits (rooms .records) (used + 1 + length (g .extras) + 1) ≡ fits (some (used + k / 32)) (used + 1 + length (g .extras) + 1)) where
   new-narrow : (key value : List ℕ) → newExtra (narrow rooms used k) p used kind key value g ≡ newExtra rooms p used kind key value g
   unfolding newExtra
   new-narrow key value =
@@ -51,7 +52,8 @@ module _ (rooms : Rooms) (k : ℕ) (p : Place) (used kind : ℕ) (g : Given) (e 
   unfolding readExtra oldExtra
   extra-narrow x =
       let i = placeOf (g .texts) (valueText (x .key)) (g .extras) in
-      ap (λ (m : Outcome Given). there p (checkedOf (x .key)) >>= λ _. there p (checkedOf (x .value)) >>= λ _. cond (leb (length (g .extras)) i) m (oldExtra rooms p (valueText (x .value)) i g)) (new-narrow (valueText (x .key)) (valueText (x .value)))
+      ap (λ (m : Outcome Given). there p (checkedOf (x .key)) >>= λ _. there p (checkedOf (x .value)) >>= λ _. cond (leb (length (g .extras)) i) m (oldExtra rooms p (valueText (x .value)) i g))
+      (new-narrow (valueText (x .key)) (valueText (x .value)))
 
   role-narrow : (key : ℕ) (r : Role) (x : Attribute) → byRole (narrow rooms used k) p used kind key r x g ≡ byRole rooms p used kind key r x g
   unfolding byRole readText
@@ -65,7 +67,8 @@ module _ (rooms : Rooms) (k : ℕ) (p : Place) (used kind : ℕ) (g : Given) (e 
   role-narrow key role.Ignored x = refl
 
 -- attribute j, in rooms of k words of which its extra needs no more
-pub step-narrow : (attributes source : List ℕ) (kind first : ℕ) (rooms : Rooms) (p : Place) (used j : ℕ) (g : Given) {whole text : ℕ} (k : ℕ) → Roomy rooms used whole text → (length (g .extras) + 2) * 32 ≤ k → k ≤ whole
+pub step-narrow : (attributes source : List ℕ) (kind first : ℕ) (rooms : Rooms) (p : Place) (used j : ℕ) (g : Given) {whole text : ℕ} (k : ℕ)
+    → Roomy rooms used whole text → (length (g .extras) + 2) * 32 ≤ k → k ≤ whole
     → attributeStep attributes source kind first (narrow rooms used k) p used j g ≡ attributeStep attributes source kind first rooms p used j g
 unfolding fits
 step-narrow attributes source kind first rooms p used j g {whole} k ro h l =
@@ -73,5 +76,6 @@ step-narrow attributes source kind first rooms p used j g {whole} k ro h l =
     let z : n ≡ used + (length (g .extras) + 2) = omega arith in
     let a : fits (rooms .records) n ≡ true = ap (fits (rooms .records)) z ∙ ro .for-records (length (g .extras) + 2) ∙ le-leb ((length (g .extras) + 2) * 32) whole (omega arith) in
     let b : leb n (used + k / 32) ≡ true = le-leb n (used + k / 32) (omega arith) in
-    ap (λ (m : Outcome Given). need (markAt attributes j) (numbered p j) cause.FaultyAttribute (need (not (among (keyAt attributes source j) (keysOf (attributesFrom attributes source (j - first) first)))) (numbered p j) cause.RepeatedKey m))
+    ap (λ (m : Outcome Given). need (markAt attributes j) (numbered p j) cause.FaultyAttribute
+    (need (not (among (keyAt attributes source j) (keysOf (attributesFrom attributes source (j - first) first)))) (numbered p j) cause.RepeatedKey m))
     (role-narrow rooms k (numbered p j) used kind g (a ∙ sym b) (keyOf (keyAt attributes source j)) (roleOf kind (keyOf (keyAt attributes source j))) (attributeAt attributes source j))

@@ -27,7 +27,8 @@ stored-from own texts z (r ∷ rs) i y e k n h = go n h (λ a b. stored-from own
         let s : (i + 1) * 32 + 32 ≡ (i * 32 + 32) + 32 = omega arith in
         ap (λ (n : ℕ). drop n own) s ∙ sym (drop-drop 32 (i * 32 + 32) own) ∙ ap (drop 32) here ∙ drop-at r (joined rs ++ y) 32 (k .0)
 
-    go : (n : ℕ) → n < length (r ∷ rs) → ((a : ℕ) → a < length rs → storedKey own (texts ++ z) (i + 1 + a) ≡ getD (keyTexts texts rs) a []) → storedKey own (texts ++ z) (i + n) ≡ getD (keyTexts texts (r ∷ rs)) n []
+    go : (n : ℕ) → n < length (r ∷ rs) → ((a : ℕ) → a < length rs → storedKey own (texts ++ z) (i + 1 + a) ≡ getD (keyTexts texts rs) a [])
+        → storedKey own (texts ++ z) (i + n) ≡ getD (keyTexts texts (r ∷ rs)) n []
     go zero h ih =
         let s : i + 0 ≡ i = omega arith in
         ap (λ (m : ℕ). storedKey own (texts ++ z) m) s ∙ ap (λ (l : List ℕ). textAt (texts ++ z) l 2) here ∙ text-in texts z r (joined rs ++ y) (k .0) (k .1 .0)
@@ -40,9 +41,11 @@ stored-held {own} {text} {extras} {fill} {g} hd i h =
     let s : i ≡ 0 + i = omega arith in
     ap (λ (t : List ℕ). storedKey own t i) (hd .stored)
     ∙ ap (λ (m : ℕ). storedKey own (g .texts ++ zeros (hd .left)) m) s
-    ∙ stored-from own (g .texts) (zeros (hd .left)) (g .extras) 0 (zeros (hd .room)) (ap (drop 32) (hd .records) ∙ drop-at (g .main) (joined (g .extras) ++ zeros (hd .room)) 32 (hd .main-words)) (hd .keyed) i (let c = hd .count in omega arith)
+    ∙ stored-from own (g .texts) (zeros (hd .left)) (g .extras) 0 (zeros (hd .room))
+    (ap (drop 32) (hd .records) ∙ drop-at (g .main) (joined (g .extras) ++ zeros (hd .room)) 32 (hd .main-words)) (hd .keyed) i (let c = hd .count in omega arith)
 
-module _ {own text : List ℕ} {extras fill : ℕ} {g : Given} {own′ text′ : List ℕ} {extras′ fill′ : ℕ} {h : Given} (hd : Held own text extras fill g) (hd′ : Held own′ text′ extras′ fill′ h) (k : Kept g h) where
+module _ {own text : List ℕ} {extras fill : ℕ} {g : Given} {own′ text′ : List ℕ} {extras′ fill′ : ℕ}
+    {h : Given} (hd : Held own text extras fill g) (hd′ : Held own′ text′ extras′ fill′ h) (k : Kept g h) where
   sizes : extras′ ≡ extras + length (k .more)
   sizes =
       let a = ap length (k .same) ∙ length-append (keyTexts (g .texts) (g .extras)) (k .more) in

@@ -41,7 +41,8 @@ module _ (k : ℕ) (p : isPublic k ≡ false) where
   private-in [] other = refl
   private-in (x ∷ xs) other = go (isPublic (x .0)) refl (private-in xs other)
     where
-      go : (t : Bool) → isPublic (x .0) ≡ t → roleIn xs other k ≡ roleIn (privateOf xs) other k → cond (eqb k (x .0)) (x .1) (roleIn xs other k) ≡ roleIn (cond t (privateOf xs) (x ∷ privateOf xs)) other k
+      go : (t : Bool) → isPublic (x .0) ≡ t → roleIn xs other k ≡ roleIn (privateOf xs) other k
+          → cond (eqb k (x .0)) (x .1) (roleIn xs other k) ≡ roleIn (cond t (privateOf xs) (x ∷ privateOf xs)) other k
       go true q i = rw (ne-eqb k (x .0) (λ e. false≢true (sym p ∙ ap isPublic e ∙ q))) i
       go false q i = ap (cond (eqb k (x .0)) (x .1)) i
 

@@ -83,7 +83,8 @@ own-size {own} {g = g} h =
     let f = h .count in
     omega arith
 
-pub becomes-fits : {p : Place} {before : List (List ℕ)} {own text attributes source : List ℕ} {o : Outcome Grown} {e : CodedGrown} → Becomes p before own text attributes source o (element.Is e) → e .records * 32 ≤ length own
+pub becomes-fits : {p : Place} {before : List (List ℕ)} {own text attributes source : List ℕ} {o : Outcome Grown} {e : CodedGrown}
+    → Becomes p before own text attributes source o (element.Is e) → e .records * 32 ≤ length own
 becomes-fits {e = e} (went (grew h q f)) = let a = own-size h in omega arith
 
 -- ---- the kinds
@@ -128,7 +129,8 @@ module _ {kind : ℕ} (c : CodedContent) (s : Content) (e : CodedGrown) {g : Gro
 module _ {words text scratch attributes source : List ℕ} {c : CodedContent} {s : Content} (hd : Holds words text scratch attributes source c s) where
   grown-holds : {own text′ : List ℕ} {extras : ℕ} {e : CodedGrown} {g : Given} → Held own text′ extras (e .fill) g → e .records ≡ extras + 1 → Free attributes source (e .free .first) (e .free .end)
       → {kind : ℕ} → NewKinds kind (s .records) (record { records = s .records ++ (g .main ∷ g .extras); texts = g .texts })
-      → Holds (putMid (c .used * 32) (length words - c .used * 32) words own) text′ scratch attributes source (addedIn e c) (grown s (record { records = s .records ++ (g .main ∷ g .extras); texts = g .texts }))
+      → Holds (putMid (c .used * 32) (length words - c .used * 32) words own) text′ scratch attributes source
+      (addedIn e c) (grown s (record { records = s .records ++ (g .main ∷ g .extras); texts = g .texts }))
   grown-holds {own} {text′} {extras} {e} {g} h q f k = record {
     room = h .room;
     left = h .left;
@@ -164,7 +166,8 @@ module _ {words text scratch attributes source : List ℕ} {c : CodedContent} {s
     unfolding adding
     element-comes rooms {own} {text′} {el} j xs l h b {r} q =
         rw q
-        (subst (λ (t : List ℕ). Comes (Added kind c s) p (putMid (c .used * 32) (length words - c .used * 32) words own) text′ scratch attributes source (readElement rooms p kind j xs (s .records) t >>= λ g. accepted (grown s g)) (addedTo el c))
+        (subst (λ (t : List ℕ). Comes (Added kind c s) p (putMid (c .used * 32) (length words - c .used * 32) words own) text′
+        scratch attributes source (readElement rooms p kind j xs (s .records) t >>= λ g. accepted (grown s g)) (addedTo el c))
         (text-front hd)
         (comes b (element-kinds rooms kind p j xs (s .records) (take (c .fill) text) l h)))
 
@@ -178,7 +181,8 @@ module _ {words text scratch attributes source : List ℕ} {c : CodedContent} {s
       (subst (λ (k : ℕ). Roomy rooms (c .used) k (length text)) (sym n) r)
 
   pub grown-fits : {own text′ : List ℕ} {el : Element} {e : CodedGrown} (kind j : ℕ) (xs : List Attribute)
-      → ((rooms : Rooms) (p : Place) (before : List (List ℕ)) → p .attribute ≡ nowhere → Roomy rooms (length before) (length (take (length words - c .used * 32) (drop (c .used * 32) words))) (length text)
+      → ((rooms : Rooms) (p : Place) (before : List (List ℕ)) → p .attribute ≡ nowhere
+      → Roomy rooms (length before) (length (take (length words - c .used * 32) (drop (c .used * 32) words))) (length text)
       → Becomes p before own text′ attributes source (readElement rooms p kind j xs before (take (c .fill) text)) el)
       → el ≡ element.Is e → e .records * 32 ≤ length own
   grown-fits {own} {text′} {el} {e} kind j xs f q =

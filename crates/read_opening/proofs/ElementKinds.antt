@@ -26,7 +26,9 @@ use Rattle.read_element.specs.Outcome.{Place, within, Rooms, fits}
 use Rattle.read_element.specs.Attributes.{Given, withMain, readText, placeOf, extraKind, oldExtra, newExtra, readExtra, keep, byRole, among, numbered, readAttributes, complete, Grown, readElement}
 use Rattle.read_element.proofs.TreeOutcome.{Holds, accept, bind, needed, answered, either}
 use Rattle.read_element.proofs.TreeSheet.{Sorts, text, value}
-use Rattle.read_element.proofs.TreeRoles.{Wide, Suits, as-first, as-value, as-second, as-tests, as-failures, as-errors, as-skipped, as-disabled, as-assertions, as-uuid, as-moment, as-time, as-extra, as-ignored, Class, report, suite, case, suiteProperty, caseProperty, failure, error, skipped, flakyFailure, flakyError, rerunFailure, rerunError, class-roles}
+use Rattle.read_element.proofs.TreeRoles.{Wide, Suits, as-first, as-value, as-second, as-tests, as-failures, as-errors, as-skipped, as-disabled}
+use Rattle.read_element.proofs.TreeRoles.{as-assertions, as-uuid, as-moment, as-time, as-extra, as-ignored, Class, report, suite, case, suiteProperty}
+use Rattle.read_element.proofs.TreeRoles.{caseProperty, failure, error, skipped, flakyFailure, flakyError, rerunFailure, rerunError, class-roles}
 use Rattle.read_element.proofs.TreeElement.{Few, no-extras, extras-of, each-changed}
 use Rattle.refusal.specs.declared.Cause.the-variants as cause
 
@@ -123,11 +125,13 @@ module _ (rooms : Rooms) {κ : ℕ} (used : ℕ) where
   by-role p key x (as-extra wide) w = extra-read p x wide w
   by-role p key x as-ignored w = accept w
 
-  attributes-read : {S : Sorts} → ((key : ℕ) → Suits S κ (roleOf κ key)) → (p : Place) (before : List (List ℕ)) (j : ℕ) (xs : List Attribute) {g : Given} → Going κ g → Holds (Going κ) (readAttributes rooms p used κ before j xs g)
+  attributes-read : {S : Sorts} → ((key : ℕ) → Suits S κ (roleOf κ key)) → (p : Place) (before : List (List ℕ)) (j : ℕ) (xs : List Attribute) {g : Given}
+      → Going κ g → Holds (Going κ) (readAttributes rooms p used κ before j xs g)
   unfolding readAttributes
   attributes-read roles p before j [] w = accept w
   attributes-read roles p before j (x ∷ xs) w =
-      bind (needed (x .good) (numbered p j) cause.FaultyAttribute λ _. needed (not (among (x .key) before)) (numbered p j) cause.RepeatedKey (λ e. by-role (numbered p j) (keyOf (x .key)) x (roles (keyOf (x .key))) w)) λ h v.
+      bind (needed (x .good) (numbered p j) cause.FaultyAttribute λ _.
+      needed (not (among (x .key) before)) (numbered p j) cause.RepeatedKey (λ e. by-role (numbered p j) (keyOf (x .key)) x (roles (keyOf (x .key))) w)) λ h v.
       attributes-read roles p (before ++ (x .key ∷ [])) (j + 1) xs v
 
 -- ---- the element
@@ -139,7 +143,8 @@ pub record NewKinds (κ : ℕ) (before : List (List ℕ)) (g : Grown) : Type 0 w
   pub each : Each (λ r. getD r 0 0 ≡ extraKind κ) extras
   pub few : Few κ extras
 
-of-class : (rooms : Rooms) {κ : ℕ} {S T : Sorts} (p : Place) (j : ℕ) (xs : List Attribute) (before : List (List ℕ)) (texts : List ℕ) → Class κ S T → Holds (NewKinds κ before) (readElement rooms p κ j xs before texts)
+of-class : (rooms : Rooms) {κ : ℕ} {S T : Sorts} (p : Place) (j : ℕ) (xs : List Attribute) (before : List (List ℕ)) (texts : List ℕ)
+    → Class κ S T → Holds (NewKinds κ before) (readElement rooms p κ j xs before texts)
 unfolding readElement complete
 of-class rooms {κ} p j xs before texts class =
     bind
@@ -152,7 +157,8 @@ of-class rooms {κ} p j xs before texts class =
     λ h v.
     accept (record { main = h .main; extras = h .extras; whole = refl; main-kind = v .main; each = v .extras; few = v .few })
 
-pub element-kinds : (rooms : Rooms) (κ : ℕ) (p : Place) (j : ℕ) (xs : List Attribute) (before : List (List ℕ)) (texts : List ℕ) → 1 ≤ κ → κ ≤ 12 → Holds (NewKinds κ before) (readElement rooms p κ j xs before texts)
+pub element-kinds : (rooms : Rooms) (κ : ℕ) (p : Place) (j : ℕ) (xs : List Attribute) (before : List (List ℕ)) (texts : List ℕ)
+    → 1 ≤ κ → κ ≤ 12 → Holds (NewKinds κ before) (readElement rooms p κ j xs before texts)
 element-kinds rooms zero p j xs before texts l h = absurd (omega arith)
 element-kinds rooms (suc zero) p j xs before texts l h = of-class rooms p j xs before texts report
 element-kinds rooms (suc (suc zero)) p j xs before texts l h = of-class rooms p j xs before texts suite

@@ -39,7 +39,8 @@ abbrev pub reported : CodedContent → CodedContent
 reported c = content (c .used) (c .fill) (c .description) (c .gathered) (c .used) (c .«suite_list») (c .«case_list») c
 
 module _ {words text scratch attributes source : List ℕ} {c : CodedContent} {s : Content} (hd : Holds words text scratch attributes source c s) where
-  pub all-killed : {words′ : List ℕ} → words′ ≡ killWords (c .used - c .«report_at») (c .«report_at») words → Holds words′ text scratch attributes source (reported c) (withRecords s (killAll (s .records)))
+  pub all-killed : {words′ : List ℕ} → words′ ≡ killWords (c .used - c .«report_at») (c .«report_at») words
+      → Holds words′ text scratch attributes source (reported c) (withRecords s (killAll (s .records)))
   all-killed {words′} e =
       let n : c .used - c .«report_at» ≡ length (s .records) - c .«report_at» = ap (λ (k : ℕ). k - c .«report_at») (hd .used) in
       let u = hd .used in
@@ -98,7 +99,8 @@ module _ {words text scratch attributes source : List ℕ} {c : CodedContent} {s
   module _ (p : Place) (m : Marks) where
     -- the list before is marked dead (rule R17)
     pub list-opened : (l : Level) → hasList (at l) ≡ true → Lists (at l) m c s → {words′ : List ℕ} → words′ ≡ killWords (listOf l c .count) (listOf l c .first) words
-        → Performs (listing l) m p words′ text scratch attributes source (accepted (withRecords s (killKind (propertyKind l) (recordOf l m) (s .records)))) (To (withList l c (record { first = c .used; count = 0 })))
+        → Performs (listing l) m p words′ text scratch attributes source
+        (accepted (withRecords s (killKind (propertyKind l) (recordOf l m) (s .records)))) (To (withList l c (record { first = c .used; count = 0 })))
     list-opened top a li e = no a
     list-opened suite a li e =
         went (
@@ -108,7 +110,13 @@ module _ {words text scratch attributes source : List ℕ} {c : CodedContent} {s
     list-opened case a li e =
         went (
           kind-killed 5 (m .caseAt) (c .«case_list») (withList case c (record { first = c .used; count = 0 })) (li .0 .1) (lit≤ tt) (lit≤ tt) refl e,
-          ((listed-other 5 (m .caseAt) (s .records) (lit≤ tt) (lit≤ tt) (lit≤ tt) (λ z. omega arith) (li .0 .0), rw (hd .used) (listed-anew 5 (m .caseAt) (s .records) (lit≤ tt) (lit≤ tt) (li .0 .1))), (li .1, omega arith)),
+          (
+            (
+              listed-other 5 (m .caseAt) (s .records) (lit≤ tt) (lit≤ tt) (lit≤ tt) (λ z. omega arith) (li .0 .0),
+              rw (hd .used) (listed-anew 5 (m .caseAt) (s .records) (lit≤ tt) (lit≤ tt) (li .0 .1)),
+            ),
+            (li .1, omega arith),
+          ),
         )
     list-opened status a li e = no a
 
@@ -168,13 +176,18 @@ module _ {words text scratch attributes source : List ℕ} {c : CodedContent} {s
   with-is case c′ list = refl
   with-is status c′ list = refl
 
-  property-on : (p : Place) (l : Level) {words′ text′ : List ℕ} {o : Outcome Content} {added : Performed} → Lists (listing l) m c s → Comes (Added (propertyKind l) c s) p words′ text′ scratch attributes source o added
+  property-on : (p : Place) (l : Level) {words′ text′ : List ℕ} {o : Outcome Content} {added : Performed}
+      → Lists (listing l) m c s → Comes (Added (propertyKind l) c s) p words′ text′ scratch attributes source o added
       → Performs (listing l) m p words′ text′ scratch attributes source o (counted l (record { first = listOf l c .first; count = listOf l c .count + 1 }) added)
   property-on p l li (went {s = s′} {c = c′} (h, a)) =
-      went (holds-lists (withList l c′ (record { first = listOf l c .first; count = listOf l c .count + 1 })) (with-is l c′ (record { first = listOf l c .first; count = listOf l c .count + 1 })) h, property-lists l li c′ s′ (h .used) a)
+      went (
+        holds-lists (withList l c′ (record { first = listOf l c .first; count = listOf l c .count + 1 })) (with-is l c′ (record { first = listOf l c .first; count = listOf l c .count + 1 })) h,
+        property-lists l li c′ s′ (h .used) a,
+      )
   property-on p l li stopped = stopped
 
-  pub property-comes : (p : Place) (l : Level) (rooms : Rooms) (j : ℕ) (xs : List Attribute) {kind : ℕ} {old : CodedList} {words′ text′ : List ℕ} {added r : Performed} → kind ≡ propertyKind l → Lists (listing l) m c s
+  pub property-comes : (p : Place) (l : Level) (rooms : Rooms) (j : ℕ) (xs : List Attribute) {kind : ℕ} {old : CodedList} {words′ text′ : List ℕ} {added r : Performed}
+      → kind ≡ propertyKind l → Lists (listing l) m c s
       → old ≡ listOf l c → Comes (Added kind c s) p words′ text′ scratch attributes source (adding rooms p kind j xs s) added
       → r ≡ counted l (record { first = old .first; count = old .count + 1 }) added
       → Performs (listing l) m p words′ text′ scratch attributes source (adding rooms p (propertyKind l) j xs s) r
@@ -283,19 +296,24 @@ abbrev pub Done : (words text scratch attributes source : List ℕ) → Place �
 Done words text scratch attributes source p s k m e rooms j xs r kind =
     Performs (turn (opening kind e) k .mode) (marksAfter (opening kind e) (length (s .records)) m) p words text scratch attributes source (perform rooms p (opening kind e) j xs k m s) r
 
-module _ {words text scratch attributes source : List ℕ} (p : Place) (c : CodedContent) (s : Content) (k : Control) (m : Marks) (e : Bool) (rooms : Rooms) (j : ℕ) (xs : List Attribute) {r : Performed} where
+module _ {words text scratch attributes source : List ℕ} (p : Place) (c : CodedContent) (s : Content)
+    (k : Control) (m : Marks) (e : Bool) (rooms : Rooms) (j : ℕ) (xs : List Attribute) {r : Performed} where
   pub opened-report : {kind : ℕ} → kind ≡ 1 → opens kind (k .mode) ≡ true → Lists (k .mode) m c s
-      → ((n : Marks) → s .gathered ≡ [] → Performs (at top) n p words text scratch attributes source (adding rooms p 1 j xs (withRecords s (killAll (s .records)))) r) → Done words text scratch attributes source p s k m e rooms j xs r kind
+      → ((n : Marks) → s .gathered ≡ [] → Performs (at top) n p words text scratch attributes source (adding rooms p 1 j xs (withRecords s (killAll (s .records)))) r)
+      → Done words text scratch attributes source p s k m e rooms j xs r kind
   unfolding turn marksAfter perform
   opened-report {kind} q o li f = rw q (f (marksAfter (openReport e) (length (s .records)) m) (opens-plain m c s kind (k .mode) o li))
 
   pub opened-suite : {kind : ℕ} → kind ≡ 2 → opens kind (k .mode) ≡ true → Lists (k .mode) m c s
-      → ((n : Marks) → s .gathered ≡ [] → n .suiteAt ≡ length (s .records) → Performs (at suite) n p words text scratch attributes source (adding rooms p 2 j xs s) r) → Done words text scratch attributes source p s k m e rooms j xs r kind
+      → ((n : Marks) → s .gathered ≡ [] → n .suiteAt ≡ length (s .records) → Performs (at suite) n p words text scratch attributes source (adding rooms p 2 j xs s) r)
+      → Done words text scratch attributes source p s k m e rooms j xs r kind
   unfolding turn marksAfter perform
-  opened-suite {kind} q o li f = rw q (comes-on (f (marksAfter (openSuite e) (length (s .records)) m) (opens-plain m c s kind (k .mode) o li) refl) (λ c′ s′ x. either-suite (marksAfter (openSuite e) (length (s .records)) m) c′ s′ e x))
+  opened-suite {kind} q o li f = rw q (comes-on (f (marksAfter (openSuite e) (length (s .records)) m) (opens-plain m c s kind (k .mode) o li) refl)
+      (λ c′ s′ x. either-suite (marksAfter (openSuite e) (length (s .records)) m) c′ s′ e x))
 
   pub opened-case : {kind : ℕ} → kind ≡ 3 → opens kind (k .mode) ≡ true → Lists (k .mode) m c s
-      → ((n : Marks) → Lists (at suite) n c s → n .caseAt ≡ length (s .records) → Performs (at case) n p words text scratch attributes source (adding rooms p 3 j xs s) r) → Done words text scratch attributes source p s k m e rooms j xs r kind
+      → ((n : Marks) → Lists (at suite) n c s → n .caseAt ≡ length (s .records) → Performs (at case) n p words text scratch attributes source (adding rooms p 3 j xs s) r)
+      → Done words text scratch attributes source p s k m e rooms j xs r kind
   unfolding turn marksAfter perform
   opened-case {kind} q o li f =
       let y = opens-case m c s (k .mode) (rw q at o) li in
@@ -307,4 +325,5 @@ module _ {words text scratch attributes source : List ℕ} (p : Place) (c : Code
   opened-status kind a b d o li f =
       let y = opens-status m c s kind a b d (k .mode) o li in
       rw (ne-eqb kind 1 a, ne-eqb kind 2 b, ne-eqb kind 3 d)
-      (comes-on f (λ c′ s′ x. either-status (marksAfter (openStatus kind e) (length (s .records)) m) c′ s′ e (status-lists (marksAfter (openStatus kind e) (length (s .records)) m) c s kind (y .0) (y .1) refl c′ s′ x)))
+      (comes-on f (λ c′ s′ x.
+      either-status (marksAfter (openStatus kind e) (length (s .records)) m) c′ s′ e (status-lists (marksAfter (openStatus kind e) (length (s .records)) m) c s kind (y .0) (y .1) refl c′ s′ x)))

@@ -50,7 +50,8 @@ pub piece-answer : (k : PieceKind) (n : ℕ) (s : List ℕ) → pieceAnswer k n 
 unfolding pieceOf
 piece-answer Text n s = go (utf8 s) (refsOk s 0)
   where
-    go : (a b : Bool) → cond a (cond b (placing cause.ScratchFull n (decoded s 0)) (refuses cause.BadReference)) (refuses cause.NotUtf8) ≡ placed n (cond a (cond b (gives (decoded s 0)) (refuses cause.BadReference)) (refuses cause.NotUtf8))
+    go : (a b : Bool) → cond a (cond b (placing cause.ScratchFull n (decoded s 0)) (refuses cause.BadReference)) (refuses cause.NotUtf8)
+        ≡ placed n (cond a (cond b (gives (decoded s 0)) (refuses cause.BadReference)) (refuses cause.NotUtf8))
     go true true = refl
     go true false = refl
     go false b = refl
@@ -61,7 +62,8 @@ piece-answer CData n s = go (utf8 s)
     go false = refl
 piece-answer Ref n s = go (utf8 s) (isNamed s)
   where
-    go : (a b : Bool) → cond a (cond b (placing cause.ScratchFull n (encode (charOf s))) (refuses (unnamed s))) (refuses cause.NotUtf8) ≡ placed n (cond a (cond b (gives (encode (charOf s))) (refuses (unnamed s))) (refuses cause.NotUtf8))
+    go : (a b : Bool) → cond a (cond b (placing cause.ScratchFull n (encode (charOf s))) (refuses (unnamed s))) (refuses cause.NotUtf8)
+        ≡ placed n (cond a (cond b (gives (encode (charOf s))) (refuses (unnamed s))) (refuses cause.NotUtf8))
     go true true = refl
     go true false = refl
     go false b = refl
@@ -103,17 +105,20 @@ module _ {words text scratch attributes source : List ℕ} {c : CodedContent} {s
       → scratch′ ≡ (s .description ++ s .gathered) ++ (v ++ behind-all v)
   new-scratch v scratch′ h e =
       let q = scratch-size hd in
-      let n : length (s .description ++ s .gathered) ≡ c .description + c .gathered = length-append (s .description) (s .gathered) ∙ (let a = hd .description in let b = hd .gathered in omega arith) in
+      let n : length (s .description ++ s .gathered) ≡ c .description + c .gathered =
+      length-append (s .description) (s .gathered) ∙ (let a = hd .description in let b = hd .gathered in omega arith) in
       let z : scratch ≡ (s .description ++ s .gathered) ++ hd .behind = hd .pieces ∙ sym (append-assoc (s .description) (s .gathered) (hd .behind)) in
       e
       ∙ ap (λ (x : List ℕ). take (c .description + c .gathered) x ++ laid (drop (c .description + c .gathered) x) v) z
-      ∙ ap (λ (x : List ℕ). x ++ laid (drop (c .description + c .gathered) ((s .description ++ s .gathered) ++ hd .behind)) v) (take-at (s .description ++ s .gathered) (hd .behind) (c .description + c .gathered) n)
+      ∙ ap (λ (x : List ℕ). x ++ laid (drop (c .description + c .gathered) ((s .description ++ s .gathered) ++ hd .behind)) v)
+      (take-at (s .description ++ s .gathered) (hd .behind) (c .description + c .gathered) n)
       ∙ ap (λ (x : List ℕ). (s .description ++ s .gathered) ++ laid x v) (drop-at (s .description ++ s .gathered) (hd .behind) (c .description + c .gathered) n)
       ∙ ap (λ (x : List ℕ). (s .description ++ s .gathered) ++ x) (laid-fits (hd .behind) v (omega arith))
 
   -- the areas with other texts in scratch
   with-pieces : {scratch′ : List ℕ} (d g rest : List ℕ) (dn gn : ℕ) → scratch′ ≡ d ++ (g ++ rest) → dn ≡ length d → gn ≡ length g
-      → Holds words text scratch′ attributes source (record { used = c .used; fill = c .fill; description = dn; gathered = gn; «report_at» = c .«report_at»; «suite_list» = c .«suite_list»; «case_list» = c .«case_list»; free = c .free })
+      → Holds words text scratch′ attributes source
+      (record { used = c .used; fill = c .fill; description = dn; gathered = gn; «report_at» = c .«report_at»; «suite_list» = c .«suite_list»; «case_list» = c .«case_list»; free = c .free })
       (record { records = s .records; texts = s .texts; description = d; gathered = g })
   with-pieces d g rest dn gn e p q = record {
     room = hd .room;
@@ -162,8 +167,11 @@ module _ {words text scratch attributes source : List ℕ} {c : CodedContent} {s
       go plan.suite x = x
       go plan.case x = x
       go plan.status x = x
-  joined-holds mode.List l o m li v scratch′ n e z =
-      (with-pieces (s .description) (s .gathered) (v ++ behind-all v) (c .description) (c .gathered) (z ∙ append-assoc (s .description) (s .gathered) (v ++ behind-all v)) (hd .description) (hd .gathered), li)
+  joined-holds mode.List l o m li v scratch′ n e z = (
+    with-pieces (s .description) (s .gathered) (v ++ behind-all v) (c .description) (c .gathered)
+        (z ∙ append-assoc (s .description) (s .gathered) (v ++ behind-all v)) (hd .description) (hd .gathered),
+    li,
+  )
 
   module _ {rooms : Rooms} (sz : Sized rooms (length words) (length text) (length scratch)) (p : Place) (pa : p .attribute ≡ nowhere)
       (k : CodedMode) (l : Level) (o : plan.Output) (m : Marks) (li : Lists (modeAt k l o) m c s) (kind : PieceKind) (b : List ℕ) where
@@ -176,11 +184,13 @@ module _ {words text scratch attributes source : List ℕ} {c : CodedContent} {s
     part-size : length (take (length scratch - (c .description + c .gathered)) (drop (c .description + c .gathered) scratch)) ≡ length scratch - (c .description + c .gathered)
     part-size = ap length (rest-part scratch (c .description + c .gathered)) ∙ length-drop (c .description + c .gathered) scratch
 
-    answer-is : {a : Answer ℕ} → a ≡ pieceAnswer kind (length (take (length scratch - (c .description + c .gathered)) (drop (c .description + c .gathered) scratch))) b → a ≡ placed (length scratch - (c .description + c .gathered)) (pieceOf kind b)
+    answer-is : {a : Answer ℕ} → a ≡ pieceAnswer kind (length (take (length scratch - (c .description + c .gathered)) (drop (c .description + c .gathered) scratch))) b
+        → a ≡ placed (length scratch - (c .description + c .gathered)) (pieceOf kind b)
     answer-is e = e ∙ ap (λ (n : ℕ). pieceAnswer kind n b) part-size ∙ piece-answer kind (length scratch - (c .description + c .gathered)) b
 
     scratch-is : {ys : List ℕ} → ys ≡ pieceLaid kind (take (length scratch - (c .description + c .gathered)) (drop (c .description + c .gathered) scratch)) b
-        → putMid (c .description + c .gathered) (length scratch - (c .description + c .gathered)) scratch ys ≡ take (c .description + c .gathered) scratch ++ laidBy (drop (c .description + c .gathered) scratch) (pieceOf kind b)
+        → putMid (c .description + c .gathered) (length scratch - (c .description + c .gathered)) scratch ys
+        ≡ take (c .description + c .gathered) scratch ++ laidBy (drop (c .description + c .gathered) scratch) (pieceOf kind b)
     scratch-is {ys} e =
         rest-back scratch (c .description + c .gathered) ys
         ∙ ap (λ (x : List ℕ). take (c .description + c .gathered) scratch ++ x)
@@ -200,7 +210,8 @@ module _ {words text scratch attributes source : List ℕ} {c : CodedContent} {s
         let f = put-fits cause.ScratchFull (length scratch - (c .description + c .gathered)) v n e in
         let h = f .0 in
         let u = scratch-size hd in
-        let t : fits (rooms .scratch) (length (s .description) + length (s .gathered) + length v) ≡ true = room-for v ∙ le-leb (c .description + c .gathered + length v) (length scratch) (omega arith) in
+        let t : fits (rooms .scratch) (length (s .description) + length (s .gathered) + length v) ≡ true =
+        room-for v ∙ le-leb (c .description + c .gathered + length v) (length scratch) (omega arith) in
         let j = joined-holds k l o m li v scratch′ n (f .1) (new-scratch v scratch′ h z) in
         rw (q, t) (went (j .0, j .1))
     gathered-put (refuses x) q e z = let w : _≡_ {A = ℕ} 0 1 = cc in absurd (omega arith)
@@ -211,7 +222,8 @@ module _ {words text scratch attributes source : List ℕ} {c : CodedContent} {s
     gathered-not (gives v) q why e =
         let d = over v (leb (length v) (length scratch - (c .description + c .gathered))) refl e in
         let h = d .1 in
-        let t : fits (rooms .scratch) (length (s .description) + length (s .gathered) + length v) ≡ false = room-for v ∙ lt-leb (c .description + c .gathered + length v) (length scratch) (omega arith) in
+        let t : fits (rooms .scratch) (length (s .description) + length (s .gathered) + length v) ≡ false =
+        room-for v ∙ lt-leb (c .description + c .gathered + length v) (length scratch) (omega arith) in
         rw (q, t, d .0) refl
       where
         over : (v : List ℕ) (t : Bool) → leb (length v) (length scratch - (c .description + c .gathered)) ≡ t → refuses why ≡ cond t (gives (length v)) (refuses cause.ScratchFull)
@@ -220,12 +232,15 @@ module _ {words text scratch attributes source : List ℕ} {c : CodedContent} {s
         over v false y e = (cc, borrow.Author.Tests.leb-false (length v) (length scratch - (c .description + c .gathered)) y)
     gathered-not (refuses x) q why e = let w : x ≡ why = cc in rw (q, w) refl
 
-    pub piece-put : {n : ℕ} {ys : List ℕ} {r : Performed} → gives n ≡ pieceAnswer kind (length (take (length scratch - (c .description + c .gathered)) (drop (c .description + c .gathered) scratch))) b
+    pub piece-put : {n : ℕ} {ys : List ℕ} {r : Performed}
+        → gives n ≡ pieceAnswer kind (length (take (length scratch - (c .description + c .gathered)) (drop (c .description + c .gathered) scratch))) b
         → ys ≡ pieceLaid kind (take (length scratch - (c .description + c .gathered)) (drop (c .description + c .gathered) scratch)) b → r ≡ To (joinedBy k n c)
-        → Performs (modeAt k l o) m p words text (putMid (c .description + c .gathered) (length scratch - (c .description + c .gathered)) scratch ys) attributes source (gather rooms p (modeAt k l o) kind b s) r
+        → Performs (modeAt k l o) m p words text (putMid (c .description + c .gathered) (length scratch - (c .description + c .gathered)) scratch ys)
+        attributes source (gather rooms p (modeAt k l o) kind b s) r
     piece-put e z q = rw q (gathered-put (pieceOf kind b) refl (answer-is e) (scratch-is z))
 
-    pub piece-not : (why : Cause) {scratch′ : List ℕ} {r : Performed} → refuses why ≡ pieceAnswer kind (length (take (length scratch - (c .description + c .gathered)) (drop (c .description + c .gathered) scratch))) b
+    pub piece-not : (why : Cause) {scratch′ : List ℕ} {r : Performed}
+        → refuses why ≡ pieceAnswer kind (length (take (length scratch - (c .description + c .gathered)) (drop (c .description + c .gathered) scratch))) b
         → r ≡ Not (faultOf why) → Performs (modeAt k l o) m p words text scratch′ attributes source (gather rooms p (modeAt k l o) kind b s) r
     piece-not why e q = halts p why pa (gathered-not (pieceOf kind b) refl why (answer-is e)) q
 

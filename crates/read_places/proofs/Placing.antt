@@ -32,7 +32,8 @@ module _ (own text key : List ℕ) (n : ℕ) where
       ap (λ (k : ℕ). placeAt own text key k i) z ∙ ap (λ (k : ℕ). cond (sameBytes (storedKey own text i) key) i (placeAt own text key (n - suc i) k)) y
 
   -- extras of other buckets are passed over
-  pub skip : (m bound : ℕ) → bound ≤ n → placeAt own text key (n - lastIn (stands own text m) (bucketOf m key) bound) (lastIn (stands own text m) (bucketOf m key) bound) ≡ placeAt own text key (n - bound) bound
+  pub skip : (m bound : ℕ) → bound ≤ n
+      → placeAt own text key (n - lastIn (stands own text m) (bucketOf m key) bound) (lastIn (stands own text m) (bucketOf m key) bound) ≡ placeAt own text key (n - bound) bound
   unfolding lastIn
   skip m zero h = refl
   skip m (suc i) h = go (eqb (stands own text m i) (bucketOf m key)) refl (skip m i (omega arith)) (place-on i h)
@@ -40,7 +41,8 @@ module _ (own text key : List ℕ) (n : ℕ) where
       go : (t : Bool) → eqb (stands own text m i) (bucketOf m key) ≡ t
           → placeAt own text key (n - lastIn (stands own text m) (bucketOf m key) i) (lastIn (stands own text m) (bucketOf m key) i) ≡ placeAt own text key (n - i) i
           → placeAt own text key (n - i) i ≡ cond (sameBytes (storedKey own text i) key) i (placeAt own text key (n - suc i) (suc i))
-          → placeAt own text key (n - cond t (suc i) (lastIn (stands own text m) (bucketOf m key) i)) (cond t (suc i) (lastIn (stands own text m) (bucketOf m key) i)) ≡ placeAt own text key (n - suc i) (suc i)
+          → placeAt own text key (n - cond t (suc i) (lastIn (stands own text m) (bucketOf m key) i)) (cond t (suc i) (lastIn (stands own text m) (bucketOf m key) i))
+          ≡ placeAt own text key (n - suc i) (suc i)
       go true q e f = refl
       go false q e f = e ∙ f ∙ ap (λ (t : Bool). cond t i (placeAt own text key (n - suc i) (suc i))) (unlike (sameBytes (storedKey own text i) key) refl)
         where
@@ -72,7 +74,8 @@ module _ {own text key : List ℕ} {n m : ℕ} {work : List ℕ} (k : Chained (s
     pub placing-low : s ≤ n
     placing-low = let l = walking-low k (g .walk) h in omega (arith, g .walk .low)
 
-    pub placing-more : {x : List ℕ} {r : Bool} {w s′ found′ : ℕ} → x ≡ storedKey own text (s - 1) → r ≡ sameBytes x key → found′ ≡ cond r (s - 1) found → w ≡ getD work (m + (s - 1)) 0 → s′ ≡ w → Placing own text key n m s′ found′
+    pub placing-more : {x : List ℕ} {r : Bool} {w s′ found′ : ℕ} → x ≡ storedKey own text (s - 1) → r ≡ sameBytes x key
+        → found′ ≡ cond r (s - 1) found → w ≡ getD work (m + (s - 1)) 0 → s′ ≡ w → Placing own text key n m s′ found′
     placing-more {r = r} {found′ = found′} e q f o l =
         let y : s ≡ suc (s - 1) = omega arith in
         let low = placing-low in
@@ -88,7 +91,8 @@ module _ {own text key : List ℕ} {n m : ℕ} {work : List ℕ} (k : Chained (s
       g .place ∙ ap (λ (i : ℕ). placeAt own text key (n - i) i) e ∙ ap (λ (i : ℕ). placeAt own text key i 0) z
 
 -- the bytes that two words of extra i's record tell of
-pub key-words : (own text : List ℕ) (i : ℕ) {k : List ℕ} {x y x′ y′ : ℕ} → k ≡ take y (drop x text) → x ≡ x′ → x′ ≡ getD own (i * 32 + 32 + 2) 0 → y ≡ y′ → y′ ≡ getD own (i * 32 + 32 + 3) 0 → k ≡ storedKey own text i
+pub key-words : (own text : List ℕ) (i : ℕ) {k : List ℕ} {x y x′ y′ : ℕ} → k ≡ take y (drop x text) → x ≡ x′
+    → x′ ≡ getD own (i * 32 + 32 + 2) 0 → y ≡ y′ → y′ ≡ getD own (i * 32 + 32 + 3) 0 → k ≡ storedKey own text i
 key-words own text i {k} {x} {y} e a b c d =
     e
     ∙ ap (λ (n : ℕ). take y (drop n text)) (a ∙ b ∙ sym (getD-drop (i * 32 + 32) own 2 0))

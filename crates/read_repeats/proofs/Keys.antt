@@ -14,7 +14,8 @@ use Rattle.read_element.specs.Attributes.{among}
 use Rattle.read_element.specs.inside.Held.{keysOf}
 
 -- the key of attribute i is that of the part `&attributes[i * 5..]`
-pub key-lent : (attributes source : List ℕ) (i : ℕ) → part source (getD (take (length attributes - i * 5) (drop (i * 5) attributes)) 1 0) (getD (take (length attributes - i * 5) (drop (i * 5) attributes)) 2 0) ≡ keyAt attributes source i
+pub key-lent : (attributes source : List ℕ) (i : ℕ)
+    → part source (getD (take (length attributes - i * 5) (drop (i * 5) attributes)) 1 0) (getD (take (length attributes - i * 5) (drop (i * 5) attributes)) 2 0) ≡ keyAt attributes source i
 key-lent attributes source i =
     ap (λ (l : List ℕ). part source (getD l 1 0) (getD l 2 0)) (rest-part attributes (i * 5)) ∙ sym (part-at attributes i source 1 2)
 
@@ -26,10 +27,12 @@ pub seeking-start : (attributes source : List ℕ) (first j : ℕ) (key : List �
 seeking-start attributes source first j key = record { same = refl }
 
 module _ {attributes source : List ℕ} {first j : ℕ} {key : List ℕ} {i : ℕ} (s : Seeking attributes source first j key i) where
-  turn : i < j → among key (keysOf (attributesFrom attributes source (j - first) first)) ≡ (sameBytes (keyAt attributes source i) key || among key (keysOf (attributesFrom attributes source (j - (i + 1)) (i + 1))))
+  turn : i < j → among key (keysOf (attributesFrom attributes source (j - first) first))
+      ≡ (sameBytes (keyAt attributes source i) key || among key (keysOf (attributesFrom attributes source (j - (i + 1)) (i + 1))))
   turn h = s .same ∙ ap (λ (xs : List Attribute). among key (keysOf xs)) (attributes-next attributes source j i h)
 
-  module _ {r : Bool} (e : r ≡ sameBytes (part source (getD (take (length attributes - i * 5) (drop (i * 5) attributes)) 1 0) (getD (take (length attributes - i * 5) (drop (i * 5) attributes)) 2 0)) key) where
+  module _ {r : Bool}
+      (e : r ≡ sameBytes (part source (getD (take (length attributes - i * 5) (drop (i * 5) attributes)) 1 0) (getD (take (length attributes - i * 5) (drop (i * 5) attributes)) 2 0)) key) where
     told : {t : Bool} → r ≡ t → sameBytes (keyAt attributes source i) key ≡ t
     told q = ap (λ (l : List ℕ). sameBytes l key) (sym (key-lent attributes source i)) ∙ sym e ∙ q
 

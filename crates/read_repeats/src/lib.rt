@@ -48,7 +48,8 @@ pub fn is_repeated(
 ) -> bool
     requires { ⌜ j * 5 ≤ length (now attributes) ⌝ }
     requires { ⌜ 5 ≤ length (now words) ⌝ }
-    ensures { λ r. ⌜ r ≡ (not free && among (attributeIn (now (words .entry)) (now (source .entry)) .key) (keysOf (attributesFrom (now (attributes .entry)) (now (source .entry)) (j - first) first))) ⌝ }
+    ensures { λ r.
+        ⌜ r ≡ (not free && among (attributeIn (now (words .entry)) (now (source .entry)) .key) (keysOf (attributesFrom (now (attributes .entry)) (now (source .entry)) (j - first) first))) ⌝ }
 {
     if free {
         return false;

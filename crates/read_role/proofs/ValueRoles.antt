@@ -82,7 +82,8 @@ abbrev formed : Bool → Bool → Answer (Unit {0})
 formed t u = cond t (cond u (gives tt) (refuses cause.BadReference)) (refuses cause.NotUtf8)
 
 -- a text read into the record
-module _ {own text : List ℕ} {extras fill : ℕ} {g : Given} (hd : Held own text extras fill g) {rooms : Rooms} {used : ℕ} (ro : Roomy rooms used (length own) (length text)) (p : Place) (o k : ℕ) (fit : o + 1 < 32) (v : List ℕ) where
+module _ {own text : List ℕ} {extras fill : ℕ} {g : Given} (hd : Held own text extras fill g) {rooms : Rooms} {used : ℕ}
+    (ro : Roomy rooms used (length own) (length text)) (p : Place) (o k : ℕ) (fit : o + 1 < 32) (v : List ℕ) where
   text-record : {own′ text′ : List ℕ} → length v ≤ length text - fill → own′ ≡ putText o k fill (length v) own → text′ ≡ take fill text ++ laid (drop fill text) v
       → Held own′ text′ extras (fill + length v) (record { main = putText o k (length (g .texts)) (length v) (g .main); extras = g .extras; texts = g .texts ++ v })
   text-record {own′} {text′} h q t =
@@ -118,7 +119,8 @@ module _ {own text : List ℕ} {extras fill : ℕ} {g : Given} (hd : Held own te
       rw (took-gives extras took e) (meets-need cause.TextFull _ (text-room hd ro v h) (went (text-record h q tx)))
 
 -- each role's value
-module _ {own text : List ℕ} {extras fill : ℕ} {g : Given} (hd : Held own text extras fill g) (rooms : Rooms) (p : Place) (used kind key : ℕ) (x : Attribute) {value : List ℕ} (ev : x .value ≡ value) {r : Role} (fits : roleFits r) (took : Took) {own′ : List ℕ} where
+module _ {own text : List ℕ} {extras fill : ℕ} {g : Given} (hd : Held own text extras fill g) (rooms : Rooms) (p : Place) (used kind key : ℕ)
+    (x : Attribute) {value : List ℕ} (ev : x .value ≡ value) {r : Role} (fits : roleFits r) (took : Took) {own′ : List ℕ} where
   pub text-role : {text′ : List ℕ} (o k : ℕ) → Roomy rooms used (length own) (length text) → r ≡ role.Text o k
       → tookAnswer took ≡ moved fill (valueOf (length text - fill) value) → own′ ≡ putting (putText o k fill) (valueOf (length text - fill) value) own
       → text′ ≡ take fill text ++ valueLaid (drop fill text) value → Meets (within p key) own′ text′ (byRole rooms p used kind key r x g) (tookGiven extras took)
@@ -139,7 +141,8 @@ module _ {own text : List ℕ} {extras fill : ℕ} {g : Given} (hd : Held own te
   unfolding byRole
   number-role o k er e q =
       let fit : o + 1 < 32 = subst roleFits er fits in
-      rw (er, ev) (value-meets hd (λ n l. marked k (putCount o n l)) (λ n. text-local o k (n % 2 ^ 32) (n / 2 ^ 32) fit) (λ n. text-length o k (n % 2 ^ 32) (n / 2 ^ 32)) (within p key) (integerOf value) took e q)
+      rw (er, ev) (value-meets hd (λ n l. marked k (putCount o n l)) (λ n. text-local o k (n % 2 ^ 32) (n / 2 ^ 32) fit)
+      (λ n. text-length o k (n % 2 ^ 32) (n / 2 ^ 32)) (within p key) (integerOf value) took e q)
 
   pub uuid-role : r ≡ role.Uuid → tookAnswer took ≡ unmoved fill (uuidOf value) → own′ ≡ putting putUuid (uuidOf value) own
       → Meets (within p key) own′ text (byRole rooms p used kind key r x g) (tookGiven extras took)
@@ -150,13 +153,15 @@ module _ {own text : List ℕ} {extras fill : ℕ} {g : Given} (hd : Held own te
       → own′ ≡ putting (λ m l. keep kept (putMoment m l) l) (timestampOf value) own → Meets (within p key) own′ text (byRole rooms p used kind key r x g) (tookGiven extras took)
   unfolding byRole
   timestamp-role kept er e q =
-      rw (er, ev) (value-meets hd (λ m l. keep kept (putMoment m l) l) (λ m. keep-local (putMoment m) kept (moment-local m)) (λ m l. keep-length (putMoment m) kept l (moment-length m l)) (within p key) (timestampOf value) took e q)
+      rw (er, ev) (value-meets hd (λ m l. keep kept (putMoment m l) l) (λ m. keep-local (putMoment m) kept (moment-local m))
+      (λ m l. keep-length (putMoment m) kept l (moment-length m l)) (within p key) (timestampOf value) took e q)
 
   pub time-role : (kept : Bool) → r ≡ role.Time kept → tookAnswer took ≡ unmoved fill (timeOf value)
       → own′ ≡ putting (λ t l. keep kept (putTime t l) l) (timeOf value) own → Meets (within p key) own′ text (byRole rooms p used kind key r x g) (tookGiven extras took)
   unfolding byRole
   time-role kept er e q =
-      rw (er, ev) (value-meets hd (λ t l. keep kept (putTime t l) l) (λ t. keep-local (putTime t) kept (time-local t)) (λ t l. keep-length (putTime t) kept l (time-length t l)) (within p key) (timeOf value) took e q)
+      rw (er, ev) (value-meets hd (λ t l. keep kept (putTime t l) l) (λ t. keep-local (putTime t) kept (time-local t))
+      (λ t l. keep-length (putTime t) kept l (time-length t l)) (within p key) (timeOf value) took e q)
 
 -- an ignored value changes nothing
 pub ignored-role : {own text : List ℕ} {extras fill : ℕ} {g : Given} → Held own text extras fill g → (rooms : Rooms) (p : Place) (used kind key : ℕ) (x : Attribute) {r : Role} → r ≡ role.Ignored

@@ -80,7 +80,8 @@ changed-none (suc i) f (r ∷ rs) = ap (λ (qs : List (List ℕ)). r ∷ qs) (ch
 -- ---- against the definition
 module _ {words text scratch attributes source : List ℕ} {c : CodedContent} {s : Content} (hd : Holds words text scratch attributes source c s)
     (taken : Bool) (i o k : ℕ) (v : List ℕ) (low : 2 ≤ o) (high : o + 1 < 32) (inside : taken ≡ true → i < length (s .records)) where
-  new-records : (b : Bool) → (b ≡ true → i < length (s .records)) → (a n : ℕ) → inRecord i (kept b (putText o k a n)) words ≡ joined (changed i (kept b (putText o k a n)) (s .records)) ++ zeros (hd .room)
+  new-records : (b : Bool) → (b ≡ true → i < length (s .records)) → (a n : ℕ)
+      → inRecord i (kept b (putText o k a n)) words ≡ joined (changed i (kept b (putText o k a n)) (s .records)) ++ zeros (hd .room)
   new-records true h a n =
       ap (inRecord i (kept true (putText o k a n))) (hd .records)
       ∙ joined-changed (kept true (putText o k a n)) (kept-local o k a n true high) (s .records) i (zeros (hd .room)) (hd .whole) (h refl)
@@ -141,7 +142,8 @@ module _ {words text scratch attributes source : List ℕ} {c : CodedContent} {s
           gathered = refl;
           free = hd .free;
           report = hd .report;
-          dead = dead-kinds (s .records) (changed i f (s .records)) (changed-size f i (s .records)) (changed-kind f (kept-kind o k (length (s .texts)) (length (cleaned v)) taken low) i (s .records)) (hd .dead);
+          dead = dead-kinds (s .records) (changed i f (s .records)) (changed-size f i (s .records))
+              (changed-kind f (kept-kind o k (length (s .texts)) (length (cleaned v)) taken low) i (s .records)) (hd .dead);
         }
 
   -- the elements that are open stay so
@@ -151,23 +153,35 @@ module _ {words text scratch attributes source : List ℕ} {c : CodedContent} {s
       opened-kinds m c (storedIn n dn c) s (grown d) refl refl (changed-size f i (s .records)) (changed-kind f (kept-kind o k (length (s .texts)) (length (cleaned v)) taken low) i (s .records)) l x
 
   module _ {rooms : Rooms} (sz : Sized rooms (length words) (length text) (length scratch)) (p : Place) (pa : p .attribute ≡ nowhere) (f : Content → List ℕ) where
-    made : length (cleaned v) ≤ length text - c .fill → (keeping rooms p taken i o k v s >>= λ x. accepted (withTexts x (f x) [])) ≡ accepted (grown (f (record { records = changed i (kept taken (putText o k (length (s .texts)) (length (cleaned v)))) (s .records); texts = s .texts ++ cleaned v; description = s .description; gathered = s .gathered })))
+    made : length (cleaned v) ≤ length text - c .fill → (keeping rooms p taken i o k v s >>= λ x. accepted (withTexts x (f x) [])) ≡ accepted (grown (f (record {
+      records = changed i (kept taken (putText o k (length (s .texts)) (length (cleaned v)))) (s .records);
+      texts = s .texts ++ cleaned v;
+      description = s .description;
+      gathered = s .gathered;
+    })))
     unfolding keeping need _>>=_
     made h =
         let q = text-size hd in
         let a = hd .fill in
-        let b : fits (rooms .text) (length (s .texts) + length (cleaned v)) ≡ true = sz .for-text (length (s .texts) + length (cleaned v)) ∙ le-leb (length (s .texts) + length (cleaned v)) (length text) (omega arith) in
+        let b : fits (rooms .text) (length (s .texts) + length (cleaned v)) ≡ true =
+        sz .for-text (length (s .texts) + length (cleaned v)) ∙ le-leb (length (s .texts) + length (cleaned v)) (length text) (omega arith) in
         rw b refl
 
     short : length text - c .fill < length (cleaned v) → (keeping rooms p taken i o k v s >>= λ x. accepted (withTexts x (f x) [])) ≡ refusedAt p cause.TextFull
     unfolding keeping need _>>=_
     short h =
         let a = hd .fill in
-        let b : fits (rooms .text) (length (s .texts) + length (cleaned v)) ≡ false = sz .for-text (length (s .texts) + length (cleaned v)) ∙ lt-leb (length (s .texts) + length (cleaned v)) (length text) (omega arith) in
+        let b : fits (rooms .text) (length (s .texts) + length (cleaned v)) ≡ false =
+        sz .for-text (length (s .texts) + length (cleaned v)) ∙ lt-leb (length (s .texts) + length (cleaned v)) (length text) (omega arith) in
         rw b refl
 
     pub kept-comes : (Q : CodedContent → Content → Type 0) (d rest : List ℕ) (dn : ℕ) {words′ text′ : List ℕ} → scratch ≡ d ++ rest → dn ≡ length d
-        → f (record { records = changed i (kept taken (putText o k (length (s .texts)) (length (cleaned v)))) (s .records); texts = s .texts ++ cleaned v; description = s .description; gathered = s .gathered }) ≡ d
+        → f (record {
+          records = changed i (kept taken (putText o k (length (s .texts)) (length (cleaned v)))) (s .records);
+          texts = s .texts ++ cleaned v;
+          description = s .description;
+          gathered = s .gathered;
+        }) ≡ d
         → (stored : Stored) → storedAnswer cause.TextFull stored ≡ placing cause.TextFull (length text - c .fill) (cleaned v) → words′ ≡ keptWords stored taken i o k (c .fill) words
         → text′ ≡ take (c .fill) text ++ laid (drop (c .fill) text) (cleaned v) → ((n : ℕ) → Q (storedIn n dn c) (grown d))
         → Comes Q p words′ text′ scratch attributes source (keeping rooms p taken i o k v s >>= λ x. accepted (withTexts x (f x) [])) (keptTo stored dn c)
@@ -232,7 +246,8 @@ module _ {words text scratch attributes source : List ℕ} {c : CodedContent} {s
       ))
 
   pub some-described : {clean words′ text′ : List ℕ} (i : ℕ) → m .statusAt ≡ i → Lists (at status) m c s → clean ≡ trimmed (take (c .description) scratch) → (length clean ≡ 0 → ⊥)
-      → (stored : Stored) → storedAnswer cause.TextFull stored ≡ placing cause.TextFull (length text - c .fill) (cleaned (take (c .description) scratch)) → words′ ≡ keptWords stored true i 20 6 (c .fill) words
+      → (stored : Stored) → storedAnswer cause.TextFull stored ≡ placing cause.TextFull (length text - c .fill) (cleaned (take (c .description) scratch))
+      → words′ ≡ keptWords stored true i 20 6 (c .fill) words
       → text′ ≡ take (c .fill) text ++ laid (drop (c .fill) text) (cleaned (take (c .description) scratch)) → {r : Performed} → r ≡ keptTo stored 0 c
       → Performs (at case) m p words′ text′ scratch attributes source (describing rooms p m s) r
   unfolding describing
@@ -256,7 +271,8 @@ module _ {words text scratch attributes source : List ℕ} {c : CodedContent} {s
       let n : c .description + c .gathered - c .description ≡ c .gathered = omega arith in
       let h : g ≡ s .gathered = ge ∙ ap (λ (x : ℕ). take x (drop (c .description) scratch)) n ∙ gathered-part hd in
       rw q
-      (kept-comes hd (takes l m) (recordOf l m) (wordOf o) (bitOf o) (s .gathered) (word-low o) (word-high o) (record-inside l m c s op) sz p pa (λ x. x .description) (Lists (at l) m) (s .description) (s .gathered ++ hd .behind) (c .description)
+      (kept-comes hd (takes l m) (recordOf l m) (wordOf o) (bitOf o) (s .gathered) (word-low o) (word-high o) (record-inside l m c s op)
+      sz p pa (λ x. x .description) (Lists (at l) m) (s .description) (s .gathered ++ hd .behind) (c .description)
       (hd .pieces) (hd .description) refl stored
       (a ∙ ap (λ (x : List ℕ). placing cause.TextFull (length text - c .fill) (cleaned x)) h)
       (w ∙ cc)

@@ -24,13 +24,15 @@ use Rattle.reader.proofs.Areas.{lent-sized}
 pub record Looping (events attributes source words₀ text₀ scratch₀ words text scratch : List ℕ) (st : State) : Type 0 where
   pub content : Content
   pub stands : Stands attributes source words text scratch (st .content) (machineOf st content)
-  pub same : run (roomsOf (length words₀) (length text₀) (length scratch₀)) (resolve events attributes source) begin ≡ runOn (roomsOf (length words₀) (length text₀) (length scratch₀)) events attributes source (machineOf st content)
+  pub same : run (roomsOf (length words₀) (length text₀) (length scratch₀)) (resolve events attributes source) begin
+      ≡ runOn (roomsOf (length words₀) (length text₀) (length scratch₀)) events attributes source (machineOf st content)
   pub within : st .marks .event ≤ countOf events
   pub of-words : length words ≡ length words₀
   pub of-text : length text ≡ length text₀
   pub of-scratch : length scratch ≡ length scratch₀
 
-pub loop-begins : (events attributes source words text scratch : List ℕ) (st : State) → st ≡ beginning → words ≡ zeros (length words) → text ≡ zeros (length text) → Looping events attributes source words text scratch words text scratch st
+pub loop-begins : (events attributes source words text scratch : List ℕ) (st : State) → st ≡ beginning → words ≡ zeros (length words)
+    → text ≡ zeros (length text) → Looping events attributes source words text scratch words text scratch st
 loop-begins events attributes source words text scratch st e w t =
     subst (λ (x : State). Looping events attributes source words text scratch words text scratch x) (sym e)
     (record {
@@ -65,11 +67,13 @@ module _ {events attributes source words₀ text₀ scratch₀ words text scratc
       (subst (λ (n : ℕ). Sized rooms (length words₀) n (length scratch)) (sym (loop .of-text))
       (subst (λ (n : ℕ). Sized rooms (length words₀) (length text₀) n) (sym (loop .of-scratch)) (lent-sized (length words₀) (length text₀) (length scratch₀) h)))
 
-  module _ (words′ text′ scratch′ : List ℕ) (r : Step) (stepped : Stepped rooms events attributes source words′ text′ scratch′ st (runOn rooms events attributes source (machineOf st (loop .content))) r) where
+  module _ (words′ text′ scratch′ : List ℕ) (r : Step)
+      (stepped : Stepped rooms events attributes source words′ text′ scratch′ st (runOn rooms events attributes source (machineOf st (loop .content))) r) where
     pub loop-went : (t : State) → r ≡ way.Go t → Went rooms events attributes source words′ text′ scratch′ (st .marks .event) (runOn rooms events attributes source (machineOf st (loop .content))) t
     loop-went t e = subst (Stepped rooms events attributes source words′ text′ scratch′ st (runOn rooms events attributes source (machineOf st (loop .content)))) e stepped
 
-    pub loop-goes : (t : State) → r ≡ way.Go t → length words′ ≡ length words → length text′ ≡ length text → length scratch′ ≡ length scratch → Looping events attributes source words₀ text₀ scratch₀ words′ text′ scratch′ t
+    pub loop-goes : (t : State) → r ≡ way.Go t → length words′ ≡ length words → length text′ ≡ length text
+        → length scratch′ ≡ length scratch → Looping events attributes source words₀ text₀ scratch₀ words′ text′ scratch′ t
     loop-goes t e a b d =
         let w = loop-went t e in
         record {
@@ -87,10 +91,12 @@ module _ {events attributes source words₀ text₀ scratch₀ words text scratc
 
     pub loop-ends : r ≡ way.Stop → Ended words′ text′ (run rooms (resolve events attributes source) begin)
     loop-ends e =
-        let w : Ended words′ text′ (runOn rooms events attributes source (machineOf st (loop .content))) = subst (Stepped rooms events attributes source words′ text′ scratch′ st (runOn rooms events attributes source (machineOf st (loop .content)))) e stepped in
+        let w : Ended words′ text′ (runOn rooms events attributes source (machineOf st (loop .content))) =
+        subst (Stepped rooms events attributes source words′ text′ scratch′ st (runOn rooms events attributes source (machineOf st (loop .content)))) e stepped in
         record { machine = w .machine; same = loop .same ∙ w .same; room = w .room; left = w .left; records = w .records; texts = w .texts }
 
     pub loop-halts : (h : Halt) → r ≡ way.Halt h → Refuses st h (run rooms (resolve events attributes source) begin)
     loop-halts h e =
-        let w : Refuses st h (runOn rooms events attributes source (machineOf st (loop .content))) = subst (Stepped rooms events attributes source words′ text′ scratch′ st (runOn rooms events attributes source (machineOf st (loop .content)))) e stepped in
+        let w : Refuses st h (runOn rooms events attributes source (machineOf st (loop .content))) =
+        subst (Stepped rooms events attributes source words′ text′ scratch′ st (runOn rooms events attributes source (machineOf st (loop .content)))) e stepped in
         record { placed = w .placed; same = loop .same ∙ w .same }

@@ -36,7 +36,8 @@ use Rattle.reader.proofs.Areas.{rooms-cut, lent-cut, part-back, laid-be
 abbrev pub refusing : Cause → ℕ → ℕ → Path → Reading
 refusing why event attribute path = record { verdict = IsRefused; refusal = record { cause = why; path = path; event = event; attribute = attribute } }
 
-pub halted-there : (st : State) (h : Halt) (placed : Placed st h) (p q : Path) → Leads p (pathOf (actOf (st .control) (placed .name) (h .act)) (modeOf (st .control)) (marksOf (st .marks))) → q ≡ withAttribute p (h .fault .key) → refusing (h .fault .cause) (h .event) (h .fault .attribute) q ≡ answerOf (refused (refusalAt st h (placed .name)))
+pub halted-there : (st : State) (h : Halt) (placed : Placed st h) (p q : Path) → Leads p (pathOf (actOf (st .control) (placed .name) (h .act)) (modeOf (st .control)) (marksOf (st .marks)))
+    → q ≡ withAttribute p (h .fault .key) → refusing (h .fault .cause) (h .event) (h .fault .attribute) q ≡ answerOf (refused (refusalAt st h (placed .name)))
 halted-there st h placed p q l e = ap (refusing (h .fault .cause) (h .event) (h .fault .attribute)) (e ∙ leads-within (h .fault .key) l (placed .room) .whole)
 
 -- 11 has an empty path
@@ -55,7 +56,8 @@ module _ (words text : List ℕ) (o : Outcome Machine) (r : Run) (e : Ran words 
   ran-halted st h q = subst (Ran words text o) q e
 
 -- ---- the parts of longer areas
-pub ran-whole : (words text : List ℕ) → words ≡ zeros (length words) → text ≡ zeros (length text) → (k n : ℕ) → k ≤ length words → n ≤ length text → (words′ text′ : List ℕ) (o : Outcome Machine) (r : Run) → Ran words′ text′ o r → Ran (words′ ++ drop k words) (text′ ++ drop n text) o r
+pub ran-whole : (words text : List ℕ) → words ≡ zeros (length words) → text ≡ zeros (length text) → (k n : ℕ) → k ≤ length words → n ≤ length text
+    → (words′ text′ : List ℕ) (o : Outcome Machine) (r : Run) → Ran words′ text′ o r → Ran (words′ ++ drop k words) (text′ ++ drop n text) o r
 ran-whole words text w t k n a b words′ text′ o ran.Done e =
     record {
       machine = e .machine;
@@ -93,7 +95,9 @@ module _ (words text scratch : List ℕ) (k n m : ℕ) (kq : k ≡ min (length w
   pub cut-rooms : roomsOf (length (take (k * 32) words)) (length (take n text)) (length (take m scratch)) ≡ roomsOf (length words) (length text) (length scratch)
   cut-rooms = rw (of-words, of-text, of-scratch) (rooms-cut (length words) (length text) (length scratch))
 
-  pub cut-ran : words ≡ zeros (length words) → text ≡ zeros (length text) → (es : List Event) (words′ text′ : List ℕ) (r : Run) → Ran words′ text′ (run (roomsOf (length (take (k * 32) words)) (length (take n text)) (length (take m scratch))) es begin) r → Ran (words′ ++ drop (k * 32) words) (text′ ++ drop n text) (run (roomsOf (length words) (length text) (length scratch)) es begin) r
+  pub cut-ran : words ≡ zeros (length words) → text ≡ zeros (length text) → (es : List Event) (words′ text′ : List ℕ) (r : Run)
+      → Ran words′ text′ (run (roomsOf (length (take (k * 32) words)) (length (take n text)) (length (take m scratch))) es begin) r
+      → Ran (words′ ++ drop (k * 32) words) (text′ ++ drop n text) (run (roomsOf (length words) (length text) (length scratch)) es begin) r
   cut-ran w t es words′ text′ r e =
       ran-whole words text w t (k * 32) n cut-words cut-text words′ text′ (run (roomsOf (length words) (length text) (length scratch)) es begin) r
       (subst (λ (rooms : Rooms). Ran words′ text′ (run rooms es begin) r) cut-rooms e)
@@ -136,7 +140,8 @@ module _ (events attributes source : List ℕ) (words text scratch : ℕ) where
           ∙ sym (told (accepted tt) good ∙ ap (readAs words text scratch) (d .same))
 
 -- the same for areas of these lengths
-pub read-lengths : (events attributes source words text scratch words₀ text₀ scratch₀ : List ℕ) → length words ≡ length words₀ → length text ≡ length text₀ → length scratch ≡ length scratch₀ → (P : Read → Type 0) → P (reading events attributes source (length words) (length text) (length scratch)) → P (reading events attributes source (length words₀) (length text₀) (length scratch₀))
+pub read-lengths : (events attributes source words text scratch words₀ text₀ scratch₀ : List ℕ) → length words ≡ length words₀ → length text ≡ length text₀ → length scratch ≡ length scratch₀
+    → (P : Read → Type 0) → P (reading events attributes source (length words) (length text) (length scratch)) → P (reading events attributes source (length words₀) (length text₀) (length scratch₀))
 read-lengths events attributes source words text scratch words₀ text₀ scratch₀ a b c P e = rw (← a, ← b, ← c) e
 
 -- an answer for an outcome, with an equation of reads

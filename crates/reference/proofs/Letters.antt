@@ -108,7 +108,8 @@ module _ (name : List ℕ) (e : isCharRef name ≡ true) where
       go (b ∷ x ∷ l) h n d = by (eqb x 0x78) refl d
         where
           by : (t : Bool) → eqb x 0x78 ≡ t → allDigits (cond t 16 10) (cond t l (x ∷ l)) ≡ true → (leb 2 (suc (suc (length l))) && (letter b && (letter x && each letter l))) ≡ true
-          by true q d = let k = eqb-true x 0x78 q in simp (le-leb 2 (suc (suc (length l))) (omega arith), letter-of b (omega arith) (λ z. omega arith), letter-of x (omega arith) (λ z. omega arith), digits-letters 16 l d)
+          by true q d = let k = eqb-true x 0x78 q in
+              simp (le-leb 2 (suc (suc (length l))) (omega arith), letter-of b (omega arith) (λ z. omega arith), letter-of x (omega arith) (λ z. omega arith), digits-letters 16 l d)
           by false q d = simp (le-leb 2 (suc (suc (length l))) (omega arith), letter-of b (omega arith) (λ z. omega arith), digits-letters 10 (x ∷ l) d)
 
 -- both

@@ -58,7 +58,15 @@ char-code c e = go (decLt c 0x110000)
     go : Dec (c < 0x110000) → c < 0x110000
     go (yes h) = h
     go (no h) =
-        let z : xmlChar c ≡ false = simp (ne-eqb c 0x9 (omega arith), ne-eqb c 0xA (omega arith), ne-eqb c 0xD (omega arith), lt-leb c 0xD7FF (omega arith), lt-leb c 0xFFFD (omega arith), lt-leb c 0x10FFFF (omega arith), and-false) in
+        let z : xmlChar c ≡ false = simp (
+          ne-eqb c 0x9 (omega arith),
+          ne-eqb c 0xA (omega arith),
+          ne-eqb c 0xD (omega arith),
+          lt-leb c 0xD7FF (omega arith),
+          lt-leb c 0xFFFD (omega arith),
+          lt-leb c 0x10FFFF (omega arith),
+          and-false,
+        ) in
         absurd (false≢true (sym z ∙ e))
 
 -- a character reference, from the tests that lead to it

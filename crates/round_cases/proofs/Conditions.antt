@@ -6,7 +6,8 @@ use Rattle.tree_report.specs.Report.{Text, TestCase, TestSuite, Report}
 use Rattle.tree_report.specs.Encode.{every}
 use Rattle.write_report.specs.Written.{isEmpty}
 use Rattle.round_elements.specs.Plain.{casesOf, keysOf, isIn, distinct, holds, suiteKeys, caseKeys, goodKeys, plain}
-use Rattle.round_cases.specs.Conditions.{Condition, bareTexts, givenDescriptions, wholeTimes, wholeTimestamps, distinctOnSuites, unescapedOnSuites, othersOnSuites, distinctOnCases, unescapedOnCases, othersOnCases, ruledStatus, withinLimits, conditions, unescaped, others, onSuites, onCases, meets, unmet, violated}
+use Rattle.round_cases.specs.Conditions.{Condition, bareTexts, givenDescriptions, wholeTimes, wholeTimestamps, distinctOnSuites, unescapedOnSuites, othersOnSuites, distinctOnCases}
+use Rattle.round_cases.specs.Conditions.{unescapedOnCases, othersOnCases, ruledStatus, withinLimits, conditions, unescaped, others, onSuites, onCases, meets, unmet, violated}
 
 -- ---- conjunctions
 and-true : (a : Bool) → (a && true) ≡ a

@@ -17,7 +17,8 @@ use Rattle.write_report.specs.Written.{written}
 use Rattle.public_cases.specs.Reports.{noCounts, ofSuites, ofStatus, ofCases}
 use Rattle.public_cases.specs.Cases.{testsuites, testsuite, testcase, attribute}
 use Rattle.round_elements.specs.Plain.{plain, sound}
-use Rattle.round_cases.specs.Conditions.{Condition, bareTexts, givenDescriptions, wholeTimes, wholeTimestamps, distinctOnSuites, unescapedOnSuites, othersOnSuites, distinctOnCases, unescapedOnCases, othersOnCases, ruledStatus, violated}
+use Rattle.round_cases.specs.Conditions.{Condition, bareTexts, givenDescriptions, wholeTimes, wholeTimestamps, distinctOnSuites, unescapedOnSuites}
+use Rattle.round_cases.specs.Conditions.{othersOnSuites, distinctOnCases, unescapedOnCases, othersOnCases, ruledStatus, violated}
 
 -- ---- a case: a report, and how it is read back
 pub data Case : Type 0 where

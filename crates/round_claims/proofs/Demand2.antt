@@ -147,7 +147,8 @@ module _ (t : Table) (a : Areas) where
 
       go : Passes t ⊎ ((why : Refused) × RefusesTable t why) → ⊥
       go (inl p) =
-          let e : answerTo t a ≡ readAs (a .words) (a .text) (a .scratch) free .outcome = spared ∙ ap (λ (o : Outcome (Unit {0})). readAs (a .words) (a .text) (a .scratch) (o >>= λ _. free) .outcome) p in
+          let e : answerTo t a ≡ readAs (a .words) (a .text) (a .scratch) free .outcome =
+          spared ∙ ap (λ (o : Outcome (Unit {0})). readAs (a .words) (a .text) (a .scratch) (o >>= λ _. free) .outcome) p in
           rules-not-short (s .why .cause) (run-number (eventsOf t) begin (s .why) (run-refuses free (s .why) (sym e ∙ s .refuses))) (s .lacks)
       go (inr q) =
           let z : q .0 ≡ s .why = same-refusal (refuses-table (q .0) (q .1)) (s .refuses) in
@@ -164,7 +165,8 @@ module _ (t : Table) (a : Areas) where
   unfolding reading
   longer-alike b l h =
       ap (λ (r : Read). r .outcome)
-      (areas-suffice (t .events) (t .attributes) (t .source) (a .words) (a .text) (a .scratch) (b .words) (b .text) (b .scratch) (l .words) (l .text) (l .scratch) (λ s. h (let q = short-refusal s in record { why = q .0; refuses = q .1; lacks = q .2 })))
+      (areas-suffice (t .events) (t .attributes) (t .source) (a .words) (a .text) (a .scratch) (b .words) (b .text) (b .scratch)
+      (l .words) (l .text) (l .scratch) (λ s. h (let q = short-refusal s in record { why = q .0; refuses = q .1; lacks = q .2 })))
       ∙ same-answer (b .words) (b .text) (b .scratch) (tableOf (t .events) (t .attributes) (t .source) >>= λ _. run (roomsOf (a .words) (a .text) (a .scratch)) (eventsOf t) begin)
 
 -- ---- D

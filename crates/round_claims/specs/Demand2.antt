@@ -164,4 +164,5 @@ pub record Demand2 : Type 0 where
   -- E. The theorem on areas: so it is through the areas of both calls (rule W16).
   pub onAreas : (words text : List ℕ) (r : Report) → areWords words ≡ true → Holds r words text → plain r ≡ true → Back words text r
   -- F. The public listing of a plain report's own table is the listing of its tree.
-  pub ownListing : (words text : List ℕ) (r : Report) (output : ℕ) → areWords words ≡ true → Holds r words text → plain r ≡ true → length (render r) ≤ output → listing (ownTable r) (limits output) ≡ render r
+  pub ownListing : (words text : List ℕ) (r : Report) (output : ℕ) → areWords words ≡ true → Holds r words text
+      → plain r ≡ true → length (render r) ≤ output → listing (ownTable r) (limits output) ≡ render r

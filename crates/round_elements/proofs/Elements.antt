@@ -77,7 +77,8 @@ module _ (p : Place) (j : ℕ) (records : List (List ℕ)) (texts : List ℕ) wh
       let ks : List (List ℕ) = keysOf (s .extra) in
       let r : List ℕ = filled (suiteFilled x s) named .main in
       let w : ExtrasRead p (length records) kind.suite (filled (suiteFilled x s) named) [] (s .extra) =
-      extras-read suite-extra (filled (suiteFilled x s) named) [] (s .extra) noPairs (keys-good suiteKeys ks k) (good-pairs kind.suiteExtra (s .extra) e) (fresh-start ks (keys-distinct suiteKeys ks k)) in
+      extras-read suite-extra (filled (suiteFilled x s) named) [] (s .extra) noPairs (keys-good suiteKeys ks k)
+      (good-pairs kind.suiteExtra (s .extra) e) (fresh-start ks (keys-distinct suiteKeys ks k)) in
       let g : Given = record { main = r; extras = w .rows; texts = w .texts } in
       opened p j (suiteAttributes s) g (s .name ++ w .added)
       (suite-filled texts s (fitting (suiteRow s) f) d m (record { reads = w .reads }) .reads .run [] j (keys-fresh suiteKeys ks suite-keys k))

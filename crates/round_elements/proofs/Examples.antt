@@ -10,7 +10,8 @@ use Rattle.utf8.specs.Utf8.{need, low, high}
 use Rattle.tree_report.specs.Report.{Text, Duration, Pair, Counts, failure, FlakyOrRerun, flaky, rerun, TestCaseStatus, nonSuccess, TestCase, Report}
 use Rattle.tree_report.specs.Encode.{fitsRow}
 use Rattle.write_escape.specs.Escape as escape
-use Rattle.write_report.specs.Written.{serializeOutput, serializeProperties, serializeOutputs, serializeStatus, serializeElements, serializeTestCase, serializeTestSuite, declaration, serializeReport, numbered, written}
+use Rattle.write_report.specs.Written.{serializeOutput, serializeProperties, serializeOutputs, serializeStatus, serializeElements}
+use Rattle.write_report.specs.Written.{serializeTestCase, serializeTestSuite, declaration, serializeReport, numbered, written}
 use Rattle.write_table.specs.Laid.{itemsOf, eventWords, attributeWords, laidBytes, laidOut}
 use Rattle.round_elements.specs.Plain.{plain, sound}
 
@@ -67,7 +68,8 @@ abbrev plainOne : Report
 plainOne = reportOf (caseOf (failed (some (bytes "a b")) rerun) (some []) (pair (bytes "k") ∷ pair (bytes "tests") ∷ []) none)
 
 is-plain : plain plainOne ≡ true
-unfolding plain sameBytes need low high escape.written digit decimal places serializeOutput serializeProperties serializeOutputs serializeStatus serializeElements serializeTestCase serializeTestSuite declaration serializeReport numbered written itemsOf eventWords attributeWords laidBytes laidOut
+unfolding plain sameBytes need low high escape.written digit decimal places serializeOutput serializeProperties serializeOutputs serializeStatus
+    serializeElements serializeTestCase serializeTestSuite declaration serializeReport numbered written itemsOf eventWords attributeWords laidBytes laidOut
 is-plain = refl
 
 is-sound : sound plainOne ≡ true

@@ -64,7 +64,8 @@ module _ (used κ : ℕ) (g : Given) (q : Place) where
   unfolding readExtra there _>>=_
   extra-given key value p a b c d e = rw (a, b, c, d, e) (new-extra p)
 
-  role-extra : (c : ℕ) (p : Pair) → holds 0x26 (p .key) ≡ false → fitsCell (written (p .key)) ≡ true → fitsCell (written (p .value)) ≡ true → placeOf (g .texts) (p .key) (g .extras) ≡ length (g .extras)
+  role-extra : (c : ℕ) (p : Pair) → holds 0x26 (p .key) ≡ false → fitsCell (written (p .key)) ≡ true
+      → fitsCell (written (p .value)) ≡ true → placeOf (g .texts) (p .key) (g .extras) ≡ length (g .extras)
       → byRole unlimited q used κ c role.Extra (extraAttribute p) g ≡ accepted (withExtra κ p g)
   unfolding byRole
   role-extra c p h f v e =
@@ -129,6 +130,7 @@ module _ {p : Place} {used κ : ℕ} {own : List (List ℕ)} (extra : (k : List 
         texts = rest .texts;
         added = x .key ++ (x .value ++ rest .added);
         grown = rest .grown ∙ append-assoc keyed (x .value) (rest .added) ∙ append-assoc t (x .key) (x .value ++ rest .added);
-        reads = read-role (x .key) (escaped (x .value)) (extra (x .key) (k .other)) (λ q c. role-extra used κ g q c x (k .plain) (f .key) (f .value) (place-end (x .key) s (fresh-new n))) (rest .reads);
+        reads =
+            read-role (x .key) (escaped (x .value)) (extra (x .key) (k .other)) (λ q c. role-extra used κ g q c x (k .plain) (f .key) (f .value) (place-end (x .key) s (fresh-new n))) (rest .reads);
         shown = subst (PairsShown (extraKind κ) (rest .texts) (rest .rows)) (append-assoc before (x ∷ []) ps) (rest .shown);
       }

@@ -19,7 +19,8 @@ use Rattle.write_report.specs.Written.{textual, stamped, timed, statusAttribute
 use Rattle.round_elements.specs.Plain.{keysOf, suiteKeys, caseKeys}
 use Rattle.round_elements.specs.inside.PlainCase.{WholeTime, WholeMoment}
 use Rattle.round_elements.proofs.Rows.{blankRow}
-use Rattle.round_elements.proofs.Steps.{filled, Filling, fill-end, fill-last, fill-first, fill-value, fill-second, fill-tests, fill-failures, fill-errors, fill-skipped, fill-assertions, fill-disabled, fill-uuid, fill-moment, fill-time}
+use Rattle.round_elements.proofs.Steps.{filled, Filling, fill-end, fill-last, fill-first, fill-value, fill-second, fill-tests, fill-failures}
+use Rattle.round_elements.proofs.Steps.{fill-errors, fill-skipped, fill-assertions, fill-disabled, fill-uuid, fill-moment, fill-time}
 use Rattle.round_elements.proofs.Shown.{reportFilled, suiteFilled, caseFilled, runFilled, mainFilled, pairFilled}
 use Rattle.round_elements.proofs.Fits.{Fitting}
 use Rattle.round_elements.proofs.Opening.{PropertyRoles, StatusRoles, RunRoles}

@@ -120,7 +120,8 @@ uuid-shown : (r : List ℕ) (u : Option Words) → hasBit 1 r ≡ isGiven (uuidF
 uuid-shown r none b e f g h = rw b refl
 uuid-shown r (some u) b e f g h = rw (b, e, f, g, h) refl
 
-counts-shown : (r : List ℕ) (c : Counts) → numberAt r 18 ≡ c .tests → numberAt r 20 ≡ c .failures → numberAt r 22 ≡ c .errors → numberAt r 24 ≡ c .skipped → NumberBack r 8 26 (c .disabled) → counts r ≡ c
+counts-shown : (r : List ℕ) (c : Counts) → numberAt r 18 ≡ c .tests → numberAt r 20 ≡ c .failures
+    → numberAt r 22 ≡ c .errors → numberAt r 24 ≡ c .skipped → NumberBack r 8 26 (c .disabled) → counts r ≡ c
 counts-shown r c t f e s d = λ i. record { tests = t i; failures = f i; errors = e i; skipped = s i; disabled = d .back i }
 
 count : (n : ℕ) → n % 4294967296 + n / 4294967296 * 4294967296 ≡ n
@@ -170,7 +171,8 @@ case-shown {t} x y c h k =
       err = bit-flag 2 bs;
     }
 
-pub run-shown : {t : List ℕ} (x y : ℕ) (family : FlakyOrRerun) (e : TestRerun) → Stands t x (e .message) → Stands t y (e .type) → RunShown family t (words (runFilled (kindOfRun family (e .kind)) x y e)) e
+pub run-shown : {t : List ℕ} (x y : ℕ) (family : FlakyOrRerun) (e : TestRerun) → Stands t x (e .message)
+    → Stands t y (e .type) → RunShown family t (words (runFilled (kindOfRun family (e .kind)) x y e)) e
 run-shown {t} x y family e h k =
     let r : List ℕ = words (runFilled (kindOfRun family (e .kind)) x y e) in
     let bs : List Bool = presence (runFilled (kindOfRun family (e .kind)) x y e) in

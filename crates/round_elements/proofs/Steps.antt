@@ -29,7 +29,8 @@ use Rattle.write_report.specs.Written.{attribute, textual, numeric, optional, s
 use Rattle.round_elements.specs.inside.PlainCase.{wholeTime, wholeMoment, WholeTime, WholeMoment}
 use Rattle.round_elements.proofs.Reading.{Reads, read-end, read-skip, read-role, read-last}
 use Rattle.round_elements.proofs.Values.{role-text, role-count, role-number, role-uuid, role-moment, role-time}
-use Rattle.round_elements.proofs.Rows.{words, withFirst, withMiddle, withTimestamp, withTime, withSecond, withThird, withFourth, withFifth, withSixth, put-first, put-value, put-second, put-assertions, put-disabled, put-moment, put-time, put-uuid, put-tests, put-failures, put-errors, put-skipped}
+use Rattle.round_elements.proofs.Rows.{words, withFirst, withMiddle, withTimestamp, withTime, withSecond, withThird, withFourth, withFifth, withSixth, put-first, put-value}
+use Rattle.round_elements.proofs.Rows.{put-second, put-assertions, put-disabled, put-moment, put-time, put-uuid, put-tests, put-failures, put-errors, put-skipped}
 
 -- a text of this length, or none, at x
 abbrev pub textCell : ℕ → Option Text → Cell

@@ -77,7 +77,8 @@ opens : (r : List ℕ) → mayFollow nothing r ≡ true → isReport r ≡ true
 unfolding mayFollow
 opens r e = go (isReport r) e
   where
-    go : (b : Bool) → cond b true (cond (isSuite r) false (cond (isCase r) false (cond (isSuiteExtra r) false (cond (isCaseExtra r) false (cond (isSuiteProperty r) false (cond (isCaseProperty r) false false)))))) ≡ true → b ≡ true
+    go : (b : Bool) → cond b true (cond (isSuite r) false
+        (cond (isCase r) false (cond (isSuiteExtra r) false (cond (isCaseExtra r) false (cond (isSuiteProperty r) false (cond (isCaseProperty r) false false)))))) ≡ true → b ≡ true
     go true h = refl
     go false h =
         absurd (false≢true (sym

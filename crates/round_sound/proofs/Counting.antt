@@ -32,7 +32,8 @@ many-apart p q apart [] = omega arith
 many-apart p q apart (r ∷ rs) = go (p r) (q r) refl refl (many-apart p q apart rs)
   where
     go : (b c : Bool) → p r ≡ b → q r ≡ c → many p rs + many q rs ≤ many (λ (x : List ℕ). p x || q x) rs
-        → length (cond b (r ∷ only p rs) (only p rs)) + length (cond c (r ∷ only q rs) (only q rs)) ≤ length (cond (b || c) (r ∷ only (λ (x : List ℕ). p x || q x) rs) (only (λ (x : List ℕ). p x || q x) rs))
+        → length (cond b (r ∷ only p rs) (only p rs)) + length (cond c (r ∷ only q rs) (only q rs))
+        ≤ length (cond (b || c) (r ∷ only (λ (x : List ℕ). p x || q x) rs) (only (λ (x : List ℕ). p x || q x) rs))
     go true true e f h = absurd (true≢false (sym f ∙ apart r e))
     go true false e f h = omega arith
     go false true e f h = omega arith
@@ -109,7 +110,8 @@ module _ (text : List ℕ) where
   status-many [] rs = let e = runs-many flaky rs in omega arith
   status-many (m ∷ ms) rs = go (eqb (kindOf m) kind.skipped) (eqb (kindOf m) kind.failure)
     where
-      go : (b c : Bool) → length (statusRows (cond b (skipped (reasonOf text m)) (nonSuccess (cond c failure error) (reasonOf text m) (kindOfRuns text m rs) (map (runOf text) rs)))) ≤ suc (length ms) + length rs
+      go : (b c : Bool)
+          → length (statusRows (cond b (skipped (reasonOf text m)) (nonSuccess (cond c failure error) (reasonOf text m) (kindOfRuns text m rs) (map (runOf text) rs)))) ≤ suc (length ms) + length rs
       go true c = omega arith
       go false c = let e = runs-many (kindOfRuns text m rs) rs in omega arith
 
@@ -140,7 +142,8 @@ module _ (text : List ℕ) where
       let e : length extras ≡ many isSuiteExtra rs = pairs-many kind.suiteExtra isSuiteExtra rs in
       let p : length properties ≡ many isSuiteProperty rs = pairs-many kind.suiteProperty isSuiteProperty rs in
       let m : length cases ≡ length (rowsOfEach (λ (c : Branch). caseRows (caseOf text c)) (branches isCase rs)) = ap length (rows-map (caseOf text) caseRows (branches isCase rs)) in
-      let s : length (rowsOfEach (λ (c : Branch). caseRows (caseOf text c)) (branches isCase rs)) ≤ many inSuite₁ rs = branch-rows isCase inCase (λ (c : Branch). caseRows (caseOf text c)) case-many rs in
+      let s : length (rowsOfEach (λ (c : Branch). caseRows (caseOf text c)) (branches isCase rs)) ≤ many inSuite₁ rs =
+      branch-rows isCase inCase (λ (c : Branch). caseRows (caseOf text c)) case-many rs in
       let c = many-apart isSuiteProperty inSuite₁ (kind-apart 4 (λ (n : ℕ). eqb n 3 || (eqb n 14 || (eqb n 5 || ((leb 6 n && leb n 8) || (leb 9 n && leb n 12))))) refl) rs in
       let d = many-apart isSuiteExtra inSuite₂ (kind-apart 13 (λ (n : ℕ). eqb n 4 || (eqb n 3 || (eqb n 14 || (eqb n 5 || ((leb 6 n && leb n 8) || (leb 9 n && leb n 12)))))) refl) rs in
       omega arith
@@ -148,7 +151,8 @@ module _ (text : List ℕ) where
   pub suites-many : (rs : List (List ℕ)) → length (rowsOfEach suiteRows (map (suiteOf text) (branches isSuite rs))) ≤ length rs
   suites-many rs =
       let f : Branch → List Row = λ b. suiteRows (suiteOf text b) in
-      let m : length (rowsOfEach suiteRows (map (suiteOf text) (branches isSuite rs))) ≡ length (rowsOfEach f (branches isSuite rs)) = ap length (rows-map (suiteOf text) suiteRows (branches isSuite rs)) in
+      let m : length (rowsOfEach suiteRows (map (suiteOf text) (branches isSuite rs))) ≡ length (rowsOfEach f (branches isSuite rs)) =
+      ap length (rows-map (suiteOf text) suiteRows (branches isSuite rs)) in
       let s = branch-rows isSuite inSuite f suite-many rs in
       let k = many-length (λ (r : List ℕ). isSuite r || inSuite r) rs in
       omega arith

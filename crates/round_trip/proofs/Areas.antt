@@ -49,7 +49,8 @@ module _ (words text : List ℕ) (r : Report) (whole : layout words text ≡ tru
   pub write-accepts : writingAnswer words text e a b ≡ gives (sizesOf r)
   unfolding writingAnswer
   write-accepts =
-      ap (λ (t : Table). cond (layout words text) (cond (fits t e a b) (gives (record { events = length (t .events) / 5; attributes = length (t .attributes) / 5; bytes = length (t .bytes) })) (refuses cause.OutputFull)) (refuses cause.NotLayout)) table-own
+      ap (λ (t : Table). cond (layout words text) (cond (fits t e a b) (gives (record { events = length (t .events) / 5; attributes = length (t .attributes) / 5; bytes = length (t .bytes) }))
+      (refuses cause.OutputFull)) (refuses cause.NotLayout)) table-own
       ∙ ap (λ (q : Bool). cond q (cond (fits (laidOut (written r)) e a b) (gives (sizesOf r)) (refuses cause.OutputFull)) (refuses cause.NotLayout)) whole
       ∙ ap (λ (q : Bool). cond q (gives (sizesOf r)) (refuses cause.OutputFull)) f
 

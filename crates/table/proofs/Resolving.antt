@@ -26,7 +26,8 @@ module _ (attributes source : List ℕ) where
 
 module _ (events attributes source : List ℕ) where
   -- event i by its kind: it computes, under `unfolding eventOf`, once the kind is a literal
-  pub event-of-kind : (i kind : ℕ) → kindAt events i ≡ kind → eventAt events attributes source i ≡ eventOf kind (bytesAt events source i) (word events i 3) (attributesFrom attributes source (word events i 4) (word events i 3))
+  pub event-of-kind : (i kind : ℕ) → kindAt events i ≡ kind
+      → eventAt events attributes source i ≡ eventOf kind (bytesAt events source i) (word events i 3) (attributesFrom attributes source (word events i 4) (word events i 3))
   unfolding eventAt
   event-of-kind i kind e = ap (λ (k : ℕ). eventOf k (bytesAt events source i) (word events i 3) (attributesFrom attributes source (word events i 4) (word events i 3))) e
 

@@ -36,8 +36,10 @@ module _ (attributes : List ℕ) (size : ℕ) where
   bad-none zero j k e l h = absurd (omega arith)
   bad-none (suc n) j k e l h = go (bad-none n (j + 1) k) (goodAttribute (drop (j * 5) attributes) size) refl
     where
-      go : (badFrom attributes size n (j + 1) ≡ (j + 1) + n → j + 1 ≤ k → k < (j + 1) + n → goodAttribute (drop (k * 5) attributes) size ≡ true) → (b : Bool) → goodAttribute (drop (j * 5) attributes) size ≡ b → goodAttribute (drop (k * 5) attributes) size ≡ true
-      go next true q = ⊎-elim (λ z. ap (λ (x : ℕ). goodAttribute (drop (x * 5) attributes) size) (sym z) ∙ q) (λ z. next (omega (arith, bad-next n j q)) (omega arith) (omega arith)) (eq-or-lt-of-le l)
+      go : (badFrom attributes size n (j + 1) ≡ (j + 1) + n → j + 1 ≤ k → k < (j + 1) + n → goodAttribute (drop (k * 5) attributes) size ≡ true)
+          → (b : Bool) → goodAttribute (drop (j * 5) attributes) size ≡ b → goodAttribute (drop (k * 5) attributes) size ≡ true
+      go next true q =
+          ⊎-elim (λ z. ap (λ (x : ℕ). goodAttribute (drop (x * 5) attributes) size) (sym z) ∙ q) (λ z. next (omega (arith, bad-next n j q)) (omega arith) (omega arith)) (eq-or-lt-of-le l)
       go next false q = absurd (omega (arith, bad-here n j q))
 
   bad-clear : (n j : ℕ) → ((k : ℕ) → j ≤ k → k < j + n → goodAttribute (drop (k * 5) attributes) size ≡ true) → badFrom attributes size n j ≡ j + n
@@ -49,7 +51,8 @@ module _ (attributes : List ℕ) (size : ℕ) where
   bad-within lo hi first count e l h = bad-clear count first (λ k p q. bad-none (hi - lo) lo k (omega arith) (omega arith) (omega arith))
 
 -- what a test of the part `&attributes[j * 5..]` tells
-pub attribute-lent : (attributes : List ℕ) (size j : ℕ) {r t : Bool} → r ≡ goodAttribute (take (length attributes - j * 5) (drop (j * 5) attributes)) size → r ≡ t → goodAttribute (drop (j * 5) attributes) size ≡ t
+pub attribute-lent : (attributes : List ℕ) (size j : ℕ) {r t : Bool}
+    → r ≡ goodAttribute (take (length attributes - j * 5) (drop (j * 5) attributes)) size → r ≡ t → goodAttribute (drop (j * 5) attributes) size ≡ t
 attribute-lent attributes size j e h = ap (λ (w : List ℕ). goodAttribute w size) (sym (rest-part attributes (j * 5))) ∙ sym e ∙ h
 
 -- the attributes from `first` to before j are good

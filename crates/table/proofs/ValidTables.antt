@@ -73,7 +73,8 @@ shape-valid words n size e =
     let tagged : Bool = leb (getD words 0 0) 1 && within n (getD words 3 0) (getD words 4 0) in
     let p = and-eq-true-iff (leb (getD words 0 0) 9) (within size (getD words 1 0) (getD words 2 0) && (eqb (getD words 4 0) 0 || tagged)) .0 e in
     let q = and-eq-true-iff (within size (getD words 1 0) (getD words 2 0)) (eqb (getD words 4 0) 0 || tagged) .0 (p .1) in
-    let r : 0 < getD words 4 0 → (leb (getD words 0 0) 1 ≡ true) × (within n (getD words 3 0) (getD words 4 0) ≡ true) = λ h. and-eq-true-iff (leb (getD words 0 0) 1) (within n (getD words 3 0) (getD words 4 0)) .0 (some-attributes (getD words 4 0) tagged (q .1) h) in
+    let r : 0 < getD words 4 0 → (leb (getD words 0 0) 1 ≡ true) × (within n (getD words 3 0) (getD words 4 0) ≡ true) =
+    λ h. and-eq-true-iff (leb (getD words 0 0) 1) (within n (getD words 3 0) (getD words 4 0)) .0 (some-attributes (getD words 4 0) tagged (q .1) h) in
     record {
       kind = leb-true (getD words 0 0) 9 (p .0);
       bytes = leb-true (getD words 1 0 + getD words 2 0) size (q .0);
@@ -98,11 +99,14 @@ attribute-valid attributes size j e =
     }
 
 module _ (events attributes : List ℕ) (size i : ℕ) where
-  event-good : checkEvent events attributes size i ≡ Good → (goodShape (drop (i * 5) events) (countOf attributes) size ≡ true) × (badFrom attributes size (word events i 4) (word events i 3) ≡ word events i 3 + word events i 4)
+  event-good : checkEvent events attributes size i ≡ Good
+      → (goodShape (drop (i * 5) events) (countOf attributes) size ≡ true) × (badFrom attributes size (word events i 4) (word events i 3) ≡ word events i 3 + word events i 4)
   unfolding checkEvent
   event-good e = go (goodShape (drop (i * 5) events) (countOf attributes) size) refl (eqb (badFrom attributes size (word events i 4) (word events i 3)) (word events i 3 + word events i 4)) refl e
     where
-      go : (s : Bool) → goodShape (drop (i * 5) events) (countOf attributes) size ≡ s → (b : Bool) → eqb (badFrom attributes size (word events i 4) (word events i 3)) (word events i 3 + word events i 4) ≡ b → cond s (cond b Good (Bad i (badFrom attributes size (word events i 4) (word events i 3)))) (Bad i nowhere) ≡ Good → (goodShape (drop (i * 5) events) (countOf attributes) size ≡ true) × (badFrom attributes size (word events i 4) (word events i 3) ≡ word events i 3 + word events i 4)
+      go : (s : Bool) → goodShape (drop (i * 5) events) (countOf attributes) size ≡ s → (b : Bool) → eqb (badFrom attributes size (word events i 4) (word events i 3))
+          (word events i 3 + word events i 4) ≡ b → cond s (cond b Good (Bad i (badFrom attributes size (word events i 4) (word events i 3)))) (Bad i nowhere) ≡ Good
+          → (goodShape (drop (i * 5) events) (countOf attributes) size ≡ true) × (badFrom attributes size (word events i 4) (word events i 3) ≡ word events i 3 + word events i 4)
       go true p true q r = (p, eqb-true (badFrom attributes size (word events i 4) (word events i 3)) (word events i 3 + word events i 4) q)
       go true p false q r = let z : _≡_ {A = ℕ} 0 1 = cc in absurd (omega arith)
       go false p b q r = let z : _≡_ {A = ℕ} 0 1 = cc in absurd (omega arith)
@@ -138,7 +142,8 @@ module _ (events attributes source : List ℕ) where
   unfolding checkOf
   of-good e = go (goodSizes (length events) (length attributes) (length source)) refl e
     where
-      go : (b : Bool) → goodSizes (length events) (length attributes) (length source) ≡ b → cond b (checkFrom events attributes (length source) (countOf events) 0) (Bad nowhere nowhere) ≡ Good → (goodSizes (length events) (length attributes) (length source) ≡ true) × (checkFrom events attributes (length source) (countOf events) 0 ≡ Good)
+      go : (b : Bool) → goodSizes (length events) (length attributes) (length source) ≡ b → cond b (checkFrom events attributes (length source) (countOf events) 0) (Bad nowhere nowhere) ≡ Good
+          → (goodSizes (length events) (length attributes) (length source) ≡ true) × (checkFrom events attributes (length source) (countOf events) 0 ≡ Good)
       go true p q = (p, q)
       go false p q = let z : _≡_ {A = ℕ} 0 1 = cc in absurd (omega arith)
 

@@ -46,7 +46,8 @@ module _ (events attributes : List ℕ) (size i : ℕ) (words : List ℕ) (front
       where
         go : (t : Bool) → eqb count 0 ≡ t → (t || (leb lo first && leb (first + count) hi)) ≡ true → Good ≡ checkEvent events attributes size i
         go true q p = let z = eqb-true count 0 q in event-passed (ap (λ (n : ℕ). badFrom attributes size n first) z ∙ bad-end attributes size first ∙ omega arith)
-        go false q p = let r = and-eq-true-iff (leb lo first) (leb (first + count) hi) .0 p in event-passed (bad-within attributes size lo hi first count k (leb-true lo first (r .0)) (leb-true (first + count) hi (r .1)))
+        go false q p = let r = and-eq-true-iff (leb lo first) (leb (first + count) hi) .0 p in
+            event-passed (bad-within attributes size lo hi first count k (leb-true lo first (r .0)) (leb-true (first + count) hi (r .1)))
 
     module _ (bad : ℕ) (found : bad ≡ badFrom attributes size (first + count - first) first) where
       it : bad ≡ badFrom attributes size count first
@@ -88,7 +89,8 @@ module _ {events attributes : List ℕ} {size n i : ℕ} (w : Walking events att
   walking-done h = let z : n - i ≡ 0 = omega arith in w .same ∙ ap (λ (m : ℕ). checkFrom events attributes size m i) z
 
 module _ (events attributes source : List ℕ) where
-  pub table-sized : goodSizes (length events) (length attributes) (length source) ≡ true → (c : Checked) → checkFrom events attributes (length source) (countOf events) 0 ≡ c → checkedAnswer c ≡ tableOf events attributes source
+  pub table-sized : goodSizes (length events) (length attributes) (length source) ≡ true → (c : Checked)
+      → checkFrom events attributes (length source) (countOf events) 0 ≡ c → checkedAnswer c ≡ tableOf events attributes source
   unfolding checkOf
   table-sized e c p = ap checkedAnswer (sym (ap (λ (b : Bool). cond b (checkFrom events attributes (length source) (countOf events) 0) (Bad nowhere nowhere)) e ∙ p))
 

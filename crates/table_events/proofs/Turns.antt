@@ -59,7 +59,8 @@ module _ (name : List ℕ) (depth i : ℕ) (es : List Event) (bytes : List ℕ) 
   unfolding skipOf eventOf
   end-turns h = go (sameBytes bytes name) depth h
     where
-      go : (t : Bool) (d : ℕ) → ((t && true) && eqb d 0) ≡ false → cond t (upFrom d (next (i + 1)) λ d. skipOf name d (i + 1) es) (skipOf name d (i + 1) es) ≡ skipOf name (depthAfter 2 t d) (i + 1) es
+      go : (t : Bool) (d : ℕ) → ((t && true) && eqb d 0) ≡ false
+          → cond t (upFrom d (next (i + 1)) λ d. skipOf name d (i + 1) es) (skipOf name d (i + 1) es) ≡ skipOf name (depthAfter 2 t d) (i + 1) es
       go true zero q = let z : _≡_ {A = ℕ} 0 1 = cc in absurd (omega arith)
       go true (suc d) q =
           let z : d ≡ suc d - 1 = omega arith in
@@ -71,7 +72,8 @@ module _ (name : List ℕ) (depth i : ℕ) (es : List Event) (bytes : List ℕ) 
   other-turns k a b c d = rw (ne-eqb k 0 a, ne-eqb k 2 b, ne-eqb k 7 c, ne-eqb k 8 d) (go (eqb k 1) (eqb k 3) (eqb k 4) (eqb k 5) (eqb k 6))
     where
       go : (t u v w x : Bool) →
-          skipOf name depth i (cond t (Tag Empty bytes first xs) (cond u (Piece Text bytes) (cond v (Piece CData bytes) (cond w (Piece Ref bytes) (cond x (Piece Other bytes) (Piece Indent (10 ∷ [])))))) ∷ es)
+          skipOf name depth i
+          (cond t (Tag Empty bytes first xs) (cond u (Piece Text bytes) (cond v (Piece CData bytes) (cond w (Piece Ref bytes) (cond x (Piece Other bytes) (Piece Indent (10 ∷ [])))))) ∷ es)
           ≡ skipOf name depth (i + 1) es
       go true u v w x = refl
       go false true v w x = refl
@@ -123,11 +125,13 @@ farther i n (brokenAt why j) f = (let l = f .0 in omega arith, let h = f .1 in o
 pub skip-far : (name : List ℕ) (depth i : ℕ) (es : List Event) → Far i (i + length es) (skipOf name depth i es)
 unfolding skipOf
 skip-far name depth i [] = (omega arith, omega arith)
-skip-far name depth i (Tag Start tag j xs ∷ es) = farther i (length es) (skipOf name (cond (sameBytes tag name) (suc depth) depth) (i + 1) es) (skip-far name (cond (sameBytes tag name) (suc depth) depth) (i + 1) es)
+skip-far name depth i (Tag Start tag j xs ∷ es) =
+    farther i (length es) (skipOf name (cond (sameBytes tag name) (suc depth) depth) (i + 1) es) (skip-far name (cond (sameBytes tag name) (suc depth) depth) (i + 1) es)
 skip-far name depth i (Tag Empty tag j xs ∷ es) = farther i (length es) (skipOf name depth (i + 1) es) (skip-far name depth (i + 1) es)
 skip-far name depth i (Tag End tag j xs ∷ es) = go (sameBytes tag name) depth (λ d. farther i (length es) (skipOf name d (i + 1) es) (skip-far name d (i + 1) es))
   where
-    go : (t : Bool) (d : ℕ) → ((d : ℕ) → Far i (i + suc (length es)) (skipOf name d (i + 1) es)) → Far i (i + suc (length es)) (cond t (upFrom d (next (i + 1)) λ d. skipOf name d (i + 1) es) (skipOf name d (i + 1) es))
+    go : (t : Bool) (d : ℕ) → ((d : ℕ) → Far i (i + suc (length es)) (skipOf name d (i + 1) es))
+        → Far i (i + suc (length es)) (cond t (upFrom d (next (i + 1)) λ d. skipOf name d (i + 1) es) (skipOf name d (i + 1) es))
     go true zero f = (omega arith, omega arith)
     go true (suc d) f = f d
     go false d f = f d
@@ -144,7 +148,8 @@ pub record Skipping (events source : List ℕ) (start : ℕ) (name : List ℕ) (
       skipOf (bytesAt events source start) 0 (start + 1) (resolveFrom events attributes source (countOf events - (start + 1)) (start + 1))
       ≡ skipOf name depth i (resolveFrom events attributes source (countOf events - i) i)
 
-pub skipping-start : (events source : List ℕ) (start : ℕ) (name : List ℕ) → start < countOf events → name ≡ cond (leb (countOf events) start) [] (bytesAt events source start) → Skipping events source start name 0 (start + 1)
+pub skipping-start : (events source : List ℕ) (start : ℕ) (name : List ℕ) → start < countOf events
+    → name ≡ cond (leb (countOf events) start) [] (bytesAt events source start) → Skipping events source start name 0 (start + 1)
 skipping-start events source start name h e = record {
   high = omega arith;
   deep = omega arith;
@@ -170,7 +175,8 @@ module _ {events source : List ℕ} {start : ℕ} {name : List ℕ} {depth i : �
     where
       go : (t : Bool) → leb (countOf events) i ≡ t → k ≡ cond t 7 (kindAt events i) → whole attributes ≡ brokenAt cause.EofInSkip i
       go true p q = s .same attributes ∙ ap (skipOf name depth i) (resolve-end events attributes source (countOf events) i (leb-true (countOf events) i p)) ∙ end-breaks name depth i
-      go false p q = turn attributes (leb-false (countOf events) i p) (sym q) ∙ rw z (eof-breaks name depth i (rest attributes) (bytesAt events source i) (word events i 3) (attributesFrom attributes source (word events i 4) (word events i 3)))
+      go false p q = turn attributes (leb-false (countOf events) i p) (sym q)
+          ∙ rw z (eof-breaks name depth i (rest attributes) (bytesAt events source i) (word events i 3) (attributesFrom attributes source (word events i 4) (word events i 3)))
 
   module _ (h : k ≡ 7 → ⊥) where
     pub skipping-in : i < countOf events
@@ -181,7 +187,8 @@ module _ {events source : List ℕ} {start : ℕ} {name : List ℕ} {depth i : �
     here attributes = turn attributes skipping-in (kind-is events i k e h)
 
     pub skipping-fault : k ≡ 8 → (attributes : List ℕ) → brokenAt cause.XmlFault i ≡ whole attributes
-    skipping-fault z attributes = sym (here attributes ∙ rw z (fault-breaks name depth i (rest attributes) (bytesAt events source i) (word events i 3) (attributesFrom attributes source (word events i 4) (word events i 3))))
+    skipping-fault z attributes =
+        sym (here attributes ∙ rw z (fault-breaks name depth i (rest attributes) (bytesAt events source i) (word events i 3) (attributesFrom attributes source (word events i 4) (word events i 3))))
 
     -- the bytes that the event has, and whether they are the name's
     module _ (bytes : List ℕ) (b : bytes ≡ cond (leb (countOf events) i) [] (bytesAt events source i)) (own : Bool) (o : own ≡ sameBytes bytes name) where
@@ -190,7 +197,8 @@ module _ {events source : List ℕ} {start : ℕ} {name : List ℕ} {depth i : �
 
       pub skipping-ends : ((own && eqb k 2) && eqb depth 0) ≡ true → (attributes : List ℕ) → next (i + 1) ≡ whole attributes
       skipping-ends q attributes =
-          sym (here attributes ∙ event-ends name depth i (rest attributes) (bytesAt events source i) (word events i 3) (attributesFrom attributes source (word events i 4) (word events i 3)) k (sym (ap (λ (t : Bool). (t && eqb k 2) && eqb depth 0) is-own) ∙ q))
+          sym (here attributes ∙ event-ends name depth i (rest attributes) (bytesAt events source i) (word events i 3)
+          (attributesFrom attributes source (word events i 4) (word events i 3)) k (sym (ap (λ (t : Bool). (t && eqb k 2) && eqb depth 0) is-own) ∙ q))
 
       pub skipping-more : (k ≡ 8 → ⊥) → ((own && eqb k 2) && eqb depth 0) ≡ false → (deeper : ℕ) → deeper ≡ depthAfter k own depth → Skipping events source start name deeper (i + 1)
       skipping-more h′ q deeper d =
@@ -199,7 +207,8 @@ module _ {events source : List ℕ} {start : ℕ} {name : List ℕ} {depth i : �
             deep = let l = depth-low k own depth in let m = s .deep in omega arith;
             same = λ attributes.
                 here attributes
-                ∙ event-turns name depth i (rest attributes) (bytesAt events source i) (word events i 3) (attributesFrom attributes source (word events i 4) (word events i 3)) k h h′ (sym (ap (λ (t : Bool). (t && eqb k 2) && eqb depth 0) is-own) ∙ q)
+                ∙ event-turns name depth i (rest attributes) (bytesAt events source i) (word events i 3)
+                (attributesFrom attributes source (word events i 4) (word events i 3)) k h h′ (sym (ap (λ (t : Bool). (t && eqb k 2) && eqb depth 0) is-own) ∙ q)
                 ∙ ap (λ (t : Bool). skipOf name (depthAfter k t depth) (i + 1) (rest attributes)) (sym is-own)
                 ∙ ap (λ (n : ℕ). skipOf name n (i + 1) (rest attributes)) (sym d);
           }

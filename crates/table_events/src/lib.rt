@@ -92,7 +92,8 @@ fn depth_after(kind: u32, own: bool, depth: usize) -> usize
 // Skips the element that event `start` begins (rules R11 and R19).
 pub fn skip_from(events: &[u32], source: &[u8], start: usize) -> Skipped
     requires { ⌜ start < countOf (now events) ⌝ }
-    ensures { λ r. ⌜ ((attributes : List ℕ) → skipAnswer r ≡ skipOf (bytesAt (now (events .entry)) (now (source .entry)) start) 0 (start + 1) (resolveFrom (now (events .entry)) attributes (now (source .entry)) (countOf (now (events .entry)) - (start + 1)) (start + 1))) ⌝ }
+    ensures { λ r. ⌜ ((attributes : List ℕ) → skipAnswer r ≡ skipOf (bytesAt (now (events .entry)) (now (source .entry)) start) 0 (start + 1)
+        (resolveFrom (now (events .entry)) attributes (now (source .entry)) (countOf (now (events .entry)) - (start + 1)) (start + 1))) ⌝ }
 {
     let name = bytes_at(events, source, start);
     let mut depth: usize = 0;

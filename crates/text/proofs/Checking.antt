@@ -52,14 +52,16 @@ module _ (clean : Bool) (out s : List ℕ) where
   decoded-not-utf8 e = (λ short. short-of short .0, short-of cause.TextFull .1)
     where
       short-of : (short : Cause) → (refuses cause.NotUtf8 ≡ decodedOf short clean (length out) s) × (out ≡ decodedLaid clean out s)
-      short-of short = first-fails (utf8 s) (refsOk s 0) (placing short (length out) (cleaned clean (decoded s 0))) (refuses cause.BadReference) (refuses cause.NotUtf8) out (laid out (cleaned clean (decoded s 0))) (checked-not-utf8 s e)
+      short-of short = first-fails (utf8 s) (refsOk s 0) (placing short (length out) (cleaned clean (decoded s 0)))
+          (refuses cause.BadReference) (refuses cause.NotUtf8) out (laid out (cleaned clean (decoded s 0))) (checked-not-utf8 s e)
 
   pub decoded-bad : refuses cause.BadReference ≡ checkedOf s → ((short : Cause) → refuses cause.BadReference ≡ decodedOf short clean (length out) s) × (out ≡ decodedLaid clean out s)
   decoded-bad e = (λ short. short-of short .0, short-of cause.TextFull .1)
     where
       short-of : (short : Cause) → (refuses cause.BadReference ≡ decodedOf short clean (length out) s) × (out ≡ decodedLaid clean out s)
       short-of short =
-          second-fails (utf8 s) (refsOk s 0) (placing short (length out) (cleaned clean (decoded s 0))) (refuses cause.BadReference) (refuses cause.NotUtf8) out (laid out (cleaned clean (decoded s 0))) (checked-bad s e .0) (checked-bad s e .1)
+          second-fails (utf8 s) (refsOk s 0) (placing short (length out) (cleaned clean (decoded s 0))) (refuses cause.BadReference)
+          (refuses cause.NotUtf8) out (laid out (cleaned clean (decoded s 0))) (checked-bad s e .0) (checked-bad s e .1)
 
   pub decoded-good : (out′ : List ℕ) (put : Stored) (k : Kept) → gives tt ≡ checkedOf s → storedAnswer cause.TextFull put ≡ placing cause.TextFull (length out) (cleaned clean (decoded s 0))
       → ((short : Cause) → keptAnswer short k ≡ storedAnswer short put) → out′ ≡ laid out (cleaned clean (decoded s 0))
@@ -68,4 +70,5 @@ module _ (clean : Bool) (out s : List ℕ) where
     where
       short-of : (short : Cause) → (keptAnswer short k ≡ decodedOf short clean (length out) s) × (out′ ≡ decodedLaid clean out s)
       short-of short =
-          kept-both short cause.TextFull out out′ (cleaned clean (decoded s 0)) put k p q (utf8 s) (refsOk s 0) (refuses cause.BadReference) (refuses cause.NotUtf8) (checked-good s e .0) (checked-good s e .1) o
+          kept-both short cause.TextFull out out′ (cleaned clean (decoded s 0)) put k p q (utf8 s) (refsOk s 0)
+          (refuses cause.BadReference) (refuses cause.NotUtf8) (checked-good s e .0) (checked-good s e .1) o

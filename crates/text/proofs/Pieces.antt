@@ -24,7 +24,8 @@ piece-on : (s : List ℕ) → 0 < length s → decoded s 0 ≡ pieceOf s ++ deco
 piece-on [] h = absurd (not-suc-le-zero h)
 piece-on (b ∷ s) h = go (eqb b 0x26)
   where
-    go : (t : Bool) → cond t (encode (codeOf (refAt s)) ++ decoded s (bytesOf (refAt s))) (b ∷ decoded s 0) ≡ cond t (encode (codeOf (refAt s))) (b ∷ []) ++ decoded (drop (cond t (suc (bytesOf (refAt s))) 1) (b ∷ s)) 0
+    go : (t : Bool) → cond t (encode (codeOf (refAt s)) ++ decoded s (bytesOf (refAt s))) (b ∷ decoded s 0)
+        ≡ cond t (encode (codeOf (refAt s))) (b ∷ []) ++ decoded (drop (cond t (suc (bytesOf (refAt s))) 1) (b ∷ s)) 0
     go true = ap (λ (l : List ℕ). encode (codeOf (refAt s)) ++ l) (decoded-drop s (bytesOf (refAt s)))
     go false = refl
 
@@ -80,7 +81,8 @@ pub pieced-on : {f g : List ℕ} {v w : ℕ} {p : Piece} → Pieced f v p → f 
 pieced-on k e m = record { fits = k .fits; front = k .front ∙ e; takes = k .takes ∙ m }
 
 -- a piece p was made of the part of s that begins at i
-module _ (clean : Bool) (s : List ℕ) (i : ℕ) (h : i < length s) (p : Piece) (k : Pieced (cleaned clean (pieceOf (take (length s - i) (drop i s)))) (pieceWidth (take (length s - i) (drop i s))) p) where
+module _ (clean : Bool) (s : List ℕ) (i : ℕ) (h : i < length s) (p : Piece)
+    (k : Pieced (cleaned clean (pieceOf (take (length s - i) (drop i s)))) (pieceWidth (take (length s - i) (drop i s))) p) where
   here : Pieced (cleaned clean (pieceOf (drop i s))) (pieceWidth (drop i s)) p
   here = rw (rest-part s i) at k
 

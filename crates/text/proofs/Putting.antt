@@ -40,7 +40,8 @@ module _ (t u : Bool) (good bad not-utf8 : Answer ℕ) (out full : List ℕ) whe
   both-hold a out′ p q e o = (e ∙ both-yes t u good bad not-utf8 p q, o ∙ cond-yes (t && u) full out (ap (λ (b : Bool). b && u) p ∙ q))
 
 -- f was put at the front of out, an area that has the cause `here` where it is too short, by a function that has `there` for it
-module _ (here there : Cause) (out out′ f : List ℕ) (put : Stored) (k : Kept) (e : storedAnswer there put ≡ placing there (length out) f) (g : (short : Cause) → keptAnswer short k ≡ storedAnswer short put) where
+module _ (here there : Cause) (out out′ f : List ℕ) (put : Stored) (k : Kept) (e : storedAnswer there put ≡ placing there (length out) f)
+    (g : (short : Cause) → keptAnswer short k ≡ storedAnswer short put) where
   pub kept-placing : keptAnswer here k ≡ placing here (length out) f
   kept-placing = g here ∙ other-area there here (length out) f put e
 

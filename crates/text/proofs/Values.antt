@@ -37,4 +37,5 @@ module _ (s : List ℕ) where
 
     pub plain-stored : (n : ℕ) → utf8 s ≡ true → unfiltered s ≡ true → valueOf n s ≡ placing cause.TextFull n s
     plain-stored n u e =
-        sym (both-yes (utf8 s) (refsOk s 0) (placing cause.TextFull n (valueText s)) (refuses cause.BadReference) (refuses cause.NotUtf8) u (plain-refs s plain)) ∙ ap (placing cause.TextFull n) (plain-value e)
+        sym (both-yes (utf8 s) (refsOk s 0) (placing cause.TextFull n (valueText s)) (refuses cause.BadReference) (refuses cause.NotUtf8) u (plain-refs s plain))
+        ∙ ap (placing cause.TextFull n) (plain-value e)

@@ -19,7 +19,8 @@ pub record Writing (clean : Bool) (out₀ s out : List ℕ) (i k : ℕ) : Type 0
   pub laying : Laying out₀ out k (cleaned clean (decoded s 0)) (cleaned clean (decoded (drop i s) 0))
 
 -- the piece p is put behind them
-module _ {clean : Bool} {out₀ s out : List ℕ} {i k : ℕ} (w : Writing clean out₀ s out i k) (h : i < length s) (p : Piece) (e : Pieced (cleaned clean (pieceOf (take (length s - i) (drop i s)))) (pieceWidth (take (length s - i) (drop i s))) p) where
+module _ {clean : Bool} {out₀ s out : List ℕ} {i k : ℕ} (w : Writing clean out₀ s out i k) (h : i < length s) (p : Piece)
+    (e : Pieced (cleaned clean (pieceOf (take (length s - i) (drop i s)))) (pieceWidth (take (length s - i) (drop i s))) p) where
   turn : Laying out₀ out k (cleaned clean (decoded s 0)) (take (p .n) (p .bytes) ++ cleaned clean (decoded (drop (i + p .width) s) 0))
   turn = laying-on (w .laying) (piece-next clean s i h p e)
 
@@ -32,6 +33,7 @@ module _ {clean : Bool} {out₀ s out : List ℕ} {i k : ℕ} (w : Writing clean
           laying = rw (f .1) (laying-chunk (take (p .n) (p .bytes)) (cleaned clean (decoded (drop (i + p .width) s) 0)) turn out′ o (f .0));
         }
 
-    pub writing-full : refuses cause.OutputFull ≡ placing cause.OutputFull (length out - k) (take (p .n) (p .bytes)) → (refuses cause.TextFull ≡ placing cause.TextFull (length out₀) (cleaned clean (decoded s 0))) × (out′ ≡ laid out₀ (cleaned clean (decoded s 0)))
+    pub writing-full : refuses cause.OutputFull ≡ placing cause.OutputFull (length out - k) (take (p .n) (p .bytes))
+        → (refuses cause.TextFull ≡ placing cause.TextFull (length out₀) (cleaned clean (decoded s 0))) × (out′ ≡ laid out₀ (cleaned clean (decoded s 0)))
     writing-full a =
         laying-over (take (p .n) (p .bytes)) (cleaned clean (decoded (drop (i + p .width) s) 0)) turn cause.TextFull out′ o (full-over cause.OutputFull (length out - k) (take (p .n) (p .bytes)) a)

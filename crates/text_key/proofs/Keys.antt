@@ -25,7 +25,8 @@ same-append [] a g = refl
 same-append (x ∷ f) [] g = refl
 same-append (x ∷ f) (y ∷ a) g = go (eqb y x) (same-append f a g)
   where
-    go : (t : Bool) → sameBytes a (f ++ g) ≡ (sameBytes (take (length f) a) f && sameBytes (drop (length f) a) g) → cond t (sameBytes a (f ++ g)) false ≡ (cond t (sameBytes (take (length f) a) f) false && sameBytes (drop (length f) a) g)
+    go : (t : Bool) → sameBytes a (f ++ g) ≡ (sameBytes (take (length f) a) f && sameBytes (drop (length f) a) g)
+        → cond t (sameBytes a (f ++ g)) false ≡ (cond t (sameBytes (take (length f) a) f) false && sameBytes (drop (length f) a) g)
     go true ih = ih
     go false ih = refl
 
@@ -62,7 +63,8 @@ pub matching-done : {stored raw : List ℕ} {i k : ℕ} → Matching stored raw 
 matching-done {stored} {raw} {i} {k} m h = sym (m .left ∙ ap (sameBytes (drop k stored)) (piece-end true raw i h) ∙ same-end stored k (m .fits))
 
 -- t says whether the piece p stands behind them
-module _ {stored raw : List ℕ} {i k : ℕ} (m : Matching stored raw i k) (h : i < length raw) (p : Piece) (e : Pieced (cleaned true (pieceOf (take (length raw - i) (drop i raw)))) (pieceWidth (take (length raw - i) (drop i raw))) p) (t : Bool) (q : t ≡ sameBytes (take (p .n) (drop k stored)) (take (p .n) (p .bytes))) where
+module _ {stored raw : List ℕ} {i k : ℕ} (m : Matching stored raw i k) (h : i < length raw) (p : Piece) (e : Pieced (cleaned true (pieceOf (take (length raw - i) (drop i raw))))
+    (pieceWidth (take (length raw - i) (drop i raw))) p) (t : Bool) (q : t ≡ sameBytes (take (p .n) (drop k stored)) (take (p .n) (p .bytes))) where
   turn : sameBytes stored (valueText raw) ≡ (t && sameBytes (drop (k + p .n) stored) (valueText (drop (i + p .width) raw)))
   turn =
       m .left ∙ ap (sameBytes (drop k stored)) (piece-next true raw i h p e)
@@ -101,7 +103,8 @@ counting-done {raw} {i} {k} m h =
     let l = m .left in
     omega arith
 
-module _ {raw : List ℕ} {i k : ℕ} (m : Counting raw i k) (h : i < length raw) (p : Piece) (e : Pieced (cleaned true (pieceOf (take (length raw - i) (drop i raw)))) (pieceWidth (take (length raw - i) (drop i raw))) p) where
+module _ {raw : List ℕ} {i k : ℕ} (m : Counting raw i k) (h : i < length raw) (p : Piece)
+    (e : Pieced (cleaned true (pieceOf (take (length raw - i) (drop i raw)))) (pieceWidth (take (length raw - i) (drop i raw))) p) where
   pub counting-more : Counting raw (i + p .width) (k + p .n)
   counting-more = record {
     within = piece-fits true raw i h p e;

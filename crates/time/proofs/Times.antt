@@ -155,7 +155,8 @@ module _ (s : List ℕ) where
   pub time-range : (a b : ℕ) → timeOf s ≡ gives (a, b) → (a < 8388608) × (b < 1000000000)
   time-range a b e = go (utf8 s) (isTime s) refl e
     where
-      go : (u t : Bool) → isTime s ≡ t → cond {A = Answer (ℕ × ℕ)} u (cond t (gives (secondsOf s, nanosOf s)) (refuses cause.BadTime)) (refuses cause.NotUtf8) ≡ gives (a, b) → (a < 8388608) × (b < 1000000000)
+      go : (u t : Bool) → isTime s ≡ t → cond {A = Answer (ℕ × ℕ)} u (cond t (gives (secondsOf s, nanosOf s)) (refuses cause.BadTime)) (refuses cause.NotUtf8) ≡ gives (a, b)
+          → (a < 8388608) × (b < 1000000000)
       go true true i e =
           let k = time-parts (whole s) (fraction s) i in
           let q : _≡_ {A = ℕ × ℕ} (secondsOf s, nanosOf s) (a, b) = cc in

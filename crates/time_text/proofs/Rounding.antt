@@ -2,7 +2,8 @@
 use mathlib.Core.Path.{_≡_, sym, ap, _∙_, subst}
 use mathlib.Core.Bool.{true, false, not, true≢false}
 use Prim.Native.Nat.{ℕ, zero, suc, _+_, _-_, _*_, _/_, _%_, _^_, _≤_, _<_, compare, Ordering, Ordering·lt, Ordering·eq, Ordering·gt}
-use native.Mathlib.Nat.{le-trans, le-of-eq, le-of-lt, lt-of-lt-of-le, lt-of-le-of-lt, mul-comm, mul-assoc, mul-left-comm, mul-right-comm, add-mul, mul-one, suc-mul, mul-le-mul-left, mul-lt-mul-of-pos-right, lt-of-mul-lt-mul-right, le-of-mul-le-mul-right, div-add-mod', div-lt-iff-lt-mul, mul-pos, mod-lt, zero-lt-suc}
+use native.Mathlib.Nat.{le-trans, le-of-eq, le-of-lt, lt-of-lt-of-le, lt-of-le-of-lt, mul-comm, mul-assoc, mul-left-comm, mul-right-comm, add-mul, mul-one, suc-mul}
+use native.Mathlib.Nat.{mul-le-mul-left, mul-lt-mul-of-pos-right, lt-of-mul-lt-mul-right, le-of-mul-le-mul-right, div-add-mod', div-lt-iff-lt-mul, mul-pos, mod-lt, zero-lt-suc}
 use native.Mathlib.Omega.{arith}
 use lib.Dec.{T, eqb, isLe, isEq, leb→le, nleb→lt, eqb→eq, lt→ltb, eqb·suc-zero}
 use lib.IntN.{pos}
@@ -97,7 +98,8 @@ module _ (a c j : ℕ) (C : 0 < c) (top : a * 2 ^ 1074 < 2 ^ j * c) where
 cancel : (m x y u : ℕ) → 0 < m → x * m * 2 ≤ y * m * 2 + m * u → x * 2 ≤ y * 2 + u
 cancel m x y u M h =
     le-of-mul-le-mul-right {k = m}
-    (le-trans (le-of-eq (mul-right-comm x 2 m)) (le-trans h (le-of-eq (ap (λ (z : ℕ). z + m * u) (mul-right-comm y m 2) ∙ ap (λ (z : ℕ). y * 2 * m + z) (mul-comm m u) ∙ sym (add-mul (y * 2) u m))))) M
+    (le-trans (le-of-eq (mul-right-comm x 2 m)) (le-trans h (le-of-eq (ap (λ (z : ℕ). z + m * u) (mul-right-comm y m 2) ∙ ap (λ (z : ℕ). y * 2 * m + z) (mul-comm m u) ∙ sym (add-mul (y * 2) u m)))))
+    M
 
 module _ (a j : ℕ) (top : a < 2 ^ j) where
   abbrev m : ℕ

@@ -27,7 +27,8 @@ module _ (out : List ℕ) (ms n : ℕ) (e : ms ≡ n) where
   begun = laying-on (laying-start out (timeText n)) (ap (λ (k : ℕ). decimal (k / 1000) ++ (0x2E ∷ lastDigits 3 k)) (sym e))
 
   module _ (o : List ℕ) (w : o ≡ laid out seconds) where
-    pub seconds-full : refuses cause.OutputFull ≡ placing cause.OutputFull (length out) seconds → (refuses cause.OutputFull ≡ placing cause.OutputFull (length out) (timeText n)) × (o ≡ laid out (timeText n))
+    pub seconds-full : refuses cause.OutputFull ≡ placing cause.OutputFull (length out) seconds
+        → (refuses cause.OutputFull ≡ placing cause.OutputFull (length out) (timeText n)) × (o ≡ laid out (timeText n))
     seconds-full a = let h = full-over cause.OutputFull (length out) seconds a in laying-over seconds behind begun cause.OutputFull o w (omega arith)
 
     pub seconds-put : (k : ℕ) → gives k ≡ placing cause.OutputFull (length out) seconds → Laying out o k (timeText n) behind

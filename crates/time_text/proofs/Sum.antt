@@ -2,7 +2,8 @@
 use mathlib.Core.Path.{_≡_, sym, ap, _∙_, subst}
 use mathlib.Core.Bool.{false}
 use Prim.Native.Nat.{ℕ, _+_, _*_, _^_, _≤_, _<_}
-use native.Mathlib.Nat.{le-trans, le-of-eq, le-of-lt, lt-of-lt-of-le, lt-of-le-of-lt, mul-one, mul-lt-mul-of-pos-right, mul-comm, mod-lt, lt-of-mul-lt-mul-right, mul-assoc, mul-right-comm, add-mul, mul-le-mul-right}
+use native.Mathlib.Nat.{le-trans, le-of-eq, le-of-lt, lt-of-lt-of-le, lt-of-le-of-lt, mul-one, mul-lt-mul-of-pos-right}
+use native.Mathlib.Nat.{mul-comm, mod-lt, lt-of-mul-lt-mul-right, mul-assoc, mul-right-comm, add-mul, mul-le-mul-right}
 use native.Mathlib.Omega.{arith}
 use lib.Dec.{T, lit<, lit≤}
 use lib.IntN.{pos}
@@ -136,7 +137,8 @@ module _ (secs nanos : ℕ) (S : secs < 8388608) (N : nanos < 1000000000) where
       cancel : (h w s n : ℕ) → w * h * 2000000 < s * h * 2000000000 + n * h * 2 + h * 1000002 → w * 2000000 < s * 2000000000 + n * 2 + 1000002
       cancel h w s n a =
           lt-of-mul-lt-mul-right h (lt-of-le-of-lt (le-of-eq (mul-right-comm w 2000000 h))
-          (lt-of-lt-of-le a (le-of-eq (ap (λ (z : ℕ). z + n * h * 2 + h * 1000002) (mul-right-comm s h 2000000000) ∙ ap (λ (z : ℕ). s * 2000000000 * h + z + h * 1000002) (mul-right-comm n h 2) ∙ ap (λ (z : ℕ). s * 2000000000 * h + n * 2 * h + z) (mul-comm h 1000002)
+          (lt-of-lt-of-le a (le-of-eq (ap (λ (z : ℕ). z + n * h * 2 + h * 1000002) (mul-right-comm s h 2000000000)
+          ∙ ap (λ (z : ℕ). s * 2000000000 * h + z + h * 1000002) (mul-right-comm n h 2) ∙ ap (λ (z : ℕ). s * 2000000000 * h + n * 2 * h + z) (mul-comm h 1000002)
           ∙ ap (λ (z : ℕ). z + 1000002 * h) (sym (add-mul (s * 2000000000) (n * 2) h)) ∙ sym (add-mul (s * 2000000000 + n * 2) 1000002 h)))))
 
   pub under : secs * 2000000000 + nanos * 2 < W * 2000000 + 1000002
@@ -149,8 +151,10 @@ module _ (secs nanos : ℕ) (S : secs < 8388608) (N : nanos < 1000000000) where
     where
       cancel : (h w s n : ℕ) → s * h * 2000000000 + n * h * 2 < w * h * 2000000 + h * 1000002 → s * 2000000000 + n * 2 < w * 2000000 + 1000002
       cancel h w s n a =
-          lt-of-mul-lt-mul-right h (lt-of-le-of-lt (le-of-eq (add-mul (s * 2000000000) (n * 2) h ∙ ap (λ (z : ℕ). z + n * 2 * h) (mul-right-comm s 2000000000 h) ∙ ap (λ (z : ℕ). s * h * 2000000000 + z) (mul-right-comm n 2 h)))
-          (lt-of-lt-of-le a (le-of-eq (ap (λ (z : ℕ). z + h * 1000002) (mul-right-comm w h 2000000) ∙ ap (λ (z : ℕ). w * 2000000 * h + z) (mul-comm h 1000002) ∙ sym (add-mul (w * 2000000) 1000002 h)))))
+          lt-of-mul-lt-mul-right h (lt-of-le-of-lt (le-of-eq (add-mul (s * 2000000000) (n * 2) h
+          ∙ ap (λ (z : ℕ). z + n * 2 * h) (mul-right-comm s 2000000000 h) ∙ ap (λ (z : ℕ). s * h * 2000000000 + z) (mul-right-comm n 2 h)))
+          (lt-of-lt-of-le a
+          (le-of-eq (ap (λ (z : ℕ). z + h * 1000002) (mul-right-comm w h 2000000) ∙ ap (λ (z : ℕ). w * 2000000 * h + z) (mul-comm h 1000002) ∙ sym (add-mul (w * 2000000) 1000002 h)))))
 
 -- whole milliseconds are written exactly
 pub whole-milliseconds : (s m : ℕ) → s < 8388608 → m < 1000 → thousandthsOf (floatSum s (m * 1000000)) ≡ s * 1000 + m

@@ -9,7 +9,8 @@ use lib.ListN.{length, getD, drop, length-drop}
 use lib.Seq.{drop-drop}
 use Rattle.fixed.specs.Fields.{all}
 use Rattle.fixed.proofs.Tests.{fails}
-use Rattle.timestamp.specs.Timestamp.{yearOf, monthOf, dayOf, dateTests, hourOf, minuteOf, secondOf, clockTests, hasPoint, places, fractionTests, nanosOf, fractionWidth, isUtc, offsetTests, offsetOf, tail, zone, timestampTests, isTimestamp}
+use Rattle.timestamp.specs.Timestamp.{yearOf, monthOf, dayOf, dateTests, hourOf, minuteOf, secondOf, clockTests, hasPoint, places, fractionTests}
+use Rattle.timestamp.specs.Timestamp.{nanosOf, fractionWidth, isUtc, offsetTests, offsetOf, tail, zone, timestampTests, isTimestamp}
 use Rattle.timestamp.specs.inside.Leaves.{dateOf, clockOf, fractionOf, zoneOf, formOf}
 use Rattle.timestamp.specs.declared.Form.the-variants.{Right, Wrong}
 use Rattle.timestamp.specs.declared.parts.Date.the-variants.{On, NoDate}

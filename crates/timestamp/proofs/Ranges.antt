@@ -13,7 +13,8 @@ use Rattle.digits.proofs.Numbers.{number-parts}
 use Rattle.fixed.specs.Fields.{part, all}
 use Rattle.fixed.proofs.Tests.{passes}
 use Rattle.calendar.specs.Calendar.{monthLength}
-use Rattle.timestamp.specs.Timestamp.{dateTests, clockTests, hasPoint, places, fractionTests, nanosOf, isUtc, offsetTests, awayOf, offsetOf, tail, zone, timestampTests, isTimestamp, momentOf, timestampOf, rangeTests, inRange}
+use Rattle.timestamp.specs.Timestamp.{dateTests, clockTests, hasPoint, places, fractionTests, nanosOf, isUtc, offsetTests, awayOf}
+use Rattle.timestamp.specs.Timestamp.{offsetOf, tail, zone, timestampTests, isTimestamp, momentOf, timestampOf, rangeTests, inRange}
 use Rattle.timestamp.specs.declared.Moment.{Moment}
 use Rattle.fraction.proofs.Fractions.{nine-below}
 use Rattle.timestamp.proofs.Fractions.{run-fraction}

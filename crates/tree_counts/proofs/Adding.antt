@@ -56,7 +56,8 @@ within-counts n w =
 
 module _ (c s : Counts) where
   -- the five tests together; own and more are the two counts of disabled tests
-  pub tested : {own more : ℕ} {t f e k d : Bool} → own ≡ disabledOf c → more ≡ disabledOf s → t ≡ isCount (c .tests + s .tests) → f ≡ isCount (c .failures + s .failures) → e ≡ isCount (c .errors + s .errors) → k ≡ isCount (c .skipped + s .skipped) → d ≡ isCount (own + more) → (t && (f && (e && (k && d)))) ≡ areCounts (added c s)
+  pub tested : {own more : ℕ} {t f e k d : Bool} → own ≡ disabledOf c → more ≡ disabledOf s → t ≡ isCount (c .tests + s .tests) → f ≡ isCount (c .failures + s .failures)
+      → e ≡ isCount (c .errors + s .errors) → k ≡ isCount (c .skipped + s .skipped) → d ≡ isCount (own + more) → (t && (f && (e && (k && d)))) ≡ areCounts (added c s)
   tested o m t f e k d = rw (t, f, e, k, d, o, m)
 
   pub adding : areCounts (added c s) ≡ true → withSuite c s ≡ accepted (added c s)
@@ -68,8 +69,10 @@ module _ (c s : Counts) where
   refusing e = rw e refl
 
   -- the answers whole; n is the counts that were made
-  pub adding-whole : {n : Counts} {r : Refusal} → areCounts (added c s) ≡ true → n ≡ added c s → r ≡ noRefusal → _≡_ {A = Counted} (record { verdict = Accepted; counts = n; refusal = r }) (countedFrom c (withSuite c s))
+  pub adding-whole : {n : Counts} {r : Refusal} → areCounts (added c s) ≡ true → n ≡ added c s → r ≡ noRefusal
+      → _≡_ {A = Counted} (record { verdict = Accepted; counts = n; refusal = r }) (countedFrom c (withSuite c s))
   adding-whole e p q = rw (adding e, p, q) refl
 
-  pub refusing-whole : {r : Refusal} → areCounts (added c s) ≡ false → r ≡ refusalFrom (late CountLimit) → _≡_ {A = Counted} (record { verdict = Refused; counts = c; refusal = r }) (countedFrom c (withSuite c s))
+  pub refusing-whole : {r : Refusal} → areCounts (added c s) ≡ false → r ≡ refusalFrom (late CountLimit)
+      → _≡_ {A = Counted} (record { verdict = Refused; counts = c; refusal = r }) (countedFrom c (withSuite c s))
   refusing-whole e q = rw (refusing e, q) refl

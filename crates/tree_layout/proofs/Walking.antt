@@ -169,7 +169,8 @@ module _ {texts words : List ℕ} {limit at : ℕ} {o : Open} (w : Walking texts
   unfolding standsAt
   walking-done e = sym (w .left ∙ go (leb (at + 32) limit) (eqb (getD words at 0) 0) refl refl e ∙ ap (λ (l : List ℕ). (leb 1 (o .level) && mayEnd o) && allZero l) (drop-take at limit words))
     where
-      go : (p q : Bool) → leb (at + 32) limit ≡ p → eqb (getD words at 0) 0 ≡ q → (p && not q) ≡ false → layoutFrom texts o ((limit - at) / 32) (drop at words) (drop at (take limit words)) ≡ ((leb 1 (o .level) && mayEnd o) && allZero (drop at (take limit words)))
+      go : (p q : Bool) → leb (at + 32) limit ≡ p → eqb (getD words at 0) 0 ≡ q → (p && not q) ≡ false
+          → layoutFrom texts o ((limit - at) / 32) (drop at words) (drop at (take limit words)) ≡ ((leb 1 (o .level) && mayEnd o) && allZero (drop at (take limit words)))
       go true true u v x =
           let z : at + 0 ≡ at = omega arith in
           layout-none texts o (drop at words) (drop at (take limit words)) ((limit - at) / 32) (getD-drop at words 0 0 ∙ ap (λ (j : ℕ). getD words j 0) z ∙ eqb-true (getD words at 0) 0 v)

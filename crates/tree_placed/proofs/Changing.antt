@@ -8,7 +8,8 @@ use Rattle.uuid.specs.declared.Words.{Words}
 use Rattle.tree_report.specs.Report.{Text, Duration}
 use Rattle.tree_report.specs.Encode.{Cell, written, ofNumber, ofCount, uuidFront, uuidBack}
 use Rattle.tree_placed.specs.inside.Placed.{Placed, StandsAt, InTexts}
-use Rattle.tree_placed.specs.inside.Changed.{blankPlaced, withKind, withMiddle, withTimestamp, withTime, withSecond, withThird, withFourth, withFifth, withSixth, withFlaky, onRow, firstText, outText, errText, secondText, thirdText, fourthText}
+use Rattle.tree_placed.specs.inside.Changed.{blankPlaced, withKind, withMiddle, withTimestamp, withTime, withSecond, withThird, withFourth}
+use Rattle.tree_placed.specs.inside.Changed.{withFifth, withSixth, withFlaky, onRow, firstText, outText, errText, secondText, thirdText, fourthText}
 
 pub blank-in : (texts : List ℕ) (κ : ℕ) → InTexts texts (blankPlaced κ)
 blank-in texts κ = record { first = tt; out = tt; err = tt; second = tt; third = tt; fourth = tt }

@@ -13,7 +13,8 @@ use Rattle.tree_report.specs.Report.{Text}
 use Rattle.tree_report.specs.Encode.{isGiven, isSome, firstWord, secondWord, ofNumber, ofCount, uuidFront, uuidBack, momentOrZero, timeOrZero, flagsOf, presence}
 use Rattle.tree_put.specs.Put.{blank, putText, putCount, putUuid, putMoment, putTime}
 use Rattle.tree_placed.specs.inside.Placed.{Placed, recordOf}
-use Rattle.tree_placed.specs.inside.Changed.{blankPlaced, withKind, withMiddle, withTimestamp, withTime, withSecond, withThird, withFourth, withFifth, withSixth, withFlaky, onRow, firstText, outText, errText, secondText, thirdText, fourthText}
+use Rattle.tree_placed.specs.inside.Changed.{blankPlaced, withKind, withMiddle, withTimestamp, withTime, withSecond, withThird, withFourth}
+use Rattle.tree_placed.specs.inside.Changed.{withFifth, withSixth, withFlaky, onRow, firstText, outText, errText, secondText, thirdText, fourthText}
 use Rattle.tree_placed.proofs.Flags.{marked-flags, unmarked-flags}
 
 -- the words behind kind and presence bits

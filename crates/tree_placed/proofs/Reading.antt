@@ -138,7 +138,8 @@ module _ (texts z : List ℕ) where
           ∙ branches-behind test (recordsOn rows third-spots) (pairs-test q false j b ys second-spots)
 
   -- ---- a status
-  family-back : (kind : ℕ) (reason : Reason) (family : FlakyOrRerun) (runs : List TestRerun) (q : Places) (s : Spots) → kindOfRuns (texts ++ z) (recordOf (rowAt q (mainRow kind (isFlakyAlone family runs) reason))) (recordsOn (map (runRow family) runs) s) ≡ family
+  family-back : (kind : ℕ) (reason : Reason) (family : FlakyOrRerun) (runs : List TestRerun) (q : Places) (s : Spots)
+      → kindOfRuns (texts ++ z) (recordOf (rowAt q (mainRow kind (isFlakyAlone family runs) reason))) (recordsOn (map (runRow family) runs) s) ≡ family
   unfolding recordOf
   family-back kind reason flaky [] q s = rw (bit-flag 9 (presence (mainRow kind (isFlakyAlone flaky []) reason))) refl
   family-back kind reason rerun [] q s = rw (bit-flag 9 (presence (mainRow kind (isFlakyAlone rerun []) reason))) refl
@@ -161,7 +162,8 @@ module _ (texts z : List ℕ) where
   status-back (skipped reason) s h = ap skipped (reason-back 8 false reason (s 0) (each-first h) z)
 
   -- ---- cases and suites
-  read-case : (c : TestCase) (q : Places) (s : Spots) → InTexts texts (rowAt q (caseRow c)) → Held (underCase c) s → caseOf (texts ++ z) (record { head = recordOf (rowAt q (caseRow c)); below = recordsOn (underCase c) s }) ≡ c
+  read-case : (c : TestCase) (q : Places) (s : Spots) → InTexts texts (rowAt q (caseRow c)) → Held (underCase c) s
+      → caseOf (texts ++ z) (record { head = recordOf (rowAt q (caseRow c)); below = recordsOn (underCase c) s }) ≡ c
   read-case c q s t′ h =
       let t = case-back c q t′ in
       let rows : List Row = statusRows (c .status) in
@@ -187,7 +189,8 @@ module _ (texts z : List ℕ) where
   read-cases : (cs : List TestCase) (s : Spots) → Held (rowsOfEach caseRows cs) s → map (caseOf (texts ++ z)) (branches isCase (recordsOn (rowsOfEach caseRows cs) s)) ≡ cs
   read-cases = branches-back isCase caseRow underCase (caseOf (texts ++ z)) case-top (λ c s. missed (λ k. eqb k 3) caseKinds refl (below-case c) s) read-case
 
-  read-suite : (u : TestSuite) (q : Places) (s : Spots) → InTexts texts (rowAt q (suiteRow u)) → Held (underSuite u) s → suiteOf (texts ++ z) (record { head = recordOf (rowAt q (suiteRow u)); below = recordsOn (underSuite u) s }) ≡ u
+  read-suite : (u : TestSuite) (q : Places) (s : Spots) → InTexts texts (rowAt q (suiteRow u)) → Held (underSuite u) s
+      → suiteOf (texts ++ z) (record { head = recordOf (rowAt q (suiteRow u)); below = recordsOn (underSuite u) s }) ≡ u
   read-suite u q s t′ h =
       let t = suite-back u q t′ in
       let rows : List Row = rowsOfEach caseRows (u .cases) in

@@ -8,14 +8,16 @@ use native.Mathlib.Nat.{mod-add-div'}
 use native.Mathlib.Omega.{arith}
 use borrow.Author.Tests.{le-leb}
 use lib.Dec.{leb, lit≤}
-use Rattle.tree_report.specs.Encode.{firstWord, secondWord, isGiven, ofText, uuidBack, lowWord, highWord, fitsRow, presence, Row, flagsOf, pairRow, mainRow, kindOfMain, kindOfRun, runRow, caseRow, suiteRow, reportRow}
+use Rattle.tree_report.specs.Encode.{firstWord, secondWord, isGiven, ofText, uuidBack, lowWord, highWord, fitsRow, presence, Row}
+use Rattle.tree_report.specs.Encode.{flagsOf, pairRow, mainRow, kindOfMain, kindOfRun, runRow, caseRow, suiteRow, reportRow}
 use Rattle.tree_report.specs.Fields.{hasBit}
 use Rattle.tree_report.specs.Layout.{goodTextAt, goodOutputs, goodReport, goodSuite, goodCase, bitsFor, goodOther, goodRecord}
 use Rattle.tree_report.specs.Report.{Text, Pair, NonSuccessKind, failure, error, FlakyOrRerun, TestRerun, Reason, TestCase, TestSuite, Report}
 use Rattle.tree_report.specs.ReportOf.{pairOf, reasonOf, runOf}
 use Rattle.tree_report.proofs.EncodeLists.{both}
 use Rattle.tree_report.proofs.EncodeCells.{bit-flag, weights, only-bits, Pairing, TextBack, number-back, moment-back, time-back}
-use Rattle.tree_report.proofs.EncodeRecords.{Common, good-common, elementRow, fits-times, other-record, ofPair, ofReason, run-kind, run-bounds, run-bits, CaseBack, counts-back, SuiteBack, uuid-back, back-hidden, ReportBack}
+use Rattle.tree_report.proofs.EncodeRecords.{Common, good-common, elementRow, fits-times, other-record, ofPair, ofReason, run-kind}
+use Rattle.tree_report.proofs.EncodeRecords.{run-bounds, run-bits, CaseBack, counts-back, SuiteBack, uuid-back, back-hidden, ReportBack}
 use Rattle.tree_placed.specs.inside.Placed.{Places, Placed, recordOf, StandsAt, InTexts}
 use Rattle.tree_placed.proofs.Growing.{stands-read}
 
@@ -99,7 +101,8 @@ pub good-skipped : (r : Reason) → GoodRow (mainRow 8 false r)
 unfolding bitsFor
 good-skipped r = good-element 8 false (ofReason r) (lit≤ tt) (lit≤ tt) (omega arith) refl
 
-pub reason-back : (kind : ℕ) (isFlaky : Bool) (r : Reason) {texts : List ℕ} (q : Places) → InTexts texts (rowAt q (mainRow kind isFlaky r)) → (z : List ℕ) → reasonOf (texts ++ z) (recordOf (rowAt q (mainRow kind isFlaky r))) ≡ r
+pub reason-back : (kind : ℕ) (isFlaky : Bool) (r : Reason) {texts : List ℕ} (q : Places) → InTexts texts (rowAt q (mainRow kind isFlaky r))
+    → (z : List ℕ) → reasonOf (texts ++ z) (recordOf (rowAt q (mainRow kind isFlaky r))) ≡ r
 reason-back kind isFlaky r q h z =
     let t = element-back kind isFlaky (ofReason r) q h in
     λ i. record { message = t .common .text .back z i; type = t .type .back z i; description = t .description .back z i }
@@ -112,7 +115,8 @@ good-run family e =
     let m : kind ≤ 12 = run-bounds family (e .kind) .1 in
     good-element kind false e (omega arith) (omega arith) (rw (run-bits kind l m) (omega arith)) (rw (le-leb 6 kind (omega arith), le-leb kind 12 m) refl)
 
-pub run-back : (family : FlakyOrRerun) (e : TestRerun) {texts : List ℕ} (q : Places) → InTexts texts (rowAt q (runRow family e)) → (z : List ℕ) → runOf (texts ++ z) (recordOf (rowAt q (runRow family e))) ≡ e
+pub run-back : (family : FlakyOrRerun) (e : TestRerun) {texts : List ℕ} (q : Places)
+    → InTexts texts (rowAt q (runRow family e)) → (z : List ℕ) → runOf (texts ++ z) (recordOf (rowAt q (runRow family e))) ≡ e
 unfolding recordOf
 run-back family e q h z =
     let t = element-back (kindOfRun family (e .kind)) false e q h in

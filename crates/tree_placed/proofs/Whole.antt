@@ -44,12 +44,14 @@ good-case-rows c =
 good-suite-rows : (s : TestSuite) → Each GoodRow (suiteRows s)
 unfolding bitsFor
 good-suite-rows s =
-    more (good-suite s) (each-append (good-pairs 13 (lit≤ tt) (lit≤ tt) refl (s .extra)) (each-append (good-pairs 4 (lit≤ tt) (lit≤ tt) refl (s .properties)) (each-rows caseRows good-case-rows (s .cases))))
+    more (good-suite s)
+    (each-append (good-pairs 13 (lit≤ tt) (lit≤ tt) refl (s .extra)) (each-append (good-pairs 4 (lit≤ tt) (lit≤ tt) refl (s .properties)) (each-rows caseRows good-case-rows (s .cases))))
 
 good-rows : (r : Report) → Each GoodRow (rowsOf r)
 good-rows r = more (good-report r) (each-rows suiteRows good-suite-rows (r .suites))
 
-all-good : {texts : List ℕ} {rows : List Row} → Each GoodRow rows → Each (λ row. fitsRow row ≡ true) rows → (s : Spots) → Each (InTexts texts) (placedOn rows s) → allGood texts (recordsOn rows s) ≡ true
+all-good : {texts : List ℕ} {rows : List Row} → Each GoodRow rows → Each (λ row. fitsRow row ≡ true) rows
+    → (s : Spots) → Each (InTexts texts) (placedOn rows s) → allGood texts (recordsOn rows s) ≡ true
 all-good done f s h = refl
 all-good {texts} (more g gs) (more f fs) s h = both (g texts (s 0) (each-first h) f) (all-good gs fs (next s) (each-others h))
 

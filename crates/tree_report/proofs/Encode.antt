@@ -10,7 +10,8 @@ use lib.ListN.{length, drop}
 use Rattle.area.proofs.Laying.{laid-zeros}
 use Rattle.area.specs.Area.{zeros}
 use Rattle.utf8.specs.Utf8.{utf8}
-use Rattle.tree_report.specs.Encode.{Cell, absent, written, valued, constant, storedIn, cellsOf, cellsIn, Row, recordAt, recordsAt, every, fitsCell, fitsMoment, fitsTime, fitsRow, pairRow, isFlakyAlone, runRow, statusRows, caseRows, suiteRows, rowsOf, encode, wordsOf, textOf, fits}
+use Rattle.tree_report.specs.Encode.{Cell, absent, written, valued, constant, storedIn, cellsOf, cellsIn, Row, recordAt, recordsAt, every, fitsCell, fitsMoment}
+use Rattle.tree_report.specs.Encode.{fitsTime, fitsRow, pairRow, isFlakyAlone, runRow, statusRows, caseRows, suiteRows, rowsOf, encode, wordsOf, textOf, fits}
 use Rattle.tree_report.specs.Fields.{kindOf, live}
 use Rattle.text.specs.Filter.{unfiltered}
 use Rattle.tree_report.specs.Layout.{usedWords, usedText, allZero, filled, goodText, allGood, bitsFor, nothing, goodOrder, recordsOf, layout}
@@ -67,7 +68,8 @@ good-case-rows c =
 good-suite-rows : (s : TestSuite) → Each GoodRow (suiteRows s)
 unfolding bitsFor
 good-suite-rows s =
-    more (good-suite s) (each-append (good-pairs 13 (lit≤ tt) (lit≤ tt) refl (s .extra)) (each-append (good-pairs 4 (lit≤ tt) (lit≤ tt) refl (s .properties)) (each-rows caseRows good-case-rows (s .cases))))
+    more (good-suite s)
+    (each-append (good-pairs 13 (lit≤ tt) (lit≤ tt) refl (s .extra)) (each-append (good-pairs 4 (lit≤ tt) (lit≤ tt) refl (s .properties)) (each-rows caseRows good-case-rows (s .cases))))
 
 good-rows : (r : Report) → Each GoodRow (rowsOf r)
 good-rows r = more (good-report r) (each-rows suiteRows good-suite-rows (r .suites))

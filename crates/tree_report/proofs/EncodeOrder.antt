@@ -7,10 +7,12 @@ use native.Mathlib.Omega.{arith}
 use borrow.Author.Tests.{le-leb, eq-eqb, ne-eqb, lt-ltb, le-ltb}
 use lib.Dec.{leb, ltb, eqb, lit≤}
 use lib.ListN.{length}
-use Rattle.tree_report.specs.Encode.{storedIn, presence, cellsOf, Row, recordAt, recordsAt, rowsOfEach, pairRow, mainRow, kindOfMain, kindOfRun, runRow, isFlakyAlone, statusRows, caseRow, caseRows, suiteRow, suiteRows, reportRow, rowsOf}
+use Rattle.tree_report.specs.Encode.{storedIn, presence, cellsOf, Row, recordAt, recordsAt, rowsOfEach, pairRow, mainRow, kindOfMain}
+use Rattle.tree_report.specs.Encode.{kindOfRun, runRow, isFlakyAlone, statusRows, caseRow, caseRows, suiteRow, suiteRows, reportRow, rowsOf}
 use Rattle.tree_report.specs.Fields.{kindOf, live, hasBit}
 use Rattle.tree_report.specs.Layout.{Open, nothing, over, mayEnd, mayFollow, following, goodOrder}
-use Rattle.tree_report.specs.Report.{Pair, NonSuccessKind, failure, error, FlakyOrRerun, flaky, rerun, TestRerun, Reason, TestCaseStatus, success, nonSuccess, skipped, TestCase, TestSuite, Report}
+use Rattle.tree_report.specs.Report.{Pair, NonSuccessKind, failure, error, FlakyOrRerun, flaky, rerun, TestRerun, Reason}
+use Rattle.tree_report.specs.Report.{TestCaseStatus, success, nonSuccess, skipped, TestCase, TestSuite, Report}
 use Rattle.tree_status.specs.declared.Tally.{Tally}
 use Rattle.tree_status.specs.Status.{noStatus, tallied, ruled}
 use Rattle.tree_report.proofs.EncodeLists.{both}
@@ -302,4 +304,5 @@ order-good r g =
     let s = report-step r g in
     let f : ℕ = g + length (storedIn (cellsOf (reportRow r))) in
     let q = leads-each suiteRows leads-suite (r .suites) .on [] (λ o n h. both (le-leb 1 (o .level) (h .level)) (h .ends)) (following nothing (recordAt g (reportRow r))) f (s .leaves) in
-    order-step nothing (recordAt g (reportRow r)) (recordsAt f rows) (s .alive) (s .allowed) (sym (ap (λ (l : List Row). goodOrder (following nothing (recordAt g (reportRow r))) (recordsAt f l)) (append-nil rows)) ∙ q)
+    order-step nothing (recordAt g (reportRow r)) (recordsAt f rows) (s .alive) (s .allowed)
+    (sym (ap (λ (l : List Row). goodOrder (following nothing (recordAt g (reportRow r))) (recordsAt f l)) (append-nil rows)) ∙ q)

@@ -7,12 +7,15 @@ use mathlib.Core.Path.{_≡_, refl, ap, ap₂, subst, _∙_}
 use borrow.Author.Tests.{le-leb, not-false}
 use lib.Dec.{leb, ltb, eqb}
 use lib.ListN.{length}
-use Rattle.tree_report.specs.Encode.{Cell, storedIn, cellsOf, cellsIn, presence, Row, recordAt, recordsAt, rowsOfEach, every, pairRow, mainRow, kindOfMain, kindOfRun, runRow, isFlakyAlone, statusRows, caseRow, caseRows, suiteRow, suiteRows, reportRow, rowsOf}
+use Rattle.tree_report.specs.Encode.{Cell, storedIn, cellsOf, cellsIn, presence, Row, recordAt, recordsAt, rowsOfEach, every, pairRow, mainRow}
+use Rattle.tree_report.specs.Encode.{kindOfMain, kindOfRun, runRow, isFlakyAlone, statusRows, caseRow, caseRows, suiteRow, suiteRows, reportRow, rowsOf}
 use Rattle.tree_report.specs.Fields.{kindOf, live, isSuite, isCase, isMain, isRun}
-use Rattle.tree_report.specs.Report.{Pair, NonSuccessKind, failure, error, FlakyOrRerun, flaky, rerun, TestRerun, Reason, TestCaseStatus, success, nonSuccess, skipped, TestCase, TestSuite, Report}
+use Rattle.tree_report.specs.Report.{Pair, NonSuccessKind, failure, error, FlakyOrRerun, flaky, rerun, TestRerun, Reason}
+use Rattle.tree_report.specs.Report.{TestCaseStatus, success, nonSuccess, skipped, TestCase, TestSuite, Report}
 use Rattle.tree_report.specs.ReportOf.{only, until, Branch, branches, pairOf, pairsOf, reasonOf, runOf, kindOfRuns, statusOf, caseOf, suiteOf, reportFrom}
 use Rattle.tree_report.proofs.EncodeKinds.{runKinds, statusKinds, caseKinds, suiteKinds, runs-kinds, status-kinds, below-case, cases-kinds, below-suite, report-kinds}
-use Rattle.tree_report.proofs.EncodeLists.{both, Each, each-on, each-map, each-append, each-record, cells-append, records-append, only-all, only-first, only-rest, only-none, only-front, only-behind, branches-behind, Starts, until-next, Kinds, missed}
+use Rattle.tree_report.proofs.EncodeLists.{both, Each, each-on, each-map, each-append, each-record, cells-append, records-append, only-all, only-first}
+use Rattle.tree_report.proofs.EncodeLists.{only-rest, only-none, only-front, only-behind, branches-behind, Starts, until-next, Kinds, missed}
 use Rattle.tree_report.proofs.EncodeRecords.{run-bounds, pair-back, reason-back, run-back, case-back, suite-back, report-back}
 use Rattle.tree_report.proofs.EncodeCells.{bit-flag}
 use Rattle.tree_report.proofs.EncodeText.{Standing, standing-behind}
@@ -72,22 +75,26 @@ module _ (texts z : List ℕ) where
   list-back f read back (x ∷ xs) fill ss h =
       ap₂ _∷_ (back x fill (cellsIn (map f xs) ++ ss) h) (list-back f read back xs (fill + length (storedIn (cellsOf (f x)))) ss (standing-behind (cellsOf (f x)) h))
 
-  pairs-back : (kind : ℕ) (ps : List Pair) (fill : ℕ) (ss : List Cell) → Standing texts fill (cellsIn (map (pairRow kind) ps) ++ ss) → map (pairOf (texts ++ z)) (recordsAt fill (map (pairRow kind) ps)) ≡ ps
+  pairs-back : (kind : ℕ) (ps : List Pair) (fill : ℕ) (ss : List Cell) → Standing texts fill (cellsIn (map (pairRow kind) ps) ++ ss)
+      → map (pairOf (texts ++ z)) (recordsAt fill (map (pairRow kind) ps)) ≡ ps
   pairs-back kind = list-back (pairRow kind) (pairOf (texts ++ z)) (λ p fill ss h. pair-back kind p h z)
 
-  runs-back : (family : FlakyOrRerun) (runs : List TestRerun) (fill : ℕ) (ss : List Cell) → Standing texts fill (cellsIn (map (runRow family) runs) ++ ss) → map (runOf (texts ++ z)) (recordsAt fill (map (runRow family) runs)) ≡ runs
+  runs-back : (family : FlakyOrRerun) (runs : List TestRerun) (fill : ℕ) (ss : List Cell)
+      → Standing texts fill (cellsIn (map (runRow family) runs) ++ ss) → map (runOf (texts ++ z)) (recordsAt fill (map (runRow family) runs)) ≡ runs
   runs-back family = list-back (runRow family) (runOf (texts ++ z)) (λ e fill ss h. run-back family e h z)
 
   -- ---- a branch for each
   module _ {A : Type 0} (p : List ℕ → Bool) (top : A → Row) (under : A → List Row) (read : Branch → A)
       (tops : (x : A) (g : ℕ) → p (recordAt g (top x)) ≡ true)
       (unders : (x : A) (g : ℕ) → Each (λ r. p r ≡ false) (recordsAt g (under x)))
-      (back : (x : A) (fill : ℕ) (ss : List Cell) → Standing texts fill (cellsOf (top x) ++ (cellsIn (under x) ++ ss)) → read (record { head = recordAt fill (top x); below = recordsAt (fill + length (storedIn (cellsOf (top x)))) (under x) }) ≡ x) where
+      (back : (x : A) (fill : ℕ) (ss : List Cell) → Standing texts fill (cellsOf (top x) ++ (cellsIn (under x) ++ ss))
+      → read (record { head = recordAt fill (top x); below = recordsAt (fill + length (storedIn (cellsOf (top x)))) (under x) }) ≡ x) where
     starts-next : (xs : List A) (fill : ℕ) → Starts p (recordsAt fill (rowsOfEach (λ x. top x ∷ under x) xs))
     starts-next [] fill = tt
     starts-next (x ∷ xs) fill = tops x fill
 
-    branches-back : (xs : List A) (fill : ℕ) (ss : List Cell) → Standing texts fill (cellsIn (rowsOfEach (λ x. top x ∷ under x) xs) ++ ss) → map read (branches p (recordsAt fill (rowsOfEach (λ x. top x ∷ under x) xs))) ≡ xs
+    branches-back : (xs : List A) (fill : ℕ) (ss : List Cell) → Standing texts fill (cellsIn (rowsOfEach (λ x. top x ∷ under x) xs) ++ ss)
+        → map read (branches p (recordsAt fill (rowsOfEach (λ x. top x ∷ under x) xs))) ≡ xs
     branches-back [] fill ss h = refl
     branches-back (x ∷ xs) fill ss h =
         let rest : List Row = rowsOfEach (λ x. top x ∷ under x) xs in
@@ -130,13 +137,15 @@ module _ (texts z : List ℕ) where
       abbrev test : List ℕ → Bool
       test r = q (kindOf r)
 
-      extras-back : (ks : List ℕ) → q k ≡ true → q j ≡ false → every (λ i. not (q i)) ks ≡ true → Kinds ks rows → (ss : List Cell) → Standing texts g (cellsIn below ++ ss) → pairsOf (texts ++ z) test (recordsAt g below) ≡ xs
+      extras-back : (ks : List ℕ) → q k ≡ true → q j ≡ false → every (λ i. not (q i)) ks ≡ true → Kinds ks rows
+          → (ss : List Cell) → Standing texts g (cellsIn below ++ ss) → pairsOf (texts ++ z) test (recordsAt g below) ≡ xs
       extras-back ks a b c d ss h =
           ap (λ (l : List (List ℕ)). map (pairOf (texts ++ z)) (only test l)) parted
           ∙ ap (map (pairOf (texts ++ z))) (only-front test (pairs-test q true k a xs g) (each-append (pairs-test q false j b ys second-fill) (missed q ks c d third-fill)))
           ∙ pairs-back k xs g (cellsIn (map (pairRow j) ys ++ rows) ++ ss) (standing-left (map (pairRow k) xs) (map (pairRow j) ys ++ rows) ss h)
 
-      properties-back : (ks : List ℕ) → q k ≡ false → q j ≡ true → every (λ i. not (q i)) ks ≡ true → Kinds ks rows → (ss : List Cell) → Standing texts g (cellsIn below ++ ss) → pairsOf (texts ++ z) test (recordsAt g below) ≡ ys
+      properties-back : (ks : List ℕ) → q k ≡ false → q j ≡ true → every (λ i. not (q i)) ks ≡ true → Kinds ks rows
+          → (ss : List Cell) → Standing texts g (cellsIn below ++ ss) → pairsOf (texts ++ z) test (recordsAt g below) ≡ ys
       properties-back ks a b c d ss h =
           ap (λ (l : List (List ℕ)). map (pairOf (texts ++ z)) (only test l)) parted
           ∙ ap (map (pairOf (texts ++ z)))
@@ -157,7 +166,8 @@ module _ (texts z : List ℕ) where
           ∙ branches-behind test (recordsAt third-fill rows) (pairs-test q false j b ys second-fill)
 
   -- ---- a status
-  family-back : (kind : ℕ) (reason : Reason) (family : FlakyOrRerun) (runs : List TestRerun) (fill g : ℕ) → kindOfRuns (texts ++ z) (recordAt fill (mainRow kind (isFlakyAlone family runs) reason)) (recordsAt g (map (runRow family) runs)) ≡ family
+  family-back : (kind : ℕ) (reason : Reason) (family : FlakyOrRerun) (runs : List TestRerun) (fill g : ℕ)
+      → kindOfRuns (texts ++ z) (recordAt fill (mainRow kind (isFlakyAlone family runs) reason)) (recordsAt g (map (runRow family) runs)) ≡ family
   unfolding recordAt
   family-back kind reason flaky [] fill g = rw (bit-flag 9 (presence (mainRow kind (isFlakyAlone flaky []) reason))) refl
   family-back kind reason rerun [] fill g = rw (bit-flag 9 (presence (mainRow kind (isFlakyAlone rerun []) reason))) refl
@@ -165,11 +175,13 @@ module _ (texts z : List ℕ) where
   family-back kind reason rerun (e ∷ runs) fill g = run-family rerun (e .kind)
 
   -- a main of kind 6 or 7
-  pub nonSuccess-read : (kind : NonSuccessKind) (m : List ℕ) (ms runs : List (List ℕ)) → kindOf m ≡ kindOfMain kind → statusOf (texts ++ z) (m ∷ ms) runs ≡ nonSuccess kind (reasonOf (texts ++ z) m) (kindOfRuns (texts ++ z) m runs) (map (runOf (texts ++ z)) runs)
+  pub nonSuccess-read : (kind : NonSuccessKind) (m : List ℕ) (ms runs : List (List ℕ)) → kindOf m ≡ kindOfMain kind
+      → statusOf (texts ++ z) (m ∷ ms) runs ≡ nonSuccess kind (reasonOf (texts ++ z) m) (kindOfRuns (texts ++ z) m runs) (map (runOf (texts ++ z)) runs)
   nonSuccess-read failure m ms runs e = rw e refl
   nonSuccess-read error m ms runs e = rw e refl
 
-  status-back : (s : TestCaseStatus) (fill : ℕ) (ss : List Cell) → Standing texts fill (cellsIn (statusRows s) ++ ss) → statusOf (texts ++ z) (only isMain (recordsAt fill (statusRows s))) (only isRun (recordsAt fill (statusRows s))) ≡ s
+  status-back : (s : TestCaseStatus) (fill : ℕ) (ss : List Cell) → Standing texts fill (cellsIn (statusRows s) ++ ss)
+      → statusOf (texts ++ z) (only isMain (recordsAt fill (statusRows s))) (only isRun (recordsAt fill (statusRows s))) ≡ s
   unfolding recordAt
   status-back (success runs) fill ss h = ap₂ (statusOf (texts ++ z)) (no-mains flaky runs fill) (all-runs flaky runs fill) ∙ ap success (runs-back flaky runs fill ss h)
   status-back (nonSuccess kind reason family runs) fill ss h =
@@ -186,7 +198,8 @@ module _ (texts z : List ℕ) where
   status-back (skipped reason) fill ss h = ap skipped (reason-back 8 false reason {ss = ss} h z)
 
   -- ---- cases and suites
-  read-case : (c : TestCase) (fill : ℕ) (ss : List Cell) → Standing texts fill (cellsOf (caseRow c) ++ (cellsIn (underCase c) ++ ss)) → caseOf (texts ++ z) (record { head = recordAt fill (caseRow c); below = recordsAt (fill + length (storedIn (cellsOf (caseRow c)))) (underCase c) }) ≡ c
+  read-case : (c : TestCase) (fill : ℕ) (ss : List Cell) → Standing texts fill (cellsOf (caseRow c) ++ (cellsIn (underCase c) ++ ss))
+      → caseOf (texts ++ z) (record { head = recordAt fill (caseRow c); below = recordsAt (fill + length (storedIn (cellsOf (caseRow c)))) (underCase c) }) ≡ c
   read-case c fill ss h =
       let g : ℕ = fill + length (storedIn (cellsOf (caseRow c))) in
       let t = case-back c {ss = cellsIn (underCase c) ++ ss} h in
@@ -197,7 +210,8 @@ module _ (texts z : List ℕ) where
       let properties = properties-back 14 5 (c .extra) (c .properties) rows g (λ k. eqb k 5) statusKinds refl refl refl kinds ss s in
       let mains = only-others 14 5 (c .extra) (c .properties) rows g (λ k. leb 6 k && leb k 8) refl refl in
       let runs = only-others 14 5 (c .extra) (c .properties) rows g (λ k. leb 9 k && leb k 12) refl refl in
-      let status = ap₂ (statusOf (texts ++ z)) mains runs ∙ status-back (c .status) (third-fill 14 5 (c .extra) (c .properties) rows g) ss (others-standing 14 5 (c .extra) (c .properties) rows g ss s) in
+      let status =
+      ap₂ (statusOf (texts ++ z)) mains runs ∙ status-back (c .status) (third-fill 14 5 (c .extra) (c .properties) rows g) ss (others-standing 14 5 (c .extra) (c .properties) rows g ss s) in
       λ i. record {
         name = t .name z i;
         classname = t .classname .back z i;
@@ -211,10 +225,12 @@ module _ (texts z : List ℕ) where
         properties = properties i;
       }
 
-  read-cases : (cs : List TestCase) (fill : ℕ) (ss : List Cell) → Standing texts fill (cellsIn (rowsOfEach caseRows cs) ++ ss) → map (caseOf (texts ++ z)) (branches isCase (recordsAt fill (rowsOfEach caseRows cs))) ≡ cs
+  read-cases : (cs : List TestCase) (fill : ℕ) (ss : List Cell) → Standing texts fill (cellsIn (rowsOfEach caseRows cs) ++ ss)
+      → map (caseOf (texts ++ z)) (branches isCase (recordsAt fill (rowsOfEach caseRows cs))) ≡ cs
   read-cases = branches-back isCase caseRow underCase (caseOf (texts ++ z)) case-top (λ c g. missed (λ k. eqb k 3) caseKinds refl (below-case c) g) read-case
 
-  read-suite : (s : TestSuite) (fill : ℕ) (ss : List Cell) → Standing texts fill (cellsOf (suiteRow s) ++ (cellsIn (underSuite s) ++ ss)) → suiteOf (texts ++ z) (record { head = recordAt fill (suiteRow s); below = recordsAt (fill + length (storedIn (cellsOf (suiteRow s)))) (underSuite s) }) ≡ s
+  read-suite : (s : TestSuite) (fill : ℕ) (ss : List Cell) → Standing texts fill (cellsOf (suiteRow s) ++ (cellsIn (underSuite s) ++ ss))
+      → suiteOf (texts ++ z) (record { head = recordAt fill (suiteRow s); below = recordsAt (fill + length (storedIn (cellsOf (suiteRow s)))) (underSuite s) }) ≡ s
   read-suite s fill ss h =
       let g : ℕ = fill + length (storedIn (cellsOf (suiteRow s))) in
       let t = suite-back s {ss = cellsIn (underSuite s) ++ ss} h in
@@ -237,7 +253,8 @@ module _ (texts z : List ℕ) where
         extra = extra i;
       }
 
-  read-suites : (s : List TestSuite) (fill : ℕ) (ss : List Cell) → Standing texts fill (cellsIn (rowsOfEach suiteRows s) ++ ss) → map (suiteOf (texts ++ z)) (branches isSuite (recordsAt fill (rowsOfEach suiteRows s))) ≡ s
+  read-suites : (s : List TestSuite) (fill : ℕ) (ss : List Cell) → Standing texts fill (cellsIn (rowsOfEach suiteRows s) ++ ss)
+      → map (suiteOf (texts ++ z)) (branches isSuite (recordsAt fill (rowsOfEach suiteRows s))) ≡ s
   read-suites = branches-back isSuite suiteRow underSuite (suiteOf (texts ++ z)) suite-top (λ s g. missed (λ k. eqb k 2) suiteKinds refl (below-suite s) g) read-suite
 
   -- ---- the report

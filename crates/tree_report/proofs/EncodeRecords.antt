@@ -9,7 +9,8 @@ use native.Mathlib.Omega.{arith}
 use borrow.Author.Tests.{lt-ltb, le-leb, lt-leb, ne-eqb}
 use lib.Dec.{eqb, leb, lit≤}
 use lib.ListN.{take, drop}
-use Rattle.tree_report.specs.Encode.{Cell, absent, firstWord, secondWord, isGiven, ofText, uuidFront, uuidBack, lowWord, highWord, fitsCell, fitsMoment, fitsTime, fitsRow, every, presence, cellsOf, Row, recordAt, flagsOf, pairRow, mainRow, kindOfMain, kindOfRun, runRow, caseRow, suiteRow, reportRow}
+use Rattle.tree_report.specs.Encode.{Cell, absent, firstWord, secondWord, isGiven, ofText, uuidFront, uuidBack, lowWord, highWord, fitsCell, fitsMoment, fitsTime, fitsRow}
+use Rattle.tree_report.specs.Encode.{every, presence, cellsOf, Row, recordAt, flagsOf, pairRow, mainRow, kindOfMain, kindOfRun, runRow, caseRow, suiteRow, reportRow}
 use Rattle.tree_report.specs.Fields.{kindOf, hasBit, textAt, numberAt, first, systemOut, systemErr, second, description, stackTrace, uuid, timestamp, time, counts, assertions}
 use Rattle.tree_report.specs.Layout.{slot, zeroAt, goodCommon, goodOutputs, goodCounts, goodReport, goodSuite, goodCase, bitsFor, goodOther, goodRecord}
 use Rattle.timestamp.specs.declared.Moment.{Moment}
@@ -83,7 +84,8 @@ GoodRow row = (texts : List ℕ) (fill : ℕ) (ss : List Cell) → Standing text
 pub fits-times : (row : Row) → fitsRow row ≡ true → (fitsMoment (row .timestamp) ≡ true) × (fitsTime (row .time) ≡ true)
 unfolding fitsRow
 fits-times row f =
-    let g = and-right (every fitsCell (row .first ∷ row .out ∷ row .err ∷ row .second ∷ row .third ∷ row .fourth ∷ row .fifth ∷ row .sixth ∷ [])) (fitsMoment (row .timestamp) && fitsTime (row .time)) f in
+    let g = and-right (every fitsCell (row .first ∷ row .out ∷ row .err ∷ row .second ∷ row .third ∷ row .fourth ∷ row .fifth ∷ row .sixth ∷ []))
+    (fitsMoment (row .timestamp) && fitsTime (row .time)) f in
     (and-left (fitsMoment (row .timestamp)) (fitsTime (row .time)) g, and-right (fitsMoment (row .timestamp)) (fitsTime (row .time)) g)
 
 pub other-record : (texts r : List ℕ) → 4 ≤ kindOf r → kindOf r ≤ 14 → goodOther texts r ≡ true → goodRecord texts r ≡ true
@@ -127,7 +129,8 @@ ofPair p = record {
 pub good-pair : (kind : ℕ) → 4 ≤ kind → kind ≤ 14 → bitsFor kind ≡ 0 ∷ 1 ∷ [] → (p : Pair) → GoodRow (pairRow kind p)
 good-pair kind l m b p = good-element kind false (ofPair p) l m (rw b refl) (or-true (leb 6 kind && leb kind 12))
 
-pub pair-back : (kind : ℕ) (p : Pair) {texts : List ℕ} {fill : ℕ} {ss : List Cell} → Standing texts fill (cellsOf (pairRow kind p) ++ ss) → (z : List ℕ) → pairOf (texts ++ z) (recordAt fill (pairRow kind p)) ≡ p
+pub pair-back : (kind : ℕ) (p : Pair) {texts : List ℕ} {fill : ℕ} {ss : List Cell}
+    → Standing texts fill (cellsOf (pairRow kind p) ++ ss) → (z : List ℕ) → pairOf (texts ++ z) (recordAt fill (pairRow kind p)) ≡ p
 unfolding recordAt
 pair-back kind p {ss = ss} h z =
     let key = text-read h z in
@@ -157,7 +160,8 @@ pub good-skipped : (r : Reason) → GoodRow (mainRow 8 false r)
 unfolding bitsFor
 good-skipped r = good-element 8 false (ofReason r) (lit≤ tt) (lit≤ tt) (omega arith) refl
 
-pub reason-back : (kind : ℕ) (isFlaky : Bool) (r : Reason) {texts : List ℕ} {fill : ℕ} {ss : List Cell} → Standing texts fill (cellsOf (mainRow kind isFlaky r) ++ ss) → (z : List ℕ) → reasonOf (texts ++ z) (recordAt fill (mainRow kind isFlaky r)) ≡ r
+pub reason-back : (kind : ℕ) (isFlaky : Bool) (r : Reason) {texts : List ℕ} {fill : ℕ} {ss : List Cell}
+    → Standing texts fill (cellsOf (mainRow kind isFlaky r) ++ ss) → (z : List ℕ) → reasonOf (texts ++ z) (recordAt fill (mainRow kind isFlaky r)) ≡ r
 reason-back kind isFlaky r h z =
     let t = element-back kind isFlaky (ofReason r) h in
     λ i. record { message = t .common .text .back z i; type = t .type .back z i; description = t .description .back z i }
@@ -186,7 +190,8 @@ good-run family e =
     let m : kind ≤ 12 = run-bounds family (e .kind) .1 in
     good-element kind false e (omega arith) (omega arith) (rw (run-bits kind l m) (omega arith)) (rw (le-leb 6 kind (omega arith), le-leb kind 12 m) refl)
 
-pub run-back : (family : FlakyOrRerun) (e : TestRerun) {texts : List ℕ} {fill : ℕ} {ss : List Cell} → Standing texts fill (cellsOf (runRow family e) ++ ss) → (z : List ℕ) → runOf (texts ++ z) (recordAt fill (runRow family e)) ≡ e
+pub run-back : (family : FlakyOrRerun) (e : TestRerun) {texts : List ℕ} {fill : ℕ} {ss : List Cell}
+    → Standing texts fill (cellsOf (runRow family e) ++ ss) → (z : List ℕ) → runOf (texts ++ z) (recordAt fill (runRow family e)) ≡ e
 unfolding recordAt
 run-back family e h z =
     let t = element-back (kindOfRun family (e .kind)) false e h in
@@ -248,7 +253,8 @@ pub record CountsBack (r : List ℕ) (c : Counts) : Type 0 where
   pub good : goodCounts r ≡ true
   pub back : counts r ≡ c
 
-pub counts-back : (r : List ℕ) (c : Counts) → numberAt r 18 ≡ c .tests → numberAt r 20 ≡ c .failures → numberAt r 22 ≡ c .errors → numberAt r 24 ≡ c .skipped → NumberBack r 8 26 (c .disabled) → zeroAt r 28 4 ≡ true → CountsBack r c
+pub counts-back : (r : List ℕ) (c : Counts) → numberAt r 18 ≡ c .tests → numberAt r 20 ≡ c .failures → numberAt r 22 ≡ c .errors
+    → numberAt r 24 ≡ c .skipped → NumberBack r 8 26 (c .disabled) → zeroAt r 28 4 ≡ true → CountsBack r c
 unfolding goodCounts
 counts-back r c t f e s d z = record {
   good = both (d .good) z;
@@ -302,7 +308,8 @@ pub record UuidBack (r : List ℕ) (u : Option Words) : Type 0 where
   pub good : slot (hasBit 1 r) true (zeroAt r 4 4) ≡ true
   pub back : uuid r ≡ u
 
-pub uuid-back : (r : List ℕ) (fill : ℕ) (fill′ : ℕ) (u : Option Words) → hasBit 1 r ≡ isGiven (uuidFront u) → take 4 (drop 4 r) ≡ firstWord fill (uuidFront u) ∷ secondWord (uuidFront u) ∷ firstWord fill′ (uuidBack u) ∷ secondWord (uuidBack u) ∷ []
+pub uuid-back : (r : List ℕ) (fill : ℕ) (fill′ : ℕ) (u : Option Words) → hasBit 1 r ≡ isGiven (uuidFront u)
+    → take 4 (drop 4 r) ≡ firstWord fill (uuidFront u) ∷ secondWord (uuidFront u) ∷ firstWord fill′ (uuidBack u) ∷ secondWord (uuidBack u) ∷ []
     → Pairing r 4 (firstWord fill (uuidFront u)) (secondWord (uuidFront u)) → Pairing r 6 (firstWord fill′ (uuidBack u)) (secondWord (uuidBack u)) → UuidBack r u
 uuid-back r fill fill′ none b w v v′ = record { good = rw (b, w) refl; back = rw b refl }
 uuid-back r fill fill′ (some u) b w v v′ = record { good = rw b refl; back = rw (b, v .0, v .1, v′ .0, v′ .1) refl }

@@ -14,7 +14,8 @@ use Rattle.timestamp.specs.Timestamp.{inRange}
 use Rattle.timestamp.specs.declared.Moment.{Moment}
 use Rattle.uuid.specs.declared.Words.{Words}
 use Rattle.tree_record.specs.Kinds as kind
-use Rattle.tree_report.specs.Report.{Text, Duration, Pair, NonSuccessKind, failure, error, FlakyOrRerun, flaky, rerun, TestRerun, Reason, TestCaseStatus, success, nonSuccess, skipped, TestCase, TestSuite, Report}
+use Rattle.tree_report.specs.Report.{Text, Duration, Pair, NonSuccessKind, failure, error, FlakyOrRerun, flaky, rerun, TestRerun}
+use Rattle.tree_report.specs.Report.{Reason, TestCaseStatus, success, nonSuccess, skipped, TestCase, TestSuite, Report}
 
 -- ---- two words of a record
 -- words of zero; a text; two words that may be missing; two words that have no presence bit

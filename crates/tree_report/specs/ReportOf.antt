@@ -8,7 +8,8 @@ use Rattle.tree_record.specs.Words as word
 use Rattle.tree_record.specs.Bits as bit
 use Rattle.tree_record.specs.Kinds as kind
 use Rattle.tree_report.specs.Report.{Pair, failure, error, FlakyOrRerun, flaky, rerun, TestRerun, Reason, TestCaseStatus, success, nonSuccess, skipped, TestCase, TestSuite, Report}
-use Rattle.tree_report.specs.Fields.{kindOf, live, isSuite, isCase, isSuiteProperty, isCaseProperty, isMain, isRun, isSuiteExtra, isCaseExtra, hasBit, textAt, first, systemOut, systemErr, second, description, stackTrace, uuid, timestamp, time, counts, assertions}
+use Rattle.tree_report.specs.Fields.{kindOf, live, isSuite, isCase, isSuiteProperty, isCaseProperty, isMain, isRun, isSuiteExtra, isCaseExtra, hasBit}
+use Rattle.tree_report.specs.Fields.{textAt, first, systemOut, systemErr, second, description, stackTrace, uuid, timestamp, time, counts, assertions}
 use Rattle.tree_report.specs.Layout.{recordsOf, usedText}
 
 -- the records that pass a test, in order

@@ -94,7 +94,21 @@ trimmed-same s c d cs ds e q b b′ =
 
 black-ascii : (b : ℕ) → 0x21 ≤ b → b < 0x80 → blank (b ∷ []) ≡ false
 black-ascii b l h =
-    let w : white b ≡ false = simp (lt-leb b 0x0D (omega arith), le-leb 0x09 b (omega arith), ne-eqb b 0x20 (omega arith), ne-eqb b 0x85 (omega arith), ne-eqb b 0xA0 (omega arith), ne-eqb b 0x1680 (omega arith), lt-leb 0x2000 b (omega arith), ne-eqb b 0x2028 (omega arith), ne-eqb b 0x2029 (omega arith), ne-eqb b 0x202F (omega arith), ne-eqb b 0x205F (omega arith), ne-eqb b 0x3000 (omega arith)) in
+    let w : white b ≡ false =
+    simp (
+      lt-leb b 0x0D (omega arith),
+      le-leb 0x09 b (omega arith),
+      ne-eqb b 0x20 (omega arith),
+      ne-eqb b 0x85 (omega arith),
+      ne-eqb b 0xA0 (omega arith),
+      ne-eqb b 0x1680 (omega arith),
+      lt-leb 0x2000 b (omega arith),
+      ne-eqb b 0x2028 (omega arith),
+      ne-eqb b 0x2029 (omega arith),
+      ne-eqb b 0x202F (omega arith),
+      ne-eqb b 0x205F (omega arith),
+      ne-eqb b 0x3000 (omega arith),
+    ) in
     ap (λ (t : Bool). utf8 (b ∷ []) && t) w ∙ and-false (utf8 (b ∷ []))
 
 -- a text whose first and last byte are ASCII from 21 on
@@ -121,7 +135,8 @@ end-end : (cs : List (List ℕ)) → noEnd (noEnd cs) ≡ noEnd cs
 end-end [] = refl
 end-end (c ∷ cs) = go (blank c && empty (noEnd cs)) refl (end-end cs)
   where
-    go : (t : Bool) → (blank c && empty (noEnd cs)) ≡ t → noEnd (noEnd cs) ≡ noEnd cs → noEnd (cond (blank c && empty (noEnd cs)) [] (c ∷ noEnd cs)) ≡ cond (blank c && empty (noEnd cs)) [] (c ∷ noEnd cs)
+    go : (t : Bool) → (blank c && empty (noEnd cs)) ≡ t → noEnd (noEnd cs) ≡ noEnd cs
+        → noEnd (cond (blank c && empty (noEnd cs)) [] (c ∷ noEnd cs)) ≡ cond (blank c && empty (noEnd cs)) [] (c ∷ noEnd cs)
     go true q ih = rw q
     go false q ih = rw q (ap (λ (x : List (List ℕ)). cond (blank c && empty x) [] (c ∷ x)) ih ∙ ap (λ (t : Bool). cond t [] (c ∷ noEnd cs)) q)
 

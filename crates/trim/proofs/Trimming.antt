@@ -53,7 +53,8 @@ no-more (c ∷ cs) e = absurd (false≢true e)
 
 -- one character more
 end-over : (c : List ℕ) (cs : List (List ℕ)) (to j : ℕ) (t : Bool) → blank c ≡ t → endFrom to j (c ∷ cs) ≡ endFrom (cond t to (j + length c)) (j + length c) cs
-end-over c cs to j t e = ap (λ (b : Bool). cond (empty (cond (b && empty (noEnd cs)) [] (c ∷ noEnd cs))) to (j + length (joined (cond (b && empty (noEnd cs)) [] (c ∷ noEnd cs))))) e ∙ go t (empty (noEnd cs)) refl
+end-over c cs to j t e =
+    ap (λ (b : Bool). cond (empty (cond (b && empty (noEnd cs)) [] (c ∷ noEnd cs))) to (j + length (joined (cond (b && empty (noEnd cs)) [] (c ∷ noEnd cs))))) e ∙ go t (empty (noEnd cs)) refl
   where
     long : j + length (c ++ joined (noEnd cs)) ≡ j + length c + size cs
     long = ap (λ (n : ℕ). j + n) (length-append c (joined (noEnd cs))) ∙ sym (add-assoc j (length c) (size cs))

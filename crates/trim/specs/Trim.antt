@@ -9,7 +9,8 @@ use Rattle.utf8.specs.Utf8.{utf8}
 -- White_Space of Unicode's PropList.txt (rule X10)
 abbrev pub white : ℕ → Bool
 white c =
-    (leb 0x09 c && leb c 0x0D) || eqb c 0x20 || eqb c 0x85 || eqb c 0xA0 || eqb c 0x1680 || (leb 0x2000 c && leb c 0x200A) || eqb c 0x2028 || eqb c 0x2029 || eqb c 0x202F || eqb c 0x205F || eqb c 0x3000
+    (leb 0x09 c && leb c 0x0D) || eqb c 0x20 || eqb c 0x85 || eqb c 0xA0 || eqb c 0x1680
+    || (leb 0x2000 c && leb c 0x200A) || eqb c 0x2028 || eqb c 0x2029 || eqb c 0x202F || eqb c 0x205F || eqb c 0x3000
 
 -- a character that is white; a byte that begins no character never is
 abbrev pub blank : List ℕ → Bool

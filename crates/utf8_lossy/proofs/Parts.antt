@@ -110,7 +110,8 @@ pub part-none : (s : List ℕ) → length s ≡ 0 → (p : Part) → p .width �
 part-none [] h p w e = record { takes = w; kept = e }
 part-none (b ∷ s) h p w e = absurd (omega arith)
 
-module _ (s : List ℕ) (n lo hi k : ℕ) (h : 0 < length s) (en : n ≡ need (getD s 0 0)) (el : lo ≡ low (getD s 0 0)) (eh : hi ≡ high (getD s 0 0)) (ek : k ≡ along (take (length s - 1) (drop 1 s)) n lo hi) where
+module _ (s : List ℕ) (n lo hi k : ℕ) (h : 0 < length s) (en : n ≡ need (getD s 0 0)) (el : lo ≡ low (getD s 0 0))
+    (eh : hi ≡ high (getD s 0 0)) (ek : k ≡ along (take (length s - 1) (drop 1 s)) n lo hi) where
   found : k ≡ along (drop 1 s) n lo hi
   found = ek ∙ ap (λ (l : List ℕ). along l n lo hi) (rest-part s 1)
 

@@ -29,7 +29,8 @@ module _ (s : List ℕ) (i : ℕ) (h : i < length s) (p : Part) (e : Parted (tak
   part-fits = let m = part-length (drop i s) in let n = length-drop i s in omega (arith, takes-here)
 
   -- s is put up to i; a call that is lent the area from k on is to put that part, answers r and leaves ys there
-  module _ (f : List ℕ → List ℕ) (join : (a b : List ℕ) → f (a ++ b) ≡ f a ++ f b) (short : Cause) {out₀ out : List ℕ} {k : ℕ} (l : Laying out₀ out k (f (lossy s)) (f (lossy (drop i s)))) (r : Stored) (ys : List ℕ)
+  module _ (f : List ℕ → List ℕ) (join : (a b : List ℕ) → f (a ++ b) ≡ f a ++ f b) (short : Cause) {out₀ out : List ℕ}
+      {k : ℕ} (l : Laying out₀ out k (f (lossy s)) (f (lossy (drop i s)))) (r : Stored) (ys : List ℕ)
       (a : storedAnswer short r ≡ placing short (length (take (length out - k) (drop k out))) (f (partText (take (length s - i) (drop i s)))))
       (w : ys ≡ laid (take (length out - k) (drop k out)) (f (partText (take (length s - i) (drop i s))))) where
     abbrev t : List ℕ
@@ -48,7 +49,8 @@ module _ (s : List ℕ) (i : ℕ) (h : i < length s) (p : Part) (e : Parted (tak
         ∙ ap (λ (n : ℕ). t ++ f (lossy (drop (i + n) s))) (sym takes-here))
 
     back : after ≡ take k out ++ laid (drop k out) t
-    back = rest-back out k ys ∙ ap (λ (z : List ℕ). take k out ++ z) (w ∙ ap (λ (z : List ℕ). laid z (f (partText (take (length s - i) (drop i s))))) (rest-part out k) ∙ ap (λ (z : List ℕ). laid (drop k out) (f (partText z))) (rest-part s i))
+    back = rest-back out k ys ∙ ap (λ (z : List ℕ). take k out ++ z)
+        (w ∙ ap (λ (z : List ℕ). laid z (f (partText (take (length s - i) (drop i s))))) (rest-part out k) ∙ ap (λ (z : List ℕ). laid (drop k out) (f (partText z))) (rest-part s i))
 
     answer : storedAnswer short r ≡ placing short (length out - k) t
     answer =

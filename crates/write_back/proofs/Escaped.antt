@@ -76,5 +76,6 @@ module _ (s : List ℕ) where
 
     pub stored-escaped : (n : ℕ) → unfiltered s ≡ true → valueOf n (escaped s) ≡ placing cause.TextFull n s
     stored-escaped n e =
-        sym (both-yes (utf8 (escaped s)) (refsOk (escaped s) 0) (placing cause.TextFull n (valueText (escaped s))) (refuses cause.BadReference) (refuses cause.NotUtf8) (utf8-escaped s ∙ u) (refs-escaped s))
+        sym (both-yes (utf8 (escaped s)) (refsOk (escaped s) 0) (placing cause.TextFull n (valueText (escaped s)))
+        (refuses cause.BadReference) (refuses cause.NotUtf8) (utf8-escaped s ∙ u) (refs-escaped s))
         ∙ ap (placing cause.TextFull n) (value-escaped e)

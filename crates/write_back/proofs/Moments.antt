@@ -15,7 +15,8 @@ use Rattle.fixed.specs.Fields.{part, all}
 use Rattle.fraction.specs.Fraction.{billionths}
 use Rattle.timestamp.specs.declared.Moment.{Moment}
 use Rattle.calendar.specs.Calendar.{isLeap, lengths, monthLength}
-use Rattle.timestamp.specs.Timestamp.{dateTests, clockTests, fractionTests, offsetTests, places, isUtc, nanosOf, fractionWidth, offsetOf, awayOf, tail, zone, isTimestamp, momentOf, timestampOf, inRange}
+use Rattle.timestamp.specs.Timestamp.{dateTests, clockTests, fractionTests, offsetTests, places, isUtc, nanosOf, fractionWidth}
+use Rattle.timestamp.specs.Timestamp.{offsetOf, awayOf, tail, zone, isTimestamp, momentOf, timestampOf, inRange}
 use Rattle.timestamp.proofs.Ranges.{InRange, range-facts}
 use Rattle.write_moment.specs.Written.{dateText, clockText, sign, offsetText, timestampText}
 use Rattle.write_moment.proofs.Texts.{utf8-timestamp}
@@ -140,7 +141,8 @@ module _ (o : ℕ) (h : o ≤ 2878) where
   unfolding offsetText
   zone-value = rw numeric (go (ltb o 1439) refl)
     where
-      go : (t : Bool) → ltb o 1439 ≡ t → cond (eqb (cond t 0x2D 0x2B) 0x2B) (1439 + awayOf (signed (cond t 0x2D 0x2B) (cond t (1439 - o) (o - 1439)))) (1439 - awayOf (signed (cond t 0x2D 0x2B) (cond t (1439 - o) (o - 1439)))) ≡ o
+      go : (t : Bool) → ltb o 1439 ≡ t → cond (eqb (cond t 0x2D 0x2B) 0x2B) (1439 + awayOf (signed (cond t 0x2D 0x2B) (cond t (1439 - o) (o - 1439))))
+          (1439 - awayOf (signed (cond t 0x2D 0x2B) (cond t (1439 - o) (o - 1439)))) ≡ o
       go true e = let l = ltb-true o 1439 e in rw (away-value 0x2D (1439 - o) (omega arith) refl) (omega arith)
       go false e = let l = ltb-false o 1439 e in rw (away-value 0x2B (o - 1439) (omega arith) refl) (omega arith)
 
@@ -153,7 +155,8 @@ module _ (o : ℕ) (h : o ≤ 2878) where
       go false = refl
 
 -- ---- the whole
-same-moment : (v w : Moment) → v .year ≡ w .year → v .month ≡ w .month → v .day ≡ w .day → v .hour ≡ w .hour → v .minute ≡ w .minute → v .second ≡ w .second → v .nanos ≡ w .nanos → v .offset ≡ w .offset → v ≡ w
+same-moment : (v w : Moment) → v .year ≡ w .year → v .month ≡ w .month → v .day ≡ w .day → v .hour ≡ w .hour
+    → v .minute ≡ w .minute → v .second ≡ w .second → v .nanos ≡ w .nanos → v .offset ≡ w .offset → v ≡ w
 same-moment v w e f g h i j k l =
     ap (λ (x : ℕ). the x (v .month) (v .day) (v .hour) (v .minute) (v .second) (v .nanos) (v .offset)) e
     ∙ ap (λ (x : ℕ). the (w .year) x (v .day) (v .hour) (v .minute) (v .second) (v .nanos) (v .offset)) f
@@ -167,7 +170,8 @@ same-moment v w e f g h i j k l =
     the : ℕ → ℕ → ℕ → ℕ → ℕ → ℕ → ℕ → ℕ → Moment
     the a b c d e f g h = record { year = a; month = b; day = c; hour = d; minute = e; second = f; nanos = g; offset = h }
 
-all-passes : (s : List ℕ) → leb 20 (length s) ≡ true → all (dateTests s) ≡ true → all (clockTests s) ≡ true → all (fractionTests (tail s)) ≡ true → (isUtc (zone s) || all (offsetTests (zone s))) ≡ true → isTimestamp s ≡ true
+all-passes : (s : List ℕ) → leb 20 (length s) ≡ true → all (dateTests s) ≡ true → all (clockTests s) ≡ true
+    → all (fractionTests (tail s)) ≡ true → (isUtc (zone s) || all (offsetTests (zone s))) ≡ true → isTimestamp s ≡ true
 unfolding isTimestamp
 all-passes s a b c d e = rw (a, b, c, d, e) refl
 

@@ -23,7 +23,8 @@ module _ (rs : List (List ℕ)) where
   childless-may r a b e p q = rw (e, p, q) refl
 
   module _ (text : List ℕ) where
-    pub opening-items : (r : List ℕ) (kind n : ℕ) → n ≡ length (between 14 14 (ownOf 2 rs)) → (entry kind (tagName 3) (length (slots text r caseCodes) + n) ∷ pairsOf (slots text r caseCodes)) ++ rowsItems text false 2 14 14 rs ≡ openingItems text r rs kind
+    pub opening-items : (r : List ℕ) (kind n : ℕ) → n ≡ length (between 14 14 (ownOf 2 rs))
+        → (entry kind (tagName 3) (length (slots text r caseCodes) + n) ∷ pairsOf (slots text r caseCodes)) ++ rowsItems text false 2 14 14 rs ≡ openingItems text r rs kind
     unfolding openingItems
     opening-items r kind n e = ap (λ (m : ℕ). entry kind (tagName 3) (length (slots text r caseCodes) + m) ∷ (pairsOf (slots text r caseCodes) ++ rowsItems text false 2 14 14 rs)) e
 

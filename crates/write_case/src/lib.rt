@@ -44,7 +44,8 @@ fn put_opening(
     words: &[u32],
     opens: u32,
 ) -> Marks
-    ensures { λ m. ⌜ Wrote (kept k (now (events .entry)) (now (attributes .entry)) (now (bytes .entry))) (openingItems (now (text .entry)) (now (r .entry)) (recordsIn (now (words .entry))) opens) (kept m (now (events .exit)) (now (attributes .exit)) (now (bytes .exit))) ⌝ }
+    ensures { λ m. ⌜ Wrote (kept k (now (events .entry)) (now (attributes .entry)) (now (bytes .entry)))
+        (openingItems (now (text .entry)) (now (r .entry)) (recordsIn (now (words .entry))) opens) (kept m (now (events .exit)) (now (attributes .exit)) (now (bytes .exit))) ⌝ }
 {
     let extras = count_kind(words, CASE, kind::CASE_EXTRA);
     let opened = put_element(
@@ -81,7 +82,8 @@ fn put_inside(
     text: &[u8],
     words: &[u32],
 ) -> Marks
-    ensures { λ m. ⌜ Wrote (kept k (now (events .entry)) (now (attributes .entry)) (now (bytes .entry))) (insideItems (now (text .entry)) (recordsIn (now (words .entry)))) (kept m (now (events .exit)) (now (attributes .exit)) (now (bytes .exit))) ⌝ }
+    ensures { λ m. ⌜ Wrote (kept k (now (events .entry)) (now (attributes .entry)) (now (bytes .entry)))
+        (insideItems (now (text .entry)) (recordsIn (now (words .entry)))) (kept m (now (events .exit)) (now (attributes .exit)) (now (bytes .exit))) ⌝ }
 {
     let properties = put_properties(
         events,
@@ -106,7 +108,8 @@ pub fn put_case(
     r: &[u32],
     words: &[u32],
 ) -> Marks
-    ensures { λ m. ⌜ Wrote (kept k (now (events .entry)) (now (attributes .entry)) (now (bytes .entry))) (caseItems (now (text .entry)) (now (r .entry)) (recordsIn (now (words .entry)))) (kept m (now (events .exit)) (now (attributes .exit)) (now (bytes .exit))) ⌝ }
+    ensures { λ m. ⌜ Wrote (kept k (now (events .entry)) (now (attributes .entry)) (now (bytes .entry)))
+        (caseItems (now (text .entry)) (now (r .entry)) (recordsIn (now (words .entry)))) (kept m (now (events .exit)) (now (attributes .exit)) (now (bytes .exit))) ⌝ }
 {
     if is_childless(r, words) {
         return put_opening(events, attributes, bytes, k, text, r, words, EMPTY);

@@ -26,12 +26,14 @@ module _ (shown : List (List ℕ) → List Item) {s₀ : Areas} {words : List �
   pub going-over : shown [] ≡ [] → stands (take (length words - at) (drop at words)) ≡ false → Wrote s₀ (shown (recordsIn words)) s
   going-over none e = coming-done (coming-on (g .coming) (ap shown (records-over words at e) ∙ none))
 
-  pub going-last : {s′ : Areas} (f : List Item) → stands (take (length words - at) (drop at words)) ≡ true → shown (take (at + 32 - at) (drop at words) ∷ recordsIn (drop (at + 32) words)) ≡ f → Wrote s f s′ → Wrote s₀ (shown (recordsIn words)) s′
+  pub going-last : {s′ : Areas} (f : List Item) → stands (take (length words - at) (drop at words)) ≡ true
+      → shown (take (at + 32 - at) (drop at words) ∷ recordsIn (drop (at + 32) words)) ≡ f → Wrote s f s′ → Wrote s₀ (shown (recordsIn words)) s′
   going-last f t e w = coming-done (coming-wrote (coming-on (g .coming) (ap shown (records-here words at t) ∙ e ∙ sym (append-nil f))) w)
 
 -- ---- the report
 module _ (text : List ℕ) where
-  pub head-parts : (r : List ℕ) → (entry event.other (bytes "xml version=\"1.0\" encoding=\"UTF-8\"") 0 ∷ []) ++ (entry event.start (tagName tag.testsuites) (length (slots text r reportCodes) + 0) ∷ pairsOf (slots text r reportCodes)) ≡ headItems text r
+  pub head-parts : (r : List ℕ) → (entry event.other (bytes "xml version=\"1.0\" encoding=\"UTF-8\"") 0 ∷ [])
+      ++ (entry event.start (tagName tag.testsuites) (length (slots text r reportCodes) + 0) ∷ pairsOf (slots text r reportCodes)) ≡ headItems text r
   unfolding headItems itemsOf declaration
   head-parts r =
       let z : length (slots text r reportCodes) + 0 ≡ length (slots text r reportCodes) = omega arith in

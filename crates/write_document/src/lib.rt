@@ -30,7 +30,8 @@ fn put_head(
     text: &[u8],
     r: &[u32],
 ) -> Marks
-    ensures { λ m. ⌜ Wrote (kept k (now (events .entry)) (now (attributes .entry)) (now (bytes .entry))) (headItems (now (text .entry)) (now (r .entry))) (kept m (now (events .exit)) (now (attributes .exit)) (now (bytes .exit))) ⌝ }
+    ensures { λ m. ⌜ Wrote (kept k (now (events .entry)) (now (attributes .entry)) (now (bytes .entry)))
+        (headItems (now (text .entry)) (now (r .entry))) (kept m (now (events .exit)) (now (attributes .exit)) (now (bytes .exit))) ⌝ }
 {
     let declared = put_declaration(events, bytes, k);
     put_element(
@@ -65,7 +66,8 @@ fn put_whole(
     r: &[u32],
     below: &[u32],
 ) -> Marks
-    ensures { λ m. ⌜ Wrote (kept k (now (events .entry)) (now (attributes .entry)) (now (bytes .entry))) (documentItems (now (text .entry)) (now (r .entry)) (recordsIn (now (below .entry)))) (kept m (now (events .exit)) (now (attributes .exit)) (now (bytes .exit))) ⌝ }
+    ensures { λ m. ⌜ Wrote (kept k (now (events .entry)) (now (attributes .entry)) (now (bytes .entry)))
+        (documentItems (now (text .entry)) (now (r .entry)) (recordsIn (now (below .entry)))) (kept m (now (events .exit)) (now (attributes .exit)) (now (bytes .exit))) ⌝ }
 {
     let head = put_head(events, attributes, bytes, k, text, r);
     let suites = put_suites(events, attributes, bytes, head, text, below);
@@ -81,7 +83,8 @@ pub fn put_document(
     text: &[u8],
     words: &[u32],
 ) -> Marks
-    ensures { λ m. ⌜ Wrote (kept k (now (events .entry)) (now (attributes .entry)) (now (bytes .entry))) (documentIn (now (text .entry)) (recordsIn (now (words .entry)))) (kept m (now (events .exit)) (now (attributes .exit)) (now (bytes .exit))) ⌝ }
+    ensures { λ m. ⌜ Wrote (kept k (now (events .entry)) (now (attributes .entry)) (now (bytes .entry)))
+        (documentIn (now (text .entry)) (recordsIn (now (words .entry)))) (kept m (now (events .exit)) (now (attributes .exit)) (now (bytes .exit))) ⌝ }
 {
     let mut at = 0;
     while stands_here(&words[at..]) {

@@ -20,7 +20,8 @@ use Rattle.write_items.specs.inside.Rows.{rowsItems}
 use Rattle.write_items.specs.inside.Case.{firstKind, runsFlaky, mainTag, propertiesItems, mainItems, elementsItems}
 
 -- the record at hand, cut out of the words
-pub record-there : (words f : List ℕ) (at to : ℕ) → to ≡ min 32 (length (take (length words - at) (drop at words))) → take 32 (drop at words) ≡ f → take to (take (length words - at) (drop at words)) ≡ f
+pub record-there : (words f : List ℕ) (at to : ℕ) → to ≡ min 32 (length (take (length words - at) (drop at words)))
+    → take 32 (drop at words) ≡ f → take to (take (length words - at) (drop at words)) ≡ f
 record-there words f at to e p =
     let l = take (length words - at) (drop at words) in
     ap (λ (n : ℕ). take n l) (e ∙ min-comm 32 (length l)) ∙ take-least l 32 ∙ ap (take 32) (rest-part words at) ∙ p
@@ -39,7 +40,8 @@ module _ (rs : List (List ℕ)) where
     unfolding propertiesItems
     properties-none level kind n p q = rw (eq-eqb (firstKind level kind kind rs) 0 (sym p ∙ q)) refl
 
-    pub properties-some : (level kind n : ℕ) → n ≡ firstKind level kind kind rs → (n ≡ 0 → ⊥) → (entry 0 (tagName 4) 0 ∷ []) ++ (rowsItems text false level kind kind rs ++ (entry 2 (tagName 4) 0 ∷ [])) ≡ propertiesItems text level kind rs
+    pub properties-some : (level kind n : ℕ) → n ≡ firstKind level kind kind rs → (n ≡ 0 → ⊥)
+        → (entry 0 (tagName 4) 0 ∷ []) ++ (rowsItems text false level kind kind rs ++ (entry 2 (tagName 4) 0 ∷ [])) ≡ propertiesItems text level kind rs
     unfolding propertiesItems
     properties-some level kind n p q = rw (ne-eqb (firstKind level kind kind rs) 0 (λ z. q (p ∙ z))) refl
 
@@ -47,7 +49,8 @@ module _ (rs : List (List ℕ)) where
     unfolding mainItems
     main-skipped r e = rw (eq-eqb (kindOf r) 8 e) refl
 
-    pub main-runs : (r : List ℕ) (tag : ℕ) (f : Bool) → (kindOf r ≡ 8 → ⊥) → tag ≡ mainTag (kindOf r) → f ≡ runsFlaky r rs → itemsOf (serializeStatus (tagName tag) (reasonOf text r)) ++ rowsItems text f 2 9 12 rs ≡ mainItems text r rs
+    pub main-runs : (r : List ℕ) (tag : ℕ) (f : Bool) → (kindOf r ≡ 8 → ⊥) → tag ≡ mainTag (kindOf r) → f ≡ runsFlaky r rs
+        → itemsOf (serializeStatus (tagName tag) (reasonOf text r)) ++ rowsItems text f 2 9 12 rs ≡ mainItems text r rs
     unfolding mainItems
     main-runs r tag f e p q =
         rw (ne-eqb (kindOf r) 8 e)

@@ -37,7 +37,8 @@ pub fn put_properties(
     level: u32,
     listed: u32,
 ) -> Marks
-    ensures { λ m. ⌜ Wrote (kept k (now (events .entry)) (now (attributes .entry)) (now (bytes .entry))) (propertiesItems (now (text .entry)) level listed (recordsIn (now (words .entry)))) (kept m (now (events .exit)) (now (attributes .exit)) (now (bytes .exit))) ⌝ }
+    ensures { λ m. ⌜ Wrote (kept k (now (events .entry)) (now (attributes .entry)) (now (bytes .entry)))
+        (propertiesItems (now (text .entry)) level listed (recordsIn (now (words .entry)))) (kept m (now (events .exit)) (now (attributes .exit)) (now (bytes .exit))) ⌝ }
 {
     if kind_of_first(words, level, listed, listed) == 0 {
         return k;
@@ -67,7 +68,8 @@ pub fn put_closing(
     r: &[u32],
     code: u8,
 ) -> Marks
-    ensures { λ m. ⌜ ((at : List ℕ) → Wrote (kept k (now (events .entry)) at (now (bytes .entry))) (closingItems (now (text .entry)) (now (r .entry)) code) (kept m (now (events .exit)) at (now (bytes .exit)))) ⌝ }
+    ensures { λ m. ⌜ ((at : List ℕ)
+        → Wrote (kept k (now (events .entry)) at (now (bytes .entry))) (closingItems (now (text .entry)) (now (r .entry)) code) (kept m (now (events .exit)) at (now (bytes .exit)))) ⌝ }
 {
     let outputs = put_outputs(events, bytes, k, text, r);
     put_tag(events, bytes, outputs, END, code, 0)
@@ -104,7 +106,8 @@ fn put_main(
     r: &[u32],
     words: &[u32],
 ) -> Marks
-    ensures { λ m. ⌜ Wrote (kept k (now (events .entry)) (now (attributes .entry)) (now (bytes .entry))) (mainItems (now (text .entry)) (now (r .entry)) (recordsIn (now (words .entry)))) (kept m (now (events .exit)) (now (attributes .exit)) (now (bytes .exit))) ⌝ }
+    ensures { λ m. ⌜ Wrote (kept k (now (events .entry)) (now (attributes .entry)) (now (bytes .entry)))
+        (mainItems (now (text .entry)) (now (r .entry)) (recordsIn (now (words .entry)))) (kept m (now (events .exit)) (now (attributes .exit)) (now (bytes .exit))) ⌝ }
 {
     let here = field(r, word::KIND);
     if here == kind::SKIPPED {
@@ -136,7 +139,8 @@ pub fn put_elements(
     text: &[u8],
     words: &[u32],
 ) -> Marks
-    ensures { λ m. ⌜ Wrote (kept k (now (events .entry)) (now (attributes .entry)) (now (bytes .entry))) (elementsItems (now (text .entry)) (recordsIn (now (words .entry)))) (kept m (now (events .exit)) (now (attributes .exit)) (now (bytes .exit))) ⌝ }
+    ensures { λ m. ⌜ Wrote (kept k (now (events .entry)) (now (attributes .entry)) (now (bytes .entry)))
+        (elementsItems (now (text .entry)) (recordsIn (now (words .entry)))) (kept m (now (events .exit)) (now (attributes .exit)) (now (bytes .exit))) ⌝ }
 {
     let at = seek(words, CASE, kind::FAILURE, kind::SKIPPED);
     let rest = &words[at..];

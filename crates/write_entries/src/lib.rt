@@ -48,7 +48,8 @@ pub fn put_text(
     o: usize,
 ) -> Marks
     requires { ⌜ o ≤ 30 ⌝ }
-    ensures { λ m. ⌜ ((at : List ℕ) → Wrote (kept k (now (events .entry)) at (now (bytes .entry))) (entry event.text (escaped (textAt (now (text .entry)) (now (r .entry)) o)) 0 ∷ []) (kept m (now (events .exit)) at (now (bytes .exit)))) ⌝ }
+    ensures { λ m. ⌜ ((at : List ℕ) → Wrote (kept k (now (events .entry)) at (now (bytes .entry)))
+        (entry event.text (escaped (textAt (now (text .entry)) (now (r .entry)) o)) 0 ∷ []) (kept m (now (events .exit)) at (now (bytes .exit)))) ⌝ }
 {
     let from = k.bytes;
     let to = put_text_at(bytes, from, text, r, o);
@@ -65,7 +66,8 @@ pub fn put_bare(events: &mut [u32], k: Marks, kind: u32) -> Marks
 
 // An Other (rule W1).
 pub fn put_declaration(events: &mut [u32], bytes: &mut [u8], k: Marks) -> Marks
-    ensures { λ m. ⌜ ((at : List ℕ) → Wrote (kept k (now (events .entry)) at (now (bytes .entry))) (entry event.other (names.bytes "xml version=\"1.0\" encoding=\"UTF-8\"") 0 ∷ []) (kept m (now (events .exit)) at (now (bytes .exit)))) ⌝ }
+    ensures { λ m. ⌜ ((at : List ℕ) → Wrote (kept k (now (events .entry)) at (now (bytes .entry)))
+        (entry event.other (names.bytes "xml version=\"1.0\" encoding=\"UTF-8\"") 0 ∷ []) (kept m (now (events .exit)) at (now (bytes .exit)))) ⌝ }
 {
     let from = k.bytes;
     let to = list_text::put(bytes, from, b"xml version=\"1.0\" encoding=\"UTF-8\"");
@@ -81,7 +83,8 @@ pub fn put_attribute(
     r: &[u32],
     code: u8,
 ) -> Marks
-    ensures { λ m. ⌜ ((ev : List ℕ) → Wrote (kept k ev (now (attributes .entry)) (now (bytes .entry))) (pair (keyName code) (valueOf (now (text .entry)) (now (r .entry)) code) ∷ []) (kept m ev (now (attributes .exit)) (now (bytes .exit)))) ⌝ }
+    ensures { λ m. ⌜ ((ev : List ℕ) → Wrote (kept k ev (now (attributes .entry)) (now (bytes .entry)))
+        (pair (keyName code) (valueOf (now (text .entry)) (now (r .entry)) code) ∷ []) (kept m ev (now (attributes .exit)) (now (bytes .exit)))) ⌝ }
 {
     let from = k.bytes;
     let middle = put_key(bytes, from, code);
@@ -97,7 +100,8 @@ pub fn put_extra(
     text: &[u8],
     r: &[u32],
 ) -> Marks
-    ensures { λ m. ⌜ ((ev : List ℕ) → Wrote (kept k ev (now (attributes .entry)) (now (bytes .entry))) (pair (textAt (now (text .entry)) (now (r .entry)) word.key) (escaped (textAt (now (text .entry)) (now (r .entry)) word.value)) ∷ []) (kept m ev (now (attributes .exit)) (now (bytes .exit)))) ⌝ }
+    ensures { λ m. ⌜ ((ev : List ℕ) → Wrote (kept k ev (now (attributes .entry)) (now (bytes .entry))) (pair (textAt (now (text .entry)) (now (r .entry)) word.key)
+        (escaped (textAt (now (text .entry)) (now (r .entry)) word.value)) ∷ []) (kept m ev (now (attributes .exit)) (now (bytes .exit)))) ⌝ }
 {
     let key = part_of(text, field(r, word::KEY), field(r, word::KEY + 1));
     let from = k.bytes;

@@ -74,13 +74,15 @@ module _ (text r : List ℕ) (tail : List Attribute) (cs : List ℕ) {rest : Lis
 
   timestamp-slot : slots text r (key.timestamp ∷ cs) ++ tail ≡ stamped (timestamp r) ++ rest
   unfolding isPresent bitOf keyName keys valueOf offsetOf
-  timestamp-slot = may-miss (λ (m : Moment). attribute (bytes "timestamp") (timestampText m) ∷ []) (momentOf r) (slotOf text r key.timestamp) (slots text r cs) tail rest h (hasBit bit.timestamp r) refl
+  timestamp-slot =
+      may-miss (λ (m : Moment). attribute (bytes "timestamp") (timestampText m) ∷ []) (momentOf r) (slotOf text r key.timestamp) (slots text r cs) tail rest h (hasBit bit.timestamp r) refl
 
   time-slot : slots text r (key.time ∷ cs) ++ tail ≡ timed (time r) ++ rest
   unfolding isPresent bitOf keyName keys valueOf offsetOf
   time-slot = go (hasBit bit.time r)
     where
-      go : (b : Bool) → cond b (slotOf text r key.time ∷ slots text r cs) (slots text r cs) ++ tail ≡ timed (given b (record { seconds = getD r word.seconds 0; nanos = getD r word.timeNanos 0 })) ++ rest
+      go : (b : Bool)
+          → cond b (slotOf text r key.time ∷ slots text r cs) (slots text r cs) ++ tail ≡ timed (given b (record { seconds = getD r word.seconds 0; nanos = getD r word.timeNanos 0 })) ++ rest
       go true = ap (λ (l : List Attribute). slotOf text r key.time ∷ l) h
       go false = h
 

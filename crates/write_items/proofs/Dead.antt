@@ -37,7 +37,8 @@ module _ (p : List ℕ → Bool) (alive : Alive p) where
   until-live [] = refl
   until-live (r ∷ rs) = go (live r) refl (p r) refl (until-live rs)
     where
-      go : (b : Bool) → live r ≡ b → (q : Bool) → p r ≡ q → until p (only live rs) ≡ only live (until p rs) → until p (cond b (r ∷ only live rs) (only live rs)) ≡ only live (cond q [] (r ∷ until p rs))
+      go : (b : Bool) → live r ≡ b → (q : Bool) → p r ≡ q → until p (only live rs) ≡ only live (until p rs)
+          → until p (cond b (r ∷ only live rs) (only live rs)) ≡ only live (cond q [] (r ∷ until p rs))
       go true e true u h = rw u refl
       go true e false u h = rw (u, e) (ap (λ (l : List (List ℕ)). r ∷ l) h)
       go false e true u h = absurd (true≢false (sym u ∙ fails r e))

@@ -88,7 +88,8 @@ module _ (text : List ℕ) where
   document-items [] rep e = cc
   document-items (r ∷ rs) rep e = go (live r) refl e (document-items rs rep)
     where
-      go : (b : Bool) → live r ≡ b → reportFrom text (cond b (r ∷ only live rs) (only live rs)) ≡ some rep → (reportFrom text (only live rs) ≡ some rep → documentIn text rs ≡ itemsOf (serializeReport rep))
+      go : (b : Bool) → live r ≡ b → reportFrom text (cond b (r ∷ only live rs) (only live rs)) ≡ some rep
+          → (reportFrom text (only live rs) ≡ some rep → documentIn text rs ≡ itemsOf (serializeReport rep))
           → cond (live r) (documentItems text r rs) (documentIn text rs) ≡ itemsOf (serializeReport rep)
       go true l f next = rw l (report-items text r rs rep f)
       go false l f next = rw l (next f)
@@ -110,6 +111,7 @@ no-items words text = go (recordsOf words)
     go [] e = refl
     go (r ∷ rs) e = here (live r) e (go rs)
       where
-        here : (b : Bool) → reportFrom (usedText text) (cond b (r ∷ only live rs) (only live rs)) ≡ none → (reportFrom (usedText text) (only live rs) ≡ none → documentIn (usedText text) rs ≡ []) → cond b (documentItems (usedText text) r rs) (documentIn (usedText text) rs) ≡ []
+        here : (b : Bool) → reportFrom (usedText text) (cond b (r ∷ only live rs) (only live rs)) ≡ none
+            → (reportFrom (usedText text) (only live rs) ≡ none → documentIn (usedText text) rs ≡ []) → cond b (documentItems (usedText text) r rs) (documentIn (usedText text) rs) ≡ []
         here true f next = let z : _≡_ {A = ℕ} 0 1 = cc in absurd (omega arith)
         here false f next = next f

@@ -79,7 +79,8 @@ module _ (text : List ℕ) where
     pub properties-items : (level : ℕ) (rs : List (List ℕ)) → propertiesItems text level k rs ≡ itemsOf (serializeProperties (map (pairOf text) (ofKind k (ownOf level rs))))
     unfolding propertiesItems rowsItems
     properties-items level rs =
-        ap (λ (l : List (List ℕ)). cond (eqb (kindOf (firstOf l)) 0) [] (entry event.start (tagName tag.properties) 0 ∷ (each (rowItems text false) l ++ (entry event.end (tagName tag.properties) 0 ∷ [])))) (between-one k (ownOf level rs))
+        ap (λ (l : List (List ℕ)). cond (eqb (kindOf (firstOf l)) 0) []
+        (entry event.start (tagName tag.properties) 0 ∷ (each (rowItems text false) l ++ (entry event.end (tagName tag.properties) 0 ∷ [])))) (between-one k (ownOf level rs))
         ∙ property-list (only-passed (λ (r : List ℕ). eqb (kindOf r) k) (ownOf level rs))
 
     properties-empty : (ps : List Pair) → isEmpty (serializeProperties ps) ≡ isEmpty ps

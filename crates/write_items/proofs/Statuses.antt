@@ -54,7 +54,8 @@ module _ (text : List ℕ) where
     unfolding mainItems serializeElements tagName tags
     main-items = go (eqb (kindOf m) kind.skipped) (eqb (kindOf m) kind.failure)
       where
-        go : (a b : Bool) → cond a (itemsOf (serializeStatus (tagName tag.skipped) (reasonOf text m))) (itemsOf (serializeStatus (tagName (cond b tag.failure tag.error)) (reasonOf text m)) ++ runsItems text (runsFlaky m rs) rs)
+        go : (a b : Bool) → cond a (itemsOf (serializeStatus (tagName tag.skipped) (reasonOf text m)))
+            (itemsOf (serializeStatus (tagName (cond b tag.failure tag.error)) (reasonOf text m)) ++ runsItems text (runsFlaky m rs) rs)
             ≡ itemsOf (serializeElements (cond a (skipped (reasonOf text m)) (nonSuccess (cond b failure error) (reasonOf text m) (kindOfRuns text m runs) (map (runOf text) runs))))
         go true b = refl
         go false true = status-runs (bytes "failure")
@@ -91,7 +92,8 @@ module _ (text : List ℕ) where
       main-some : (name : List ℕ) (es : List Event) → isEmpty (serializeStatus name (reasonOf text m) ++ es) ≡ false
       main-some name es = empty-append (serializeStatus name (reasonOf text m)) es ∙ ap (λ (b : Bool). b && isEmpty es) (status-some name (reasonOf text m))
 
-      go : (a b : Bool) → isEmpty (serializeElements (cond a (skipped (reasonOf text m)) (nonSuccess (cond b failure error) (reasonOf text m) (kindOfRuns text m runs) (map (runOf text) runs)))) ≡ false
+      go : (a b : Bool)
+          → isEmpty (serializeElements (cond a (skipped (reasonOf text m)) (nonSuccess (cond b failure error) (reasonOf text m) (kindOfRuns text m runs) (map (runOf text) runs)))) ≡ false
       go true b = status-some (bytes "skipped") (reasonOf text m)
       go false true = main-some (bytes "failure") (each (serializeRerun (kindOfRuns text m runs)) (map (runOf text) runs))
       go false false = main-some (bytes "error") (each (serializeRerun (kindOfRuns text m runs)) (map (runOf text) runs))

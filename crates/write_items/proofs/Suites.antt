@@ -13,7 +13,8 @@ use Rattle.tree_report.specs.Report.{TestCase, TestSuite}
 use Rattle.tree_report.specs.Fields.{kindOf, isSuite, isCase, systemOut, systemErr}
 use Rattle.tree_report.specs.ReportOf.{only, until, branches, pairOf, caseOf, suiteOf}
 use Rattle.tree_report.proofs.EncodeLists.{each-on}
-use Rattle.write_report.specs.Written.{each, isEmpty, element, extraAttribute, caseAttributes, suiteAttributes, serializeProperties, serializeElements, serializeOutputs, serializeTestCase, serializeTestSuite}
+use Rattle.write_report.specs.Written.{each, isEmpty, element, extraAttribute, caseAttributes, suiteAttributes, serializeProperties}
+use Rattle.write_report.specs.Written.{serializeElements, serializeOutputs, serializeTestCase, serializeTestSuite}
 use Rattle.write_table.specs.Laid.{tagNumber, itemsOf}
 use Rattle.write_table.proofs.Writing.{items-append}
 use Rattle.write_items.specs.inside.Values.{tagName}
@@ -111,6 +112,7 @@ module _ (text : List ℕ) where
   suites-items (r ∷ rs) = go (isSuite r) (suites-items rs)
     where
       go : (b : Bool) → suitesItems text rs ≡ itemsOf (suitesWritten rs)
-          → cond b (suiteItems text r rs ++ suitesItems text rs) (suitesItems text rs) ≡ itemsOf (each serializeTestSuite (map (suiteOf text) (cond b (branch r (until isSuite rs) ∷ branches isSuite rs) (branches isSuite rs))))
+          → cond b (suiteItems text r rs ++ suitesItems text rs) (suitesItems text rs)
+          ≡ itemsOf (each serializeTestSuite (map (suiteOf text) (cond b (branch r (until isSuite rs) ∷ branches isSuite rs) (branches isSuite rs))))
       go true h = ap₂ _++_ (suite-items r rs) h ∙ sym (items-append (serializeTestSuite (suiteOf text (branch r (until isSuite rs)))) (suitesWritten rs))
       go false h = h

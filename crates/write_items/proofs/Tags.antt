@@ -38,7 +38,8 @@ three a b c end = rw (items-append a (b ++ c), items-append b c) (simp append-as
 
 module _ (name : List ℕ) (attributes : List Attribute) where
   element-items : (children : List Event) (b : Bool) → b ≡ isEmpty children
-      → cond b (itemsOf (Tag Empty name 0 attributes ∷ [])) (itemsOf (startTag name attributes ∷ []) ++ (itemsOf children ++ (entry event.end name 0 ∷ []))) ≡ itemsOf (element name attributes children)
+      → cond b (itemsOf (Tag Empty name 0 attributes ∷ [])) (itemsOf (startTag name attributes ∷ []) ++ (itemsOf children ++ (entry event.end name 0 ∷ [])))
+      ≡ itemsOf (element name attributes children)
   element-items [] b e = rw e refl
   element-items (c ∷ cs) b e =
       rw (e, end-items name)
@@ -62,7 +63,8 @@ module _ (text r : List ℕ) where
   unfolding serializeOutputs serializeOutput
   outputs-empty = go (hasBit bit.out r) (hasBit bit.err r)
     where
-      go : (a b : Bool) → isEmpty (optional (serializeOutput (bytes "system-out")) (given a (textAt text r word.out)) ++ optional (serializeOutput (bytes "system-err")) (given b (textAt text r word.err))) ≡ not (a || b)
+      go : (a b : Bool) → isEmpty (optional (serializeOutput (bytes "system-out")) (given a (textAt text r word.out))
+          ++ optional (serializeOutput (bytes "system-err")) (given b (textAt text r word.err))) ≡ not (a || b)
       go true b = refl
       go false true = refl
       go false false = refl

@@ -67,7 +67,8 @@ empty-either p q [] = refl
 empty-either p q (r ∷ rs) = go (p r) (q r) (empty-either p q rs)
   where
     go : (a b : Bool) → isEmpty (only (λ (r : List ℕ). p r || q r) rs) ≡ (isEmpty (only p rs) && isEmpty (only q rs))
-        → isEmpty (cond (a || b) (r ∷ only (λ (r : List ℕ). p r || q r) rs) (only (λ (r : List ℕ). p r || q r) rs)) ≡ (isEmpty (cond a (r ∷ only p rs) (only p rs)) && isEmpty (cond b (r ∷ only q rs) (only q rs)))
+        → isEmpty (cond (a || b) (r ∷ only (λ (r : List ℕ). p r || q r) rs) (only (λ (r : List ℕ). p r || q r) rs))
+        ≡ (isEmpty (cond a (r ∷ only p rs) (only p rs)) && isEmpty (cond b (r ∷ only q rs) (only q rs)))
     go true b h = refl
     go false true h = sym (and-false (isEmpty (only p rs)))
     go false false h = h

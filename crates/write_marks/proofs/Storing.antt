@@ -27,7 +27,8 @@ module _ (k : ℕ) (out f : List ℕ) where
   pub put-says : {e : ℕ} {out′ : List ℕ} → Puts (filled (Put k) out) f (filled (Put e) out′) → (leb (length f) (length out - k) ≡ true) × (e ≡ k + length f) × (out′ ≡ over out k f)
   put-says {e} {out′} p = go (leb (length f) (length out - k)) refl (ap (λ (x : Filled). x .0) (answered p)) (ap (λ (x : Filled). x .1) (answered p))
     where
-      go : (b : Bool) → leb (length f) (length out - k) ≡ b → gives e ≡ cond b (gives (k + length f)) (refuses cause.OutputFull) → out′ ≡ over out k f → (leb (length f) (length out - k) ≡ true) × (e ≡ k + length f) × (out′ ≡ over out k f)
+      go : (b : Bool) → leb (length f) (length out - k) ≡ b → gives e ≡ cond b (gives (k + length f)) (refuses cause.OutputFull)
+          → out′ ≡ over out k f → (leb (length f) (length out - k) ≡ true) × (e ≡ k + length f) × (out′ ≡ over out k f)
       go true u q o = (u, (cc), o)
       go false u q o = let z : _≡_ {A = ℕ} 0 1 = cc in absurd (omega arith)
 
@@ -99,7 +100,8 @@ module _ (m to : Stored) (from e a kind n : ℕ) (ev at by by′ s : List ℕ) (
     -- it isn't within the limits
     pub no-limits : (t : Areas) → entryLimits e end a n ≡ false → t .mark ≡ Full → Wrote (areas m e a ev at by) (entry kind s n ∷ []) t
     unfolding put limits
-    no-limits t l f = begun t (rw f (sym (cond-first (some (withEntry h kind s n)) none limits (tableRoom e ev && byteRoom from (length s) by) (ap (λ (x : ℕ). entryLimits e x a n) (sym (says .1)) ∙ l))))
+    no-limits t l f =
+        begun t (rw f (sym (cond-first (some (withEntry h kind s n)) none limits (tableRoom e ev && byteRoom from (length s) by) (ap (λ (x : ℕ). entryLimits e x a n) (sym (says .1)) ∙ l))))
 
     abbrev words : List ℕ
     words = kind ∷ place (end - from) from ∷ (end - from) ∷ place n a ∷ n ∷ []
@@ -111,7 +113,8 @@ module _ (m to : Stored) (from e a kind n : ℕ) (ev at by by′ s : List ℕ) (
         rw d refl
 
     -- the words as the code makes them: numbers that are no words would be 0
-    pub entry-words : (d start len first count : ℕ) → entryLimits e end a n ≡ true → d ≡ end - from → (from ≤ 4294967295 → start ≡ place d from) → (d ≤ 4294967295 → len ≡ d) → (a ≤ 4294967295 → first ≡ place n a) → (n ≤ 4294967295 → count ≡ n) → kind ∷ start ∷ len ∷ first ∷ count ∷ [] ≡ words
+    pub entry-words : (d start len first count : ℕ) → entryLimits e end a n ≡ true → d ≡ end - from → (from ≤ 4294967295 → start ≡ place d from)
+        → (d ≤ 4294967295 → len ≡ d) → (a ≤ 4294967295 → first ≡ place n a) → (n ≤ 4294967295 → count ≡ n) → kind ∷ start ∷ len ∷ first ∷ count ∷ [] ≡ words
     entry-words d start len first count l u x y z c =
         let i = entry-limits e end a n l in
         let j = says .1 in
@@ -124,14 +127,16 @@ module _ (m to : Stored) (from e a kind n : ℕ) (ev at by by′ s : List ℕ) (
     unfolding put limits
     no-entry t ev′ v f = begun t (rw f (sym (cond-second (some (withEntry h kind s n)) none limits (tableRoom e ev) (byteRoom from (length s) by) (full-says (e * 5) ev words v))))
 
-    pub entry-stored : (ev′ : List ℕ) (u : ℕ) → entryLimits e end a n ≡ true → Puts (filled (Put (e * 5)) ev) words (filled (Put u) ev′) → Wrote (areas m e a ev at by) (entry kind s n ∷ []) (areas (Put end) (e + 1) a ev′ at by′)
+    pub entry-stored : (ev′ : List ℕ) (u : ℕ) → entryLimits e end a n ≡ true → Puts (filled (Put (e * 5)) ev) words (filled (Put u) ev′)
+        → Wrote (areas m e a ev at by) (entry kind s n ∷ []) (areas (Put end) (e + 1) a ev′ at by′)
     unfolding put limits
     entry-stored ev′ u l v =
         let k = put-says (e * 5) ev words v in
         let o : ev′ ≡ over ev (e * 5) (entryWords a from kind s n) = (k .2 ∙ ap (over ev (e * 5)) same-words) in
         let y = says .1 in
         let z = says .2 in
-        let f : put h (entry kind s n) ≡ some (withEntry h kind s n) = cond-all (some (withEntry h kind s n)) none limits (tableRoom e ev) (byteRoom from (length s) by) (ap (λ (x : ℕ). entryLimits e x a n) (sym (says .1)) ∙ l) (k .0) (says .0) in
+        let f : put h (entry kind s n) ≡ some (withEntry h kind s n) =
+        cond-all (some (withEntry h kind s n)) none limits (tableRoom e ev) (byteRoom from (length s) by) (ap (λ (x : ℕ). entryLimits e x a n) (sym (says .1)) ∙ l) (k .0) (says .0) in
         begun (areas (Put end) (e + 1) a ev′ at by′) (rw (y, z, o) (sym f))
 
 -- ---- the limits, as they are tested
@@ -154,7 +159,8 @@ limits-over e b a n h = rw (lt-leb (a + n) 65536 (omega arith)) (go (ltb e 65536
     go false y = refl
 
 -- ---- an attribute: its key was put up to mid, its value from there on
-module _ (m mid to : Stored) (from e a : ℕ) (ev at by by′ by″ key value : List ℕ) (p : m ≡ Put from) (w : Puts (filled m by) key (filled mid by′)) (v : Puts (filled mid by′) value (filled to by″)) where
+module _ (m mid to : Stored) (from e a : ℕ) (ev at by by′ by″ key value : List ℕ) (p : m ≡ Put from)
+    (w : Puts (filled m by) key (filled mid by′)) (v : Puts (filled mid by′) value (filled to by″)) where
   abbrev h₂ : Held
   h₂ = record { events = e; attributes = a; bytes = from; eventArea = ev; attributeArea = at; byteArea = by }
 
@@ -171,7 +177,8 @@ module _ (m mid to : Stored) (from e a : ℕ) (ev at by by′ by″ key value : 
   -- they didn't fit
   pub no-pair : (t : Areas) → to ≡ Full → t .mark ≡ Full → Wrote (areas m e a ev at by) (pair key value ∷ []) t
   unfolding put limits₂
-  no-pair t q f = begun₂ t (rw f (sym (cond-third (some (withPair h₂ key value)) none limits₂ (tableRoom a at) (byteRoom from (length (key ++ value)) by) (full-says from by (key ++ value) (rw q at both)))))
+  no-pair t q f =
+      begun₂ t (rw f (sym (cond-third (some (withPair h₂ key value)) none limits₂ (tableRoom a at) (byteRoom from (length (key ++ value)) by) (full-says from by (key ++ value) (rw q at both)))))
 
   pub no-key : (t : Areas) → mid ≡ Full → t .mark ≡ Full → Wrote (areas m e a ev at by) (pair key value ∷ []) t
   no-key t q f = go to refl
@@ -189,7 +196,8 @@ module _ (m mid to : Stored) (from e a : ℕ) (ev at by by′ by″ key value : 
 
     pub no-pair-limits : (t : Areas) → pairLimits a end ≡ false → t .mark ≡ Full → Wrote (areas m e a ev at by) (pair key value ∷ []) t
     unfolding put limits₂
-    no-pair-limits t l f = begun₂ t (rw f (sym (cond-first (some (withPair h₂ key value)) none limits₂ (tableRoom a at && byteRoom from (length (key ++ value)) by) (ap (λ (x : ℕ). pairLimits a x) (sym (says₂ .1)) ∙ l))))
+    no-pair-limits t l f = begun₂ t
+        (rw f (sym (cond-first (some (withPair h₂ key value)) none limits₂ (tableRoom a at && byteRoom from (length (key ++ value)) by) (ap (λ (x : ℕ). pairLimits a x) (sym (says₂ .1)) ∙ l))))
 
     abbrev words₂ : List ℕ
     words₂ = 0 ∷ place (half - from) from ∷ (half - from) ∷ place (end - half) half ∷ (end - half) ∷ []
@@ -202,7 +210,8 @@ module _ (m mid to : Stored) (from e a : ℕ) (ev at by by′ by″ key value : 
         let g : end - half ≡ length value = omega (arith, length-append key value) in
         rw (d, g, y) refl
 
-    pub pair-words : (d d′ start len start′ len′ : ℕ) → pairLimits a end ≡ true → d ≡ half - from → d′ ≡ end - half → (from ≤ 4294967295 → start ≡ place d from) → (d ≤ 4294967295 → len ≡ d) → (half ≤ 4294967295 → start′ ≡ place d′ half) → (d′ ≤ 4294967295 → len′ ≡ d′) → 0 ∷ start ∷ len ∷ start′ ∷ len′ ∷ [] ≡ words₂
+    pub pair-words : (d d′ start len start′ len′ : ℕ) → pairLimits a end ≡ true → d ≡ half - from → d′ ≡ end - half → (from ≤ 4294967295 → start ≡ place d from)
+        → (d ≤ 4294967295 → len ≡ d) → (half ≤ 4294967295 → start′ ≡ place d′ half) → (d′ ≤ 4294967295 → len′ ≡ d′) → 0 ∷ start ∷ len ∷ start′ ∷ len′ ∷ [] ≡ words₂
     pair-words d d′ start len start′ len′ l u u′ x y x′ y′ =
         let i = pair-limits a end l in
         let j = says₁ .1 in
@@ -213,14 +222,17 @@ module _ (m mid to : Stored) (from e a : ℕ) (ev at by by′ by″ key value : 
 
     pub no-pair-words : (t : Areas) (at′ : List ℕ) → Puts (filled (Put (a * 5)) at) words₂ (filled Full at′) → t .mark ≡ Full → Wrote (areas m e a ev at by) (pair key value ∷ []) t
     unfolding put limits₂
-    no-pair-words t at′ x f = begun₂ t (rw f (sym (cond-second (some (withPair h₂ key value)) none limits₂ (tableRoom a at) (byteRoom from (length (key ++ value)) by) (full-says (a * 5) at words₂ x))))
+    no-pair-words t at′ x f =
+        begun₂ t (rw f (sym (cond-second (some (withPair h₂ key value)) none limits₂ (tableRoom a at) (byteRoom from (length (key ++ value)) by) (full-says (a * 5) at words₂ x))))
 
-    pub pair-stored : (at′ : List ℕ) (u : ℕ) → pairLimits a end ≡ true → Puts (filled (Put (a * 5)) at) words₂ (filled (Put u) at′) → Wrote (areas m e a ev at by) (pair key value ∷ []) (areas (Put end) e (a + 1) ev at′ by″)
+    pub pair-stored : (at′ : List ℕ) (u : ℕ) → pairLimits a end ≡ true → Puts (filled (Put (a * 5)) at) words₂ (filled (Put u) at′)
+        → Wrote (areas m e a ev at by) (pair key value ∷ []) (areas (Put end) e (a + 1) ev at′ by″)
     unfolding put limits₂
     pair-stored at′ u l x =
         let k = put-says (a * 5) at words₂ x in
         let o : at′ ≡ over at (a * 5) (pairWords from key value) = (k .2 ∙ ap (over at (a * 5)) same-words₂) in
         let y = says₂ .1 in
         let z = says₂ .2 in
-        let f : put h₂ (pair key value) ≡ some (withPair h₂ key value) = cond-all (some (withPair h₂ key value)) none limits₂ (tableRoom a at) (byteRoom from (length (key ++ value)) by) (ap (λ (n : ℕ). pairLimits a n) (sym (says₂ .1)) ∙ l) (k .0) (says₂ .0) in
+        let f : put h₂ (pair key value) ≡ some (withPair h₂ key value) =
+        cond-all (some (withPair h₂ key value)) none limits₂ (tableRoom a at) (byteRoom from (length (key ++ value)) by) (ap (λ (n : ℕ). pairLimits a n) (sym (says₂ .1)) ∙ l) (k .0) (says₂ .0) in
         begun₂ (areas (Put end) e (a + 1) ev at′ by″) (rw (y, z, o) (sym f))

@@ -105,7 +105,8 @@ fn has_pair_room(attributes: usize, bytes: usize) -> bool
 
 // An event whose bytes were put up to `to`, with so many attributes behind it (rule W12).
 pub fn store_event(events: &mut [u32], k: Marks, to: Stored, kind: u32, count: usize) -> Marks
-    ensures { λ r. ⌜ ((at by by′ s : List ℕ) → Puts (filled (k .bytes) by) s (filled to by′) → Wrote (kept k (now (events .entry)) at by) (laid.entry kind s count ∷ []) (kept r (now (events .exit)) at by′)) ⌝ }
+    ensures { λ r.
+        ⌜ ((at by by′ s : List ℕ) → Puts (filled (k .bytes) by) s (filled to by′) → Wrote (kept k (now (events .entry)) at by) (laid.entry kind s count ∷ []) (kept r (now (events .exit)) at by′)) ⌝ }
 {
     let mark = k.bytes;
     let Stored::Put(from) = mark else {
@@ -130,7 +131,8 @@ pub fn store_event(events: &mut [u32], k: Marks, to: Stored, kind: u32, count: u
 
 // An attribute whose key was put up to `middle`, and its value from there up to `to` (rule W12).
 pub fn store_attribute(attributes: &mut [u32], k: Marks, middle: Stored, to: Stored) -> Marks
-    ensures { λ r. ⌜ ((ev by by′ by″ key value : List ℕ) → Puts (filled (k .bytes) by) key (filled middle by′) → Puts (filled middle by′) value (filled to by″) → Wrote (kept k ev (now (attributes .entry)) by) (laid.pair key value ∷ []) (kept r ev (now (attributes .exit)) by″)) ⌝ }
+    ensures { λ r. ⌜ ((ev by by′ by″ key value : List ℕ) → Puts (filled (k .bytes) by) key (filled middle by′) → Puts (filled middle by′) value (filled to by″)
+        → Wrote (kept k ev (now (attributes .entry)) by) (laid.pair key value ∷ []) (kept r ev (now (attributes .exit)) by″)) ⌝ }
 {
     let mark = k.bytes;
     let Stored::Put(from) = mark else {

@@ -30,7 +30,8 @@ front : (k n : ℕ) (f : List ℕ) → length f ≤ k → n ≡ length f → tak
 front k n f h e = ap (take n) (laid-zeros k f h) ∙ take-at f (zeros (k - length f)) n (sym e)
 
 -- both tests passed where writing accepts
-accepted-by : (l f : Bool) (s : Sizes) (x : Writing) → x ≡ writingFrom (outcomeOf (cond l (cond f (gives s) (refuses cause.OutputFull)) (refuses cause.NotLayout))) → x .verdict ≡ Accepted → (l ≡ true) × (f ≡ true)
+accepted-by : (l f : Bool) (s : Sizes) (x : Writing) → x ≡ writingFrom (outcomeOf (cond l (cond f (gives s) (refuses cause.OutputFull)) (refuses cause.NotLayout)))
+    → x .verdict ≡ Accepted → (l ≡ true) × (f ≡ true)
 accepted-by true true s x q v = (refl, refl)
 accepted-by true false s x q v = let w : x .verdict ≡ IsRefused = ap (λ (y : Writing). y .verdict) q in let z : _≡_ {A = ℕ} 0 1 = cc in absurd (omega arith)
 accepted-by false f s x q v = let w : x .verdict ≡ IsRefused = ap (λ (y : Writing). y .verdict) q in let z : _≡_ {A = ℕ} 0 1 = cc in absurd (omega arith)

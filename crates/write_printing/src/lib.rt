@@ -20,7 +20,8 @@ ghost use Rattle.write_printing.specs.Printed.{treePrinted, readPrinted,
 
 // A table at the front of `out`, whose other bytes become zero; of a shorter area the part that fits.
 fn print_table(events: &[u32], attributes: &[u32], bytes: &[u8], out: &mut [u8]) -> usize
-    ensures out { λ _. ⌜ now (out .exit) ≡ laid (zeros (length (now (out .entry)))) (tableBytes (record { events = now (events .entry); attributes = now (attributes .entry); bytes = now (bytes .entry) })) ⌝ }
+    ensures out { λ _.
+        ⌜ now (out .exit) ≡ laid (zeros (length (now (out .entry)))) (tableBytes (record { events = now (events .entry); attributes = now (attributes .entry); bytes = now (bytes .entry) })) ⌝ }
     ensures count { λ r. ⌜ r ≡ min (length (now (out .entry))) (length (tableBytes (record { events = now (events .entry); attributes = now (attributes .entry); bytes = now (bytes .entry) }))) ⌝ }
 {
     clear(out);

@@ -14,7 +14,8 @@ use Rattle.write_escape.specs.Escape.{escaped}
 use Rattle.write_moment.specs.Written.{timestampText}
 use Rattle.write_uuid.specs.Written.{uuidText}
 use Rattle.table.specs.Event.{Attribute, Event, Start, Empty, End, Text, Other, Indent, Tag, Piece, Eof, Fault}
-use Rattle.tree_report.specs.Report.{Duration, Pair, NonSuccessKind, failure, error, FlakyOrRerun, flaky, rerun, TestRerun, Reason, TestCaseStatus, success, nonSuccess, skipped, TestCase, TestSuite, Report}
+use Rattle.tree_report.specs.Report.{Duration, Pair, NonSuccessKind, failure, error, FlakyOrRerun, flaky, rerun, TestRerun}
+use Rattle.tree_report.specs.Report.{Reason, TestCaseStatus, success, nonSuccess, skipped, TestCase, TestSuite, Report}
 use Rattle.tree_report.specs.Report as report
 
 -- ---- attributes

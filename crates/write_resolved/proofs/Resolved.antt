@@ -75,6 +75,7 @@ pub resolve-written : (r : Report) → resolve (laidOut (written r) .events) (la
 unfolding written
 resolve-written r = resolve-laid (writable-report r)
 
-pub table-written : (r : Report) (e a b : ℕ) → fits (laidOut (written r)) e a b ≡ true → tableOf (laidOut (written r) .events) (laidOut (written r) .attributes) (laidOut (written r) .bytes) ≡ accepted tt
+pub table-written : (r : Report) (e a b : ℕ) → fits (laidOut (written r)) e a b ≡ true
+    → tableOf (laidOut (written r) .events) (laidOut (written r) .attributes) (laidOut (written r) .bytes) ≡ accepted tt
 unfolding written
 table-written r e a b f = ap checkedAnswer (check-laid (writable-report r) e a b f)

@@ -10,7 +10,9 @@ use Rattle.tree_report.specs.Report.{Duration, Pair, FlakyOrRerun, flaky, TestR
 use Rattle.tree_report.specs.Report as report
 use Rattle.tree_report.proofs.EncodeLists.{Each, done, more, each-append, each-map}
 use Rattle.write_uuid.specs.Written.{uuidText}
-use Rattle.write_report.specs.Written.{attribute, textual, numeric, optional, stamped, timed, extraAttribute, each, serializeOutput, serializeProperty, serializeProperties, serializeOutputs, statusAttributes, described, serializeStatus, mainName, indented, serializeRerun, serializeElements, element, caseAttributes, serializeTestCase, suiteAttributes, serializeTestSuite, reportAttributes, declaration, serializeReport}
+use Rattle.write_report.specs.Written.{attribute, textual, numeric, optional, stamped, timed, extraAttribute, each, serializeOutput, serializeProperty, serializeProperties}
+use Rattle.write_report.specs.Written.{serializeOutputs, statusAttributes, described, serializeStatus, mainName, indented, serializeRerun, serializeElements, element}
+use Rattle.write_report.specs.Written.{caseAttributes, serializeTestCase, suiteAttributes, serializeTestSuite, reportAttributes, declaration, serializeReport}
 
 -- an attribute whose mark is good
 pub data Marked : Attribute → Type 0 where

@@ -56,7 +56,8 @@ module _ (shown : List (List ℕ) → List Item) where
       going-pass e =
           record { fits = stands-room words at t; sameEvents = g .sameEvents; sameAttributes = g .sameAttributes; sameBytes = g .sameBytes; coming = coming-on (g .coming) (next ∙ e) }
 
-      pub going-wrote : {s′ : Areas} (f : List Item) → shown (here ∷ rest) ≡ f ++ shown rest → Wrote s f s′ → length (s′ .eventArea) ≡ length (s .eventArea) → length (s′ .attributeArea) ≡ length (s .attributeArea) → length (s′ .byteArea) ≡ length (s .byteArea) → Going s₀ words s′ (at + 32)
+      pub going-wrote : {s′ : Areas} (f : List Item) → shown (here ∷ rest) ≡ f ++ shown rest → Wrote s f s′ → length (s′ .eventArea) ≡ length (s .eventArea)
+          → length (s′ .attributeArea) ≡ length (s .attributeArea) → length (s′ .byteArea) ≡ length (s .byteArea) → Going s₀ words s′ (at + 32)
       going-wrote f e w x y z =
           record {
             fits = stands-room words at t;

@@ -37,7 +37,8 @@ module _ (text : List ℕ) (flaky : Bool) where
       unfolding rowsItems
       rows-end e = rw e refl
 
-      pub rows-row : endsAt level (kindOf r) ≡ false → isBetween low high (kindOf r) ≡ true → rowsItems text flaky level low high (r ∷ rs) ≡ rowItems text flaky r ++ rowsItems text flaky level low high rs
+      pub rows-row : endsAt level (kindOf r) ≡ false → isBetween low high (kindOf r) ≡ true
+          → rowsItems text flaky level low high (r ∷ rs) ≡ rowItems text flaky r ++ rowsItems text flaky level low high rs
       unfolding rowsItems
       rows-row e h = rw (e, h) refl
 

@@ -25,7 +25,8 @@ fn put_row(
     r: &[u32],
     flaky: bool,
 ) -> Marks
-    ensures { λ m. ⌜ Wrote (kept k (now (events .entry)) (now (attributes .entry)) (now (bytes .entry))) (rowItems (now (text .entry)) flaky (now (r .entry))) (kept m (now (events .exit)) (now (attributes .exit)) (now (bytes .exit))) ⌝ }
+    ensures { λ m. ⌜ Wrote (kept k (now (events .entry)) (now (attributes .entry)) (now (bytes .entry)))
+        (rowItems (now (text .entry)) flaky (now (r .entry))) (kept m (now (events .exit)) (now (attributes .exit)) (now (bytes .exit))) ⌝ }
 {
     let here = field(r, word::KIND);
     if (here == kind::SUITE_PROPERTY) | (here == kind::CASE_PROPERTY) {
@@ -49,7 +50,8 @@ pub fn put_rows(
     high: u32,
     flaky: bool,
 ) -> Marks
-    ensures { λ m. ⌜ Wrote (kept k (now (events .entry)) (now (attributes .entry)) (now (bytes .entry))) (rowsItems (now (text .entry)) flaky level low high (recordsIn (now (words .entry)))) (kept m (now (events .exit)) (now (attributes .exit)) (now (bytes .exit))) ⌝ }
+    ensures { λ m. ⌜ Wrote (kept k (now (events .entry)) (now (attributes .entry)) (now (bytes .entry)))
+        (rowsItems (now (text .entry)) flaky level low high (recordsIn (now (words .entry)))) (kept m (now (events .exit)) (now (attributes .exit)) (now (bytes .exit))) ⌝ }
 {
     let mut at = 0;
     let mut mark = k;

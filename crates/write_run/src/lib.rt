@@ -27,7 +27,8 @@ ghost use Rattle.write_items.specs.inside.Status.{family, runTag, describedRun,
 
 // The description, with an Indent behind it where a child follows (rule W7).
 fn put_description(events: &mut [u32], bytes: &mut [u8], k: Marks, text: &[u8], r: &[u32]) -> Marks
-    ensures { λ m. ⌜ ((at : List ℕ) → Wrote (kept k (now (events .entry)) at (now (bytes .entry))) (itemsOf (describedRun (now (text .entry)) (now (r .entry)))) (kept m (now (events .exit)) at (now (bytes .exit)))) ⌝ }
+    ensures { λ m. ⌜ ((at : List ℕ)
+        → Wrote (kept k (now (events .entry)) at (now (bytes .entry))) (itemsOf (describedRun (now (text .entry)) (now (r .entry)))) (kept m (now (events .exit)) at (now (bytes .exit)))) ⌝ }
 {
     if !has_bit(r, bit::DESCRIPTION) {
         return k;
@@ -40,7 +41,8 @@ fn put_description(events: &mut [u32], bytes: &mut [u8], k: Marks, text: &[u8], 
 }
 
 fn put_run_text(events: &mut [u32], bytes: &mut [u8], k: Marks, text: &[u8], r: &[u32]) -> Marks
-    ensures { λ m. ⌜ ((at : List ℕ) → Wrote (kept k (now (events .entry)) at (now (bytes .entry))) (itemsOf (tracedRun (now (text .entry)) (now (r .entry)))) (kept m (now (events .exit)) at (now (bytes .exit)))) ⌝ }
+    ensures { λ m. ⌜ ((at : List ℕ)
+        → Wrote (kept k (now (events .entry)) at (now (bytes .entry))) (itemsOf (tracedRun (now (text .entry)) (now (r .entry)))) (kept m (now (events .exit)) at (now (bytes .exit)))) ⌝ }
 {
     let described = put_description(events, bytes, k, text, r);
     put_optional(
@@ -63,7 +65,8 @@ fn put_run_children(
     r: &[u32],
     code: u8,
 ) -> Marks
-    ensures { λ m. ⌜ ((at : List ℕ) → Wrote (kept k (now (events .entry)) at (now (bytes .entry))) (itemsOf (closedRun (now (text .entry)) (now (r .entry)) (tagName code))) (kept m (now (events .exit)) at (now (bytes .exit)))) ⌝ }
+    ensures { λ m. ⌜ ((at : List ℕ) → Wrote (kept k (now (events .entry)) at (now (bytes .entry)))
+        (itemsOf (closedRun (now (text .entry)) (now (r .entry)) (tagName code))) (kept m (now (events .exit)) at (now (bytes .exit)))) ⌝ }
 {
     let traced = put_run_text(events, bytes, k, text, r);
     let outputs = put_outputs(events, bytes, traced, text, r);
@@ -98,7 +101,8 @@ pub fn put_run(
     r: &[u32],
     flaky: bool,
 ) -> Marks
-    ensures { λ m. ⌜ Wrote (kept k (now (events .entry)) (now (attributes .entry)) (now (bytes .entry))) (itemsOf (serializeRerun (family flaky) (runOf (now (text .entry)) (now (r .entry))))) (kept m (now (events .exit)) (now (attributes .exit)) (now (bytes .exit))) ⌝ }
+    ensures { λ m. ⌜ Wrote (kept k (now (events .entry)) (now (attributes .entry)) (now (bytes .entry)))
+        (itemsOf (serializeRerun (family flaky) (runOf (now (text .entry)) (now (r .entry))))) (kept m (now (events .exit)) (now (attributes .exit)) (now (bytes .exit))) ⌝ }
 {
     let code = run_tag(field(r, word::KIND), flaky);
     let opened = put_element(

@@ -54,15 +54,18 @@ module _ (text r codes : List ℕ) where
       abbrev code : ℕ
       code = getD codes i 0
 
-      turned : (b : Bool) → isPresent r code ≡ b → pairsOf (slots text r (drop i codes)) ≡ pairsOf (cond b (slotOf text r code ∷ slots text r (drop (i + 1) codes)) (slots text r (drop (i + 1) codes)))
+      turned : (b : Bool) → isPresent r code ≡ b
+          → pairsOf (slots text r (drop i codes)) ≡ pairsOf (cond b (slotOf text r code ∷ slots text r (drop (i + 1) codes)) (slots text r (drop (i + 1) codes)))
       turned b e = ap (λ (l : List ℕ). pairsOf (slots text r l)) (drop-next codes i h) ∙ rw e refl
 
-      pub slots-put : {t : Areas} → isPresent r code ≡ true → Wrote s (pair (keyName code) (valueOf text r code) ∷ []) t → Coming s₀ (pairsOf (slots text r codes)) t (pairsOf (slots text r (drop (i + 1) codes)))
+      pub slots-put : {t : Areas} → isPresent r code ≡ true → Wrote s (pair (keyName code) (valueOf text r code) ∷ []) t
+          → Coming s₀ (pairsOf (slots text r codes)) t (pairsOf (slots text r (drop (i + 1) codes)))
       slots-put e w = coming-wrote (coming-on c (turned true e)) w
 
       pub slots-pass : isPresent r code ≡ false → Coming s₀ (pairsOf (slots text r codes)) s (pairsOf (slots text r (drop (i + 1) codes)))
       slots-pass e = coming-on c (turned false e)
 
 -- a tag with its attributes, counted before
-pub element-items : (kind : ℕ) (t text r codes : List ℕ) (n more : ℕ) → n ≡ countOf r codes → (entry kind t (n + more) ∷ []) ++ pairsOf (slots text r codes) ≡ entry kind t (length (slots text r codes) + more) ∷ pairsOf (slots text r codes)
+pub element-items : (kind : ℕ) (t text r codes : List ℕ) (n more : ℕ) → n ≡ countOf r codes
+    → (entry kind t (n + more) ∷ []) ++ pairsOf (slots text r codes) ≡ entry kind t (length (slots text r codes) + more) ∷ pairsOf (slots text r codes)
 element-items kind t text r codes n more e = ap (λ (m : ℕ). entry kind t (m + more) ∷ pairsOf (slots text r codes)) (e ∙ sym (slots-count text r codes))

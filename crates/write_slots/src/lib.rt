@@ -85,7 +85,8 @@ fn put_slots(
     r: &[u32],
     codes: &[u8],
 ) -> Marks
-    ensures { λ m. ⌜ ((ev : List ℕ) → Wrote (kept k ev (now (attributes .entry)) (now (bytes .entry))) (pairsOf (slots (now (text .entry)) (now (r .entry)) (now (codes .entry)))) (kept m ev (now (attributes .exit)) (now (bytes .exit)))) ⌝ }
+    ensures { λ m. ⌜ ((ev : List ℕ) → Wrote (kept k ev (now (attributes .entry)) (now (bytes .entry)))
+        (pairsOf (slots (now (text .entry)) (now (r .entry)) (now (codes .entry)))) (kept m ev (now (attributes .exit)) (now (bytes .exit)))) ⌝ }
 {
     let mut mark = k;
     let mut i = 0;
@@ -113,7 +114,8 @@ pub fn put_element(
     more: usize,
 ) -> Marks
     requires { ⌜ (length (now codes) ≤ 255) × (more ≤ 1152921504606846976) ⌝ }
-    ensures { λ m. ⌜ Wrote (kept k (now (events .entry)) (now (attributes .entry)) (now (bytes .entry))) (entry kind (tagName tag) (length (slots (now (text .entry)) (now (r .entry)) (now (codes .entry))) + more) ∷ pairsOf (slots (now (text .entry)) (now (r .entry)) (now (codes .entry)))) (kept m (now (events .exit)) (now (attributes .exit)) (now (bytes .exit))) ⌝ }
+    ensures { λ m. ⌜ Wrote (kept k (now (events .entry)) (now (attributes .entry)) (now (bytes .entry))) (entry kind (tagName tag) (length (slots (now (text .entry)) (now (r .entry))
+        (now (codes .entry))) + more) ∷ pairsOf (slots (now (text .entry)) (now (r .entry)) (now (codes .entry)))) (kept m (now (events .exit)) (now (attributes .exit)) (now (bytes .exit))) ⌝ }
 {
     let count = count_slots(r, codes) + more;
     let opened = put_tag(events, bytes, k, kind, tag, count);

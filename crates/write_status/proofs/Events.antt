@@ -15,7 +15,8 @@ use Rattle.tree_report.specs.Report as report
 use Rattle.tree_report.specs.Fields.{given, hasBit, kindOf, textAt, first, systemOut, systemErr, second, description, stackTrace, timestamp, time, momentOf}
 use Rattle.tree_report.specs.ReportOf.{pairOf, reasonOf, runOf}
 use Rattle.write_escape.specs.Escape.{escaped}
-use Rattle.write_report.specs.Written.{optional, textual, stamped, timed, statusAttributes, startTag, endTag, textEvent, indent, indented, runChildren, runName, serializeOutput, serializeOutputs, serializeProperty, serializeStatus, serializeRerun}
+use Rattle.write_report.specs.Written.{optional, textual, stamped, timed, statusAttributes, startTag, endTag, textEvent, indent, indented}
+use Rattle.write_report.specs.Written.{runChildren, runName, serializeOutput, serializeOutputs, serializeProperty, serializeStatus, serializeRerun}
 use Rattle.write_table.specs.Laid.{Item, entry, pairsOf, tagNumber, itemsOfEvent, itemsOf}
 use Rattle.write_table.proofs.Writing.{items-append}
 use Rattle.write_items.specs.inside.Values.{tagName, keyName, valueOf, offsetOf}
@@ -23,7 +24,8 @@ use Rattle.write_items.specs.inside.Slots.{bitOf, isPresent, slotOf, slots}
 use Rattle.write_items.specs.inside.Status.{family, runTag, hasChild, describedRun, tracedRun, closedRun}
 
 -- ---- attributes that may be missing
-given-slot : {A : Type 0} (b : Bool) (x : A) (f : A → List Attribute) (a : Attribute) (rest rest′ : List Attribute) → f x ≡ a ∷ [] → rest ≡ rest′ → cond b (a ∷ rest) rest ≡ optional f (given b x) ++ rest′
+given-slot : {A : Type 0} (b : Bool) (x : A) (f : A → List Attribute) (a : Attribute) (rest rest′ : List Attribute)
+    → f x ≡ a ∷ [] → rest ≡ rest′ → cond b (a ∷ rest) rest ≡ optional f (given b x) ++ rest′
 given-slot true x f a rest rest′ p q = rw (p, q) refl
 given-slot false x f a rest rest′ p q = q
 
@@ -38,9 +40,11 @@ module _ (text r : List ℕ) where
 
   time-slots : slots text r (5 ∷ 12 ∷ 13 ∷ []) ≡ timed (time r) ++ statusAttributes (first text r) (second text r)
   unfolding isPresent bitOf keyName keys valueOf offsetOf
-  time-slots = given-slot (hasBit 4 r) (record { seconds = getD r 16 0; nanos = getD r 17 0 }) (λ (x : report.Duration). slotOf text r 5 ∷ []) (slotOf text r 5) (slots text r (12 ∷ 13 ∷ [])) (statusAttributes (first text r) (second text r)) refl status-slots ∙ go (hasBit 4 r)
+  time-slots = given-slot (hasBit 4 r) (record { seconds = getD r 16 0; nanos = getD r 17 0 }) (λ (x : report.Duration). slotOf text r 5 ∷ [])
+      (slotOf text r 5) (slots text r (12 ∷ 13 ∷ [])) (statusAttributes (first text r) (second text r)) refl status-slots ∙ go (hasBit 4 r)
     where
-      go : (b : Bool) → optional (λ (x : report.Duration). slotOf text r 5 ∷ []) (given b (record { seconds = getD r 16 0; nanos = getD r 17 0 })) ++ statusAttributes (first text r) (second text r) ≡ timed (given b (record { seconds = getD r 16 0; nanos = getD r 17 0 })) ++ statusAttributes (first text r) (second text r)
+      go : (b : Bool) → optional (λ (x : report.Duration). slotOf text r 5 ∷ []) (given b (record { seconds = getD r 16 0; nanos = getD r 17 0 })) ++ statusAttributes (first text r) (second text r)
+          ≡ timed (given b (record { seconds = getD r 16 0; nanos = getD r 17 0 })) ++ statusAttributes (first text r) (second text r)
       go true = refl
       go false = refl
 
@@ -64,7 +68,8 @@ tag-items kind name have want e =
     rw z (ap (λ (l : List Attribute). entry (tagNumber kind) name (length l) ∷ pairsOf l) e ∙ sym (append-nil (itemsOfEvent (Tag kind name 0 want))))
 
 -- a tag, and what follows it
-pub tag-then : (kind : TagKind) (name : List ℕ) (have want : List Attribute) (es : List Event) (is : List Item) → have ≡ want → is ≡ itemsOf es → (entry (tagNumber kind) name (length have + 0) ∷ pairsOf have) ++ is ≡ itemsOf (Tag kind name 0 want ∷ es)
+pub tag-then : (kind : TagKind) (name : List ℕ) (have want : List Attribute) (es : List Event) (is : List Item) → have ≡ want
+    → is ≡ itemsOf es → (entry (tagNumber kind) name (length have + 0) ∷ pairsOf have) ++ is ≡ itemsOf (Tag kind name 0 want ∷ es)
 tag-then kind name have want es is p q =
     ap (λ (l : List Item). l ++ is) (tag-items kind name have want p)
     ∙ ap (λ (l : List Item). itemsOf (Tag kind name 0 want ∷ []) ++ l) q
@@ -83,7 +88,8 @@ module _ {A : Type 0} (f : A → List Event) (x : A) where
   optional-no b e = rw e refl
 
 module _ (text r : List ℕ) where
-  pub outputs-items : itemsOf (optional (serializeOutput (tagName 14)) (systemOut text r)) ++ itemsOf (optional (serializeOutput (tagName 15)) (systemErr text r)) ≡ itemsOf (serializeOutputs (systemOut text r) (systemErr text r))
+  pub outputs-items : itemsOf (optional (serializeOutput (tagName 14)) (systemOut text r)) ++ itemsOf (optional (serializeOutput (tagName 15)) (systemErr text r))
+      ≡ itemsOf (serializeOutputs (systemOut text r) (systemErr text r))
   unfolding serializeOutputs tagName tags
   outputs-items = sym (items-append (optional (serializeOutput (bytes "system-out")) (systemOut text r)) (optional (serializeOutput (bytes "system-err")) (systemErr text r)))
 
@@ -95,11 +101,14 @@ module _ (text r : List ℕ) where
   unfolding itemsOf
   text-end name t = refl
 
-  pub status-described : (name : List ℕ) → hasBit 6 r ≡ true → (entry 0 name (length (slots text r (12 ∷ 13 ∷ [])) + 0) ∷ pairsOf (slots text r (12 ∷ 13 ∷ []))) ++ ((entry 3 (escaped (textAt text r 20)) 0 ∷ []) ++ (entry 2 name 0 ∷ [])) ≡ itemsOf (serializeStatus name (reasonOf text r))
+  pub status-described : (name : List ℕ) → hasBit 6 r ≡ true → (entry 0 name (length (slots text r (12 ∷ 13 ∷ [])) + 0) ∷ pairsOf (slots text r (12 ∷ 13 ∷ [])))
+      ++ ((entry 3 (escaped (textAt text r 20)) 0 ∷ []) ++ (entry 2 name 0 ∷ [])) ≡ itemsOf (serializeStatus name (reasonOf text r))
   unfolding serializeStatus
-  status-described name e = rw e (tag-then Start name (slots text r (12 ∷ 13 ∷ [])) (statusAttributes (first text r) (second text r)) (textEvent (textAt text r 20) ∷ endTag name ∷ []) ((entry 3 (escaped (textAt text r 20)) 0 ∷ []) ++ (entry 2 name 0 ∷ [])) (status-slots text r) (text-end name (textAt text r 20)))
+  status-described name e = rw e (tag-then Start name (slots text r (12 ∷ 13 ∷ [])) (statusAttributes (first text r) (second text r)) (textEvent (textAt text r 20) ∷ endTag name ∷ [])
+      ((entry 3 (escaped (textAt text r 20)) 0 ∷ []) ++ (entry 2 name 0 ∷ [])) (status-slots text r) (text-end name (textAt text r 20)))
 
-  pub status-empty : (name : List ℕ) → hasBit 6 r ≡ false → entry 1 name (length (slots text r (12 ∷ 13 ∷ [])) + 0) ∷ pairsOf (slots text r (12 ∷ 13 ∷ [])) ≡ itemsOf (serializeStatus name (reasonOf text r))
+  pub status-empty : (name : List ℕ) → hasBit 6 r ≡ false
+      → entry 1 name (length (slots text r (12 ∷ 13 ∷ [])) + 0) ∷ pairsOf (slots text r (12 ∷ 13 ∷ [])) ≡ itemsOf (serializeStatus name (reasonOf text r))
   unfolding serializeStatus
   status-empty name e = rw e (tag-items Empty name (slots text r (12 ∷ 13 ∷ [])) (statusAttributes (first text r) (second text r)) (status-slots text r))
 
@@ -133,7 +142,8 @@ module _ (text r : List ℕ) where
 
   -- an Indent stands before the first child behind a description
   abbrev kids : Bool → Bool → Bool → List Event
-  kids a b c = optional (serializeOutput (bytes "stackTrace")) (given a (textAt text r 22)) ++ (optional (serializeOutput (bytes "system-out")) (given b (textAt text r 4)) ++ optional (serializeOutput (bytes "system-err")) (given c (textAt text r 6)))
+  kids a b c = optional (serializeOutput (bytes "stackTrace")) (given a (textAt text r 22))
+      ++ (optional (serializeOutput (bytes "system-out")) (given b (textAt text r 4)) ++ optional (serializeOutput (bytes "system-err")) (given c (textAt text r 6)))
 
   indented-kids : (d a b c : Bool) → indented (given d (textAt text r 20)) (kids a b c) ≡ cond d (textEvent (textAt text r 20) ∷ cond (a || (b || c)) (indent ∷ []) []) [] ++ kids a b c
   unfolding serializeOutput
@@ -147,7 +157,8 @@ module _ (text r : List ℕ) where
   unfolding closedRun tracedRun describedRun serializeOutputs
   run-closed name =
       append-assoc (describedRun text r) (optional (serializeOutput (bytes "stackTrace")) (stackTrace text r)) (serializeOutputs (systemOut text r) (systemErr text r) ++ (endTag name ∷ []))
-      ∙ ap (λ (l : List Event). describedRun text r ++ l) (sym (append-assoc (optional (serializeOutput (bytes "stackTrace")) (stackTrace text r)) (serializeOutputs (systemOut text r) (systemErr text r)) (endTag name ∷ [])))
+      ∙ ap (λ (l : List Event). describedRun text r ++ l)
+      (sym (append-assoc (optional (serializeOutput (bytes "stackTrace")) (stackTrace text r)) (serializeOutputs (systemOut text r) (systemErr text r)) (endTag name ∷ [])))
       ∙ sym (append-assoc (describedRun text r) (kids (hasBit 7 r) (hasBit 1 r) (hasBit 2 r)) (endTag name ∷ []))
       ∙ ap (λ (l : List Event). l ++ (endTag name ∷ [])) (sym (indented-kids (hasBit 6 r) (hasBit 7 r) (hasBit 1 r) (hasBit 2 r)))
 
@@ -160,9 +171,12 @@ module _ (text r : List ℕ) where
   run-named false false true = refl
   run-named false false false = refl
 
-  pub run-items : (f : Bool) (tag : ℕ) → tag ≡ runTag (kindOf r) f → (entry 0 (tagName tag) (length (slots text r (4 ∷ 5 ∷ 12 ∷ 13 ∷ [])) + 0) ∷ pairsOf (slots text r (4 ∷ 5 ∷ 12 ∷ 13 ∷ []))) ++ itemsOf (closedRun text r (tagName tag)) ≡ itemsOf (serializeRerun (family f) (runOf text r))
+  pub run-items : (f : Bool) (tag : ℕ) → tag ≡ runTag (kindOf r) f → (entry 0 (tagName tag) (length (slots text r (4 ∷ 5 ∷ 12 ∷ 13 ∷ [])) + 0) ∷ pairsOf (slots text r (4 ∷ 5 ∷ 12 ∷ 13 ∷ [])))
+      ++ itemsOf (closedRun text r (tagName tag)) ≡ itemsOf (serializeRerun (family f) (runOf text r))
   unfolding serializeRerun runTag
   run-items f tag e =
       let n : tagName tag ≡ runName (family f) (runOf text r .kind) = (ap tagName e ∙ run-named f (eqb (kindOf r) 9) (eqb (kindOf r) 11)) in
-      tag-then Start (tagName tag) (slots text r (4 ∷ 5 ∷ 12 ∷ 13 ∷ [])) (stamped (timestamp r) ++ (timed (time r) ++ statusAttributes (first text r) (second text r))) (indented (description text r) (runChildren (runOf text r)) ++ (endTag (tagName tag) ∷ [])) (itemsOf (closedRun text r (tagName tag))) (run-slots text r) (ap itemsOf (run-closed (tagName tag)))
-      ∙ ap (λ (l : List ℕ). itemsOf (startTag l (stamped (timestamp r) ++ (timed (time r) ++ statusAttributes (first text r) (second text r))) ∷ (indented (description text r) (runChildren (runOf text r)) ++ (endTag l ∷ [])))) n
+      tag-then Start (tagName tag) (slots text r (4 ∷ 5 ∷ 12 ∷ 13 ∷ [])) (stamped (timestamp r) ++ (timed (time r) ++ statusAttributes (first text r) (second text r))) (indented (description text r)
+      (runChildren (runOf text r)) ++ (endTag (tagName tag) ∷ [])) (itemsOf (closedRun text r (tagName tag))) (run-slots text r) (ap itemsOf (run-closed (tagName tag)))
+      ∙ ap (λ (l : List ℕ). itemsOf (startTag l (stamped (timestamp r) ++ (timed (time r) ++ statusAttributes (first text r) (second text r)))
+      ∷ (indented (description text r) (runChildren (runOf text r)) ++ (endTag l ∷ [])))) n

@@ -29,7 +29,8 @@ fn put_output(
     o: usize,
 ) -> Marks
     requires { ⌜ o ≤ 30 ⌝ }
-    ensures { λ m. ⌜ ((at : List ℕ) → Wrote (kept k (now (events .entry)) at (now (bytes .entry))) (itemsOf (serializeOutput (tagName code) (tree.textAt (now (text .entry)) (now (r .entry)) o))) (kept m (now (events .exit)) at (now (bytes .exit)))) ⌝ }
+    ensures { λ m. ⌜ ((at : List ℕ) → Wrote (kept k (now (events .entry)) at (now (bytes .entry)))
+        (itemsOf (serializeOutput (tagName code) (tree.textAt (now (text .entry)) (now (r .entry)) o))) (kept m (now (events .exit)) at (now (bytes .exit)))) ⌝ }
 {
     let opened = put_tag(events, bytes, k, kind::START, code, 0);
     let inner = put_text(events, bytes, opened, text, r, o);
@@ -48,7 +49,8 @@ pub fn put_optional(
     b: u32,
 ) -> Marks
     requires { ⌜ o ≤ 30 ⌝ }
-    ensures { λ m. ⌜ ((at : List ℕ) → Wrote (kept k (now (events .entry)) at (now (bytes .entry))) (itemsOf (optional (serializeOutput (tagName code)) (tree.given (tree.hasBit b (now (r .entry))) (tree.textAt (now (text .entry)) (now (r .entry)) o)))) (kept m (now (events .exit)) at (now (bytes .exit)))) ⌝ }
+    ensures { λ m. ⌜ ((at : List ℕ) → Wrote (kept k (now (events .entry)) at (now (bytes .entry))) (itemsOf (optional (serializeOutput (tagName code))
+        (tree.given (tree.hasBit b (now (r .entry))) (tree.textAt (now (text .entry)) (now (r .entry)) o)))) (kept m (now (events .exit)) at (now (bytes .exit)))) ⌝ }
 {
     if has_bit(r, b) {
         return put_output(events, bytes, k, text, r, code, o);
@@ -58,7 +60,8 @@ pub fn put_optional(
 
 // system-out and system-err (rule W4).
 pub fn put_outputs(events: &mut [u32], bytes: &mut [u8], k: Marks, text: &[u8], r: &[u32]) -> Marks
-    ensures { λ m. ⌜ ((at : List ℕ) → Wrote (kept k (now (events .entry)) at (now (bytes .entry))) (itemsOf (serializeOutputs (tree.systemOut (now (text .entry)) (now (r .entry))) (tree.systemErr (now (text .entry)) (now (r .entry))))) (kept m (now (events .exit)) at (now (bytes .exit)))) ⌝ }
+    ensures { λ m. ⌜ ((at : List ℕ) → Wrote (kept k (now (events .entry)) at (now (bytes .entry))) (itemsOf (serializeOutputs (tree.systemOut (now (text .entry)) (now (r .entry)))
+        (tree.systemErr (now (text .entry)) (now (r .entry))))) (kept m (now (events .exit)) at (now (bytes .exit)))) ⌝ }
 {
     let out = put_optional(
         events,
@@ -91,7 +94,8 @@ pub fn put_property(
     text: &[u8],
     r: &[u32],
 ) -> Marks
-    ensures { λ m. ⌜ Wrote (kept k (now (events .entry)) (now (attributes .entry)) (now (bytes .entry))) (itemsOf (serializeProperty (pairOf (now (text .entry)) (now (r .entry))))) (kept m (now (events .exit)) (now (attributes .exit)) (now (bytes .exit))) ⌝ }
+    ensures { λ m. ⌜ Wrote (kept k (now (events .entry)) (now (attributes .entry)) (now (bytes .entry)))
+        (itemsOf (serializeProperty (pairOf (now (text .entry)) (now (r .entry))))) (kept m (now (events .exit)) (now (attributes .exit)) (now (bytes .exit))) ⌝ }
 {
     put_element(
         events,
@@ -117,7 +121,8 @@ pub fn put_status(
     r: &[u32],
     code: u8,
 ) -> Marks
-    ensures { λ m. ⌜ Wrote (kept k (now (events .entry)) (now (attributes .entry)) (now (bytes .entry))) (itemsOf (serializeStatus (tagName code) (reasonOf (now (text .entry)) (now (r .entry))))) (kept m (now (events .exit)) (now (attributes .exit)) (now (bytes .exit))) ⌝ }
+    ensures { λ m. ⌜ Wrote (kept k (now (events .entry)) (now (attributes .entry)) (now (bytes .entry)))
+        (itemsOf (serializeStatus (tagName code) (reasonOf (now (text .entry)) (now (r .entry))))) (kept m (now (events .exit)) (now (attributes .exit)) (now (bytes .exit))) ⌝ }
 {
     if has_bit(r, bit::DESCRIPTION) {
         let opened = put_element(

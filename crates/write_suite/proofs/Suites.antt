@@ -54,7 +54,8 @@ module _ (text : List ℕ) where
     unfolding suitesItems
     suites-other e = rw (ne-eqb (kindOf r) 2 e) refl
 
-    pub opening-items : (kind n : ℕ) → n ≡ length (between 13 13 (ownOf 1 rs)) → (entry kind (tagName 2) (length (slots text r suiteCodes) + n) ∷ pairsOf (slots text r suiteCodes)) ++ rowsItems text false 1 13 13 rs ≡ openingItems text r rs kind
+    pub opening-items : (kind n : ℕ) → n ≡ length (between 13 13 (ownOf 1 rs))
+        → (entry kind (tagName 2) (length (slots text r suiteCodes) + n) ∷ pairsOf (slots text r suiteCodes)) ++ rowsItems text false 1 13 13 rs ≡ openingItems text r rs kind
     unfolding openingItems
     opening-items kind n e = ap (λ (m : ℕ). entry kind (tagName 2) (length (slots text r suiteCodes) + m) ∷ (pairsOf (slots text r suiteCodes) ++ rowsItems text false 1 13 13 rs)) e
 

@@ -35,7 +35,8 @@ fn put_cases(
     text: &[u8],
     words: &[u32],
 ) -> Marks
-    ensures { λ m. ⌜ Wrote (kept k (now (events .entry)) (now (attributes .entry)) (now (bytes .entry))) (casesItems (now (text .entry)) (recordsIn (now (words .entry)))) (kept m (now (events .exit)) (now (attributes .exit)) (now (bytes .exit))) ⌝ }
+    ensures { λ m. ⌜ Wrote (kept k (now (events .entry)) (now (attributes .entry)) (now (bytes .entry)))
+        (casesItems (now (text .entry)) (recordsIn (now (words .entry)))) (kept m (now (events .exit)) (now (attributes .exit)) (now (bytes .exit))) ⌝ }
 {
     let mut at = 0;
     let mut mark = k;
@@ -76,7 +77,8 @@ fn put_opening(
     words: &[u32],
     opens: u32,
 ) -> Marks
-    ensures { λ m. ⌜ Wrote (kept k (now (events .entry)) (now (attributes .entry)) (now (bytes .entry))) (openingItems (now (text .entry)) (now (r .entry)) (recordsIn (now (words .entry))) opens) (kept m (now (events .exit)) (now (attributes .exit)) (now (bytes .exit))) ⌝ }
+    ensures { λ m. ⌜ Wrote (kept k (now (events .entry)) (now (attributes .entry)) (now (bytes .entry)))
+        (openingItems (now (text .entry)) (now (r .entry)) (recordsIn (now (words .entry))) opens) (kept m (now (events .exit)) (now (attributes .exit)) (now (bytes .exit))) ⌝ }
 {
     let extras = count_kind(words, SUITE, kind::SUITE_EXTRA);
     let opened = put_element(
@@ -113,7 +115,8 @@ fn put_inside(
     text: &[u8],
     words: &[u32],
 ) -> Marks
-    ensures { λ m. ⌜ Wrote (kept k (now (events .entry)) (now (attributes .entry)) (now (bytes .entry))) (insideItems (now (text .entry)) (recordsIn (now (words .entry)))) (kept m (now (events .exit)) (now (attributes .exit)) (now (bytes .exit))) ⌝ }
+    ensures { λ m. ⌜ Wrote (kept k (now (events .entry)) (now (attributes .entry)) (now (bytes .entry)))
+        (insideItems (now (text .entry)) (recordsIn (now (words .entry)))) (kept m (now (events .exit)) (now (attributes .exit)) (now (bytes .exit))) ⌝ }
 {
     let properties = put_properties(
         events,
@@ -138,7 +141,8 @@ fn put_suite(
     r: &[u32],
     words: &[u32],
 ) -> Marks
-    ensures { λ m. ⌜ Wrote (kept k (now (events .entry)) (now (attributes .entry)) (now (bytes .entry))) (suiteItems (now (text .entry)) (now (r .entry)) (recordsIn (now (words .entry)))) (kept m (now (events .exit)) (now (attributes .exit)) (now (bytes .exit))) ⌝ }
+    ensures { λ m. ⌜ Wrote (kept k (now (events .entry)) (now (attributes .entry)) (now (bytes .entry)))
+        (suiteItems (now (text .entry)) (now (r .entry)) (recordsIn (now (words .entry)))) (kept m (now (events .exit)) (now (attributes .exit)) (now (bytes .exit))) ⌝ }
 {
     if is_childless(r, words) {
         return put_opening(events, attributes, bytes, k, text, r, words, EMPTY);
@@ -156,7 +160,8 @@ pub fn put_suites(
     text: &[u8],
     words: &[u32],
 ) -> Marks
-    ensures { λ m. ⌜ Wrote (kept k (now (events .entry)) (now (attributes .entry)) (now (bytes .entry))) (suitesItems (now (text .entry)) (recordsIn (now (words .entry)))) (kept m (now (events .exit)) (now (attributes .exit)) (now (bytes .exit))) ⌝ }
+    ensures { λ m. ⌜ Wrote (kept k (now (events .entry)) (now (attributes .entry)) (now (bytes .entry)))
+        (suitesItems (now (text .entry)) (recordsIn (now (words .entry)))) (kept m (now (events .exit)) (now (attributes .exit)) (now (bytes .exit))) ⌝ }
 {
     let mut at = 0;
     let mut mark = k;

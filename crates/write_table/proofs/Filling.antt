@@ -93,7 +93,8 @@ same-held h k a b c d e f = λ i. record { events = a i; attributes = b i; bytes
 
 pub after-none : (h : Held) → after h [] ≡ h
 unfolding entries pairs eventWords attributeWords laidBytes
-after-none h = same-held (after h []) h (omega arith) (omega arith) (omega arith) (over-none (h .eventArea) (h .events * 5)) (over-none (h .attributeArea) (h .attributes * 5)) (over-none (h .byteArea) (h .bytes))
+after-none h = same-held (after h []) h (omega arith) (omega arith) (omega arith) (over-none (h .eventArea) (h .events * 5))
+    (over-none (h .attributeArea) (h .attributes * 5)) (over-none (h .byteArea) (h .bytes))
 
 pub after-entry : (h : Held) (kind : ℕ) (s : List ℕ) (n : ℕ) (is : List Item) → h .events * 5 + 5 ≤ length (h .eventArea) → h .bytes + length s ≤ length (h .byteArea) →
     after (withEntry h kind s n) is ≡ after h (entry kind s n ∷ is)

@@ -64,11 +64,16 @@ module _ (es : List Event) where
         let l = length-replicate {A = ℕ} e 0 in
         let m = length-replicate {A = ℕ} a 0 in
         let n = length-replicate {A = ℕ} b 0 in
-        rw (le-leb (length (laidOut es .events)) (min e (mostEntries * 5)) (omega arith), le-leb (length (laidOut es .attributes)) (min a (mostEntries * 5)) (omega arith), le-leb (length (laidOut es .bytes)) (min b mostBytes) (omega arith)) refl
+        rw (
+          le-leb (length (laidOut es .events)) (min e (mostEntries * 5)) (omega arith),
+          le-leb (length (laidOut es .attributes)) (min a (mostEntries * 5)) (omega arith),
+          le-leb (length (laidOut es .bytes)) (min b mostBytes) (omega arith),
+        ) refl
 
     fits-room : fits (laidOut es) e a b ≡ true → Room (fresh e a b) (itemsOf es)
     fits-room f =
-        let p = both (leb (length (laidOut es .events)) (min e (mostEntries * 5))) (leb (length (laidOut es .attributes)) (min a (mostEntries * 5)) && leb (length (laidOut es .bytes)) (min b mostBytes)) f in
+        let p = both (leb (length (laidOut es .events)) (min e (mostEntries * 5)))
+        (leb (length (laidOut es .attributes)) (min a (mostEntries * 5)) && leb (length (laidOut es .bytes)) (min b mostBytes)) f in
         let q = both (leb (length (laidOut es .attributes)) (min a (mostEntries * 5))) (leb (length (laidOut es .bytes)) (min b mostBytes)) (p .1) in
         let u = leb-true (length (laidOut es .events)) (min e (mostEntries * 5)) (p .0) in
         let v = leb-true (length (laidOut es .attributes)) (min a (mostEntries * 5)) (q .0) in

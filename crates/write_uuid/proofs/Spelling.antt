@@ -21,7 +21,8 @@ module _ (l : List ℕ) (at n : ℕ) where
 
 -- the halves of the four words at their places
 pub words-stored : (w : Words)
-    → sets (sets (sets (sets (sets (sets (sets (sets (bytes "00000000-0000-0000-0000-000000000000") 0 (hexOctets 2 (w .a / 65536))) 4 (hexOctets 2 (w .a))) 9 (hexOctets 2 (w .b / 65536))) 14 (hexOctets 2 (w .b))) 19 (hexOctets 2 (w .c / 65536))) 24 (hexOctets 2 (w .c))) 28 (hexOctets 2 (w .d / 65536))) 32 (hexOctets 2 (w .d)) ≡ uuidText w
+    → sets (sets (sets (sets (sets (sets (sets (sets (bytes "00000000-0000-0000-0000-000000000000") 0 (hexOctets 2 (w .a / 65536))) 4 (hexOctets 2 (w .a))) 9 (hexOctets 2 (w .b / 65536)))
+    14 (hexOctets 2 (w .b))) 19 (hexOctets 2 (w .c / 65536))) 24 (hexOctets 2 (w .c))) 28 (hexOctets 2 (w .d / 65536))) 32 (hexOctets 2 (w .d)) ≡ uuidText w
 unfolding uuidText
 words-stored w =
     let e : w .a / 256 / 256 ≡ w .a / 65536 = omega arith in

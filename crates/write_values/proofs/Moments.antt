@@ -74,9 +74,20 @@ offset-digits n h =
     let z : m - 1439 ≡ x % 6000 = omega arith in
     let am : away m ≡ x % 6000 = rw p z in
     let an : away n ≡ x = rw q refl in
-    zoned (rw (p, q) refl) (ap (λ (k : ℕ). lastDigits 2 (k / 60)) am ∙ ap (lastDigits 2) (hours x .1) ∙ two-digits (x / 60) ∙ ap (λ (k : ℕ). lastDigits 2 (k / 60)) (sym an)) (ap (λ (k : ℕ). lastDigits 2 (k % 60)) am ∙ ap (lastDigits 2) (hours x .0) ∙ ap (λ (k : ℕ). lastDigits 2 (k % 60)) (sym an))
+    zoned (rw (p, q) refl) (ap (λ (k : ℕ). lastDigits 2 (k / 60)) am ∙ ap (lastDigits 2) (hours x .1) ∙ two-digits (x / 60) ∙ ap (λ (k : ℕ). lastDigits 2 (k / 60)) (sym an))
+    (ap (λ (k : ℕ). lastDigits 2 (k % 60)) am ∙ ap (lastDigits 2) (hours x .0) ∙ ap (λ (k : ℕ). lastDigits 2 (k % 60)) (sym an))
 
-pub moment-digits : (m : Moment) (offset : ℕ) → offsetText offset ≡ offsetText (m .offset) → timestampText (record { year = m .year % 10000; month = m .month % 100; day = m .day % 100; hour = m .hour % 100; minute = m .minute % 100; second = m .second % 100; nanos = m .nanos; offset = offset }) ≡ timestampText m
+pub moment-digits : (m : Moment) (offset : ℕ) → offsetText offset ≡ offsetText (m .offset) → timestampText (record {
+  year = m .year % 10000;
+  month = m .month % 100;
+  day = m .day % 100;
+  hour = m .hour % 100;
+  minute = m .minute % 100;
+  second = m .second % 100;
+  nanos = m .nanos;
+  offset = offset;
+}) ≡ timestampText m
 unfolding timestampText dateText clockText
 moment-digits m offset e =
-    stamped (dated (four-digits (m .year)) (two-digits (m .month)) (two-digits (m .day))) (clocked (lastDigits 3 (m .nanos / 1000000)) (two-digits (m .hour)) (two-digits (m .minute)) (two-digits (m .second))) e
+    stamped (dated (four-digits (m .year)) (two-digits (m .month)) (two-digits (m .day)))
+    (clocked (lastDigits 3 (m .nanos / 1000000)) (two-digits (m .hour)) (two-digits (m .minute)) (two-digits (m .second))) e

@@ -12,7 +12,8 @@ use Rattle.write_items.specs.inside.Values.{tagName, keyName, cutAt}
 abbrev tag-starts : List ℕ
 tag-starts = 0 ∷ 0 ∷ 10 ∷ 19 ∷ 27 ∷ 37 ∷ 45 ∷ 52 ∷ 57 ∷ 64 ∷ 76 ∷ 86 ∷ 98 ∷ 108 ∷ 118 ∷ 128 ∷ 138 ∷ []
 
-tag-at : (c : ℕ) → take (getD tag-starts (suc c) 0 - getD tag-starts c 0) (drop (getD tag-starts c 0) (bytes "testsuitestestsuitetestcasepropertiespropertyfailureerrorskippedflakyFailureflakyErrorrerunFailurererunErrorstackTracesystem-outsystem-err")) ≡ tagName c
+tag-at : (c : ℕ) → take (getD tag-starts (suc c) 0 - getD tag-starts c 0)
+    (drop (getD tag-starts c 0) (bytes "testsuitestestsuitetestcasepropertiespropertyfailureerrorskippedflakyFailureflakyErrorrerunFailurererunErrorstackTracesystem-outsystem-err")) ≡ tagName c
 unfolding tagName tags
 tag-at zero = refl
 tag-at (suc zero) = refl
@@ -33,13 +34,15 @@ tag-at (suc (suc (suc (suc (suc (suc (suc (suc (suc (suc (suc (suc (suc (suc (su
 tag-at (suc (suc (suc (suc (suc (suc (suc (suc (suc (suc (suc (suc (suc (suc (suc (suc zero)))))))))))))))) = refl
 tag-at (suc (suc (suc (suc (suc (suc (suc (suc (suc (suc (suc (suc (suc (suc (suc (suc (suc n))))))))))))))))) = refl
 
-pub tag-cut : (c : ℕ) → cutAt (bytes "testsuitestestsuitetestcasepropertiespropertyfailureerrorskippedflakyFailureflakyErrorrerunFailurererunErrorstackTracesystem-outsystem-err") tag-starts c ≡ tagName c
+pub tag-cut : (c : ℕ)
+    → cutAt (bytes "testsuitestestsuitetestcasepropertiespropertyfailureerrorskippedflakyFailureflakyErrorrerunFailurererunErrorstackTracesystem-outsystem-err") tag-starts c ≡ tagName c
 tag-cut c = rw (add-one c) (tag-at c)
 
 abbrev key-starts : List ℕ
 key-starts = 0 ∷ 0 ∷ 4 ∷ 13 ∷ 17 ∷ 26 ∷ 30 ∷ 35 ∷ 43 ∷ 49 ∷ 56 ∷ 64 ∷ 74 ∷ 81 ∷ 85 ∷ 90 ∷ 94 ∷ []
 
-key-at : (c : ℕ) → take (getD key-starts (suc c) 0 - getD key-starts c 0) (drop (getD key-starts c 0) (bytes "nameclassnameuuidtimestamptimetestsfailureserrorsskippeddisabledassertionsmessagetypevaluename")) ≡ keyName c
+key-at : (c : ℕ) → take (getD key-starts (suc c) 0 - getD key-starts c 0)
+    (drop (getD key-starts c 0) (bytes "nameclassnameuuidtimestamptimetestsfailureserrorsskippeddisabledassertionsmessagetypevaluename")) ≡ keyName c
 unfolding keyName keys
 key-at zero = refl
 key-at (suc zero) = refl

@@ -18,7 +18,8 @@ pub going-start : (out words : List ℕ) (k : Stored) → Going out words k out 
 going-start out words k = record { same = refl; coming = coming-start (filled k out) (wordsBytes words) }
 
 module _ {out₀ words out : List ℕ} {k₀ k : Stored} {i : ℕ} (g : Going out₀ words k₀ out k i) where
-  pub going-next : {out′ : List ℕ} {k′ : Stored} → i < length words → (w : ℕ) → w ≡ getD words i 0 → length out′ ≡ length out → Puts (filled k out) (wordBytes w) (filled k′ out′) → Going out₀ words k₀ out′ k′ (i + 1)
+  pub going-next : {out′ : List ℕ} {k′ : Stored} → i < length words → (w : ℕ) → w ≡ getD words i 0
+      → length out′ ≡ length out → Puts (filled k out) (wordBytes w) (filled k′ out′) → Going out₀ words k₀ out′ k′ (i + 1)
   unfolding wordsBytes
   going-next h w e l p =
       let s : wordsBytes (drop i words) ≡ wordBytes w ++ wordsBytes (drop (i + 1) words) =
@@ -30,6 +31,7 @@ module _ {out₀ words out : List ℕ} {k₀ k : Stored} {i : ℕ} (g : Going ou
   going-done h = coming-done (coming-on (g .coming) (ap wordsBytes (drop-of-length-le words {i = i} h)))
 
 pub table-parts : (events attributes bytes : List ℕ) →
-    wordBytes (length events / 5) ++ wordBytes (length attributes / 5) ++ wordBytes (length bytes) ++ wordsBytes events ++ wordsBytes attributes ++ bytes ≡ tableBytes (record { events = events; attributes = attributes; bytes = bytes })
+    wordBytes (length events / 5) ++ wordBytes (length attributes / 5) ++ wordBytes (length bytes) ++ wordsBytes events ++ wordsBytes attributes ++ bytes
+    ≡ tableBytes (record { events = events; attributes = attributes; bytes = bytes })
 unfolding tableBytes
 table-parts events attributes bytes = refl

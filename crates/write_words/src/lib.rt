@@ -38,7 +38,8 @@ pub fn put_table(
     attributes: &[u32],
     bytes: &[u8],
 ) -> Stored
-    ensures { λ r. ⌜ Puts (filled k (now (out .entry))) (tableBytes (record { events = now (events .entry); attributes = now (attributes .entry); bytes = now (bytes .entry) })) (filled r (now (out .exit))) ⌝ }
+    ensures { λ r.
+        ⌜ Puts (filled k (now (out .entry))) (tableBytes (record { events = now (events .entry); attributes = now (attributes .entry); bytes = now (bytes .entry) })) (filled r (now (out .exit))) ⌝ }
 {
     let first = put_word(out, k, events.len() / 5);
     let second = put_word(out, first, attributes.len() / 5);

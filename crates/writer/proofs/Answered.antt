@@ -20,8 +20,10 @@ module _ (words text : List ℕ) (e a b : ℕ) where
   pub refused-whole : {r : Writing} {c : Cause} {ev at by : List ℕ} → r ≡ writingFrom (refused (late c)) → Left words text e a b (refuses c) ev at by → Whole r ev at by
   refused-whole q p = (q ∙ ap (λ (o : Answer Sizes). writingFrom (outcomeOf o)) (p .answer), (p .events, (p .attributes, p .bytes)))
 
-  pub written-whole : {f : Refusal} {m n k : ℕ} {ev at by : List ℕ} → f ≡ noRefusal → Left words text e a b (gives (record { events = m; attributes = n; bytes = k })) ev at by → Whole (record { verdict = Accepted; events = m; attributes = n; bytes = k; refusal = f }) ev at by
+  pub written-whole : {f : Refusal} {m n k : ℕ} {ev at by : List ℕ} → f ≡ noRefusal → Left words text e a b (gives (record { events = m; attributes = n; bytes = k })) ev at by
+      → Whole (record { verdict = Accepted; events = m; attributes = n; bytes = k; refusal = f }) ev at by
   written-whole {f} {m} {n} {k} q p = (whole q ∙ ap (λ (o : Answer Sizes). writingFrom (outcomeOf o)) (p .answer), (p .events, (p .attributes, p .bytes)))
     where
-      whole : f ≡ noRefusal → _≡_ {A = Writing} (record { verdict = Accepted; events = m; attributes = n; bytes = k; refusal = f }) (writingFrom (outcomeOf (gives (record { events = m; attributes = n; bytes = k }))))
+      whole : f ≡ noRefusal
+          → _≡_ {A = Writing} (record { verdict = Accepted; events = m; attributes = n; bytes = k; refusal = f }) (writingFrom (outcomeOf (gives (record { events = m; attributes = n; bytes = k }))))
       whole q = rw q refl

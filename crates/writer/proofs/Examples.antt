@@ -9,8 +9,10 @@ wrote : writingFrom (accepted (record { events = 5; attributes = 4; bytes = 80 }
 wrote = refl
 
 -- 15 and 16 as an answer
-no-layout : writingFrom (refused (late NotLayout)) ≡ record { verdict = Refused; events = 0; attributes = 0; bytes = 0; refusal = record { cause = NotLayout; path = emptyPath; event = 4294967295; attribute = 4294967295 } }
+no-layout : writingFrom (refused (late NotLayout))
+    ≡ record { verdict = Refused; events = 0; attributes = 0; bytes = 0; refusal = record { cause = NotLayout; path = emptyPath; event = 4294967295; attribute = 4294967295 } }
 no-layout = refl
 
-too-short : writingFrom (refused (late OutputFull)) ≡ record { verdict = Refused; events = 0; attributes = 0; bytes = 0; refusal = record { cause = OutputFull; path = emptyPath; event = 4294967295; attribute = 4294967295 } }
+too-short : writingFrom (refused (late OutputFull))
+    ≡ record { verdict = Refused; events = 0; attributes = 0; bytes = 0; refusal = record { cause = OutputFull; path = emptyPath; event = 4294967295; attribute = 4294967295 } }
 too-short = refl

@@ -32,7 +32,8 @@ module _ (words text : List ℕ) (e a b : ℕ) where
   t = tableOf words text
 
   -- the areas follow from the answer
-  left-from : {o : Answer Sizes} {ev at by : List ℕ} → o ≡ writingAnswer words text e a b → ev ≡ leftFor o e (t .events) → at ≡ leftFor o a (t .attributes) → by ≡ leftFor o b (t .bytes) → Left o ev at by
+  left-from : {o : Answer Sizes} {ev at by : List ℕ} → o ≡ writingAnswer words text e a b
+      → ev ≡ leftFor o e (t .events) → at ≡ leftFor o a (t .attributes) → by ≡ leftFor o b (t .bytes) → Left o ev at by
   unfolding eventsLeft attributesLeft bytesLeft
   left-from p x y z =
       record {

@@ -24,7 +24,8 @@ document-events words text = go (reportOf words text) refl
     go none e = no-items words text e
     go (some r) e = tree-items words text r e
 
-pub used-items : (words text : List ℕ) (limit bytes : ℕ) → limit ≡ min (length words) mostWords → bytes ≡ min (length text) mostBytes → documentIn (take bytes text) (recordsIn (take limit words)) ≡ itemsOf (eventsOf words text)
+pub used-items : (words text : List ℕ) (limit bytes : ℕ) → limit ≡ min (length words) mostWords → bytes ≡ min (length text) mostBytes
+    → documentIn (take bytes text) (recordsIn (take limit words)) ≡ itemsOf (eventsOf words text)
 used-items words text limit bytes p q =
     let w : take limit words ≡ usedWords words = ap (λ (n : ℕ). take n words) p ∙ take-least words mostWords in
     let t : take bytes text ≡ usedText text = ap (λ (n : ℕ). take n text) q ∙ take-least text mostBytes in

@@ -61,7 +61,8 @@ fn put_tree(
     attributes: &mut [u32],
     bytes: &mut [u8],
 ) -> Marks
-    ensures { λ m. ⌜ Wrote (kept empty (now (events .entry)) (now (attributes .entry)) (now (bytes .entry))) (itemsOf (eventsOf (now (records .entry)) (now (text .entry)))) (kept m (now (events .exit)) (now (attributes .exit)) (now (bytes .exit))) ⌝ }
+    ensures { λ m. ⌜ Wrote (kept empty (now (events .entry)) (now (attributes .entry)) (now (bytes .entry)))
+        (itemsOf (eventsOf (now (records .entry)) (now (text .entry)))) (kept m (now (events .exit)) (now (attributes .exit)) (now (bytes .exit))) ⌝ }
 {
     let limit = least(records.len(), limit::WORDS);
     let used = least(text.len(), limit::BYTES);
@@ -91,7 +92,8 @@ pub fn write(
 ) -> Writing
     ensures { λ r. ⌜ r ≡ writingFrom (wrote (now (records .entry)) (now (text .entry)) (length (now (events .entry))) (length (now (attributes .entry))) (length (now (bytes .entry)))) ⌝ }
     ensures { λ r. ⌜ now (events .exit) ≡ eventsLeft (now (records .entry)) (now (text .entry)) (length (now (events .entry))) (length (now (attributes .entry))) (length (now (bytes .entry))) ⌝ }
-    ensures { λ r. ⌜ now (attributes .exit) ≡ attributesLeft (now (records .entry)) (now (text .entry)) (length (now (events .entry))) (length (now (attributes .entry))) (length (now (bytes .entry))) ⌝ }
+    ensures { λ r.
+        ⌜ now (attributes .exit) ≡ attributesLeft (now (records .entry)) (now (text .entry)) (length (now (events .entry))) (length (now (attributes .entry))) (length (now (bytes .entry))) ⌝ }
     ensures { λ r. ⌜ now (bytes .exit) ≡ bytesLeft (now (records .entry)) (now (text .entry)) (length (now (events .entry))) (length (now (attributes .entry))) (length (now (bytes .entry))) ⌝ }
 {
     clear_all(events, attributes, bytes);

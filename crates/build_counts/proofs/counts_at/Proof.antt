@@ -28,7 +28,9 @@ counts-in-requires : tie.Need-counts-in-requires
 counts-in-requires c κs = search needs
 
 returns : tie.Need-returns
-returns c = c .counts-in .ensures ∙ ap countsIn (part-from (c .before .before .before .before .args .words .now) (c .before .before .before .before .args .i * 32) (c .before .before .least .ensures))
+returns c =
+    let args = c .before .before .before .before .args in
+    c .counts-in .ensures ∙ ap countsIn (part-from (args .words .now) (args .i * 32) (c .before .before .least .ensures))
 
 pub counts-at-spec : {M : Type 1} → statement M
 counts-at-spec =

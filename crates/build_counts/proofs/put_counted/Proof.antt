@@ -54,7 +54,8 @@ returns-2 c =
     let words = a .records .now in
     let n = a .i * 32 in
     was-counted (a .i) (a .b) words text old more m (p₃ .enum-told .given .1)
-    (part-back words n (p₂ .least .ensures) (p₁ .put-counts .last .0) ∙ ap (λ z. take n words ++ z) (p₁ .put-counts .ensures ∙ ap (putCounts (a .counted .counts)) (part-from words n (p₂ .least .ensures))))
+    (part-back words n (p₂ .least .ensures) (p₁ .put-counts .last .0)
+    ∙ ap (λ z. take n words ++ z) (p₁ .put-counts .ensures ∙ ap (putCounts (a .counted .counts)) (part-from words n (p₂ .least .ensures))))
 
 pub put-counted-spec : {M : Type 1} → statement M
 put-counted-spec =

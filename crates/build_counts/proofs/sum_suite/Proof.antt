@@ -12,7 +12,9 @@ same-length : tie.Need-same-length
 same-length c = search needs
 
 returns : tie.Need-returns
-returns c = λ text. no-suite (c .before .before .before .before .args .b) (c .before .before .before .before .args .records .now) text (c .before .is-of .ensures) (c .if1 .taken)
+returns c =
+    let args = c .before .before .before .before .args in
+    λ text. no-suite (args .b) (args .records .now) text (c .before .is-of .ensures) (c .if1 .taken)
 
 counts-at-requires : tie.Need-counts-at-requires
 counts-at-requires c κs = search needs

@@ -22,7 +22,9 @@ refuse-late-requires : tie.Need-refuse-late-requires
 refuse-late-requires c κs = search needs
 
 returns : tie.Need-returns
-returns c = settled-done (c .before .before .before .before .before .before .args .records .now) (c .before .before .before .before .before .before .args .text .now) (c .before .before .step .given .1) (c .no-refusal .ensures)
+returns c =
+    let args = c .before .before .before .before .before .before .args in
+    settled-done (args .records .now) (args .text .now) (c .before .before .step .given .1) (c .no-refusal .ensures)
 
 same-length : tie.Need-same-length
 same-length c = search needs
@@ -31,7 +33,11 @@ same-length-2 : tie.Need-same-length-2
 same-length-2 c = search needs
 
 returns-2 : tie.Need-returns-2
-returns-2 c = settled-not (c .before .before .before .before .before .before .before .before .before .before .before .before .before .before .args .records .now) (c .before .before .before .before .before .before .before .before .before .before .before .before .before .before .args .text .now) (c .before .before .before .before .before .before .before .before .before .before .step2 .given .1) (c .before .no-builder .ensures) (c .refuse-late .ensures) (c .before .before .before .before .before .before .clear-both .ensures .0) (c .before .before .before .before .before .before .clear-both .ensures .1)
+returns-2 c =
+    let args = c .before .before .before .before .before .before .before .before .before .before .before .before .before .before .args in
+    let step2 = c .before .before .before .before .before .before .before .before .before .before .step2 in
+    let clear-both = c .before .before .before .before .before .before .clear-both in
+    settled-not (args .records .now) (args .text .now) (step2 .given .1) (c .before .no-builder .ensures) (c .refuse-late .ensures) (clear-both .ensures .0) (clear-both .ensures .1)
 
 pub settle-spec : {M : Type 1} → statement M
 settle-spec =

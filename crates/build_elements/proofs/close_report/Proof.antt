@@ -33,7 +33,8 @@ returns-2 c =
     let p₂ = p₁ .before .before in
     let p₃ = p₂ .before in
     let a = p₃ .before .before .before .args in
-    λ text. finish-stopped (record { builder = a .b; words = a .records .now; text = text }) (p₃ .is-of .ensures) (p₂ .if1 .left) (p₁ .sum-suite .last .1 .0) (c .enum-told .given .1) (p₁ .sum-suite .ensures text)
+    λ text. finish-stopped (record { builder = a .b; words = a .records .now; text = text }) (p₃ .is-of .ensures)
+    (p₂ .if1 .left) (p₁ .sum-suite .last .1 .0) (c .enum-told .given .1) (p₁ .sum-suite .ensures text)
 
 with-marks-requires : tie.Need-with-marks-requires
 with-marks-requires c κs = search needs
@@ -48,7 +49,8 @@ returns-3 c =
     let p₃ = p₂ .before .before in
     let p₄ = p₃ .before in
     let a = p₄ .before .before .before .args in
-    λ text. finish-went (record { builder = a .b; words = a .records .now; text = text }) (p₄ .is-of .ensures) (p₃ .if1 .left) (p₂ .sum-suite .last .1 .0) (p₁ .summed .given .1) (p₂ .sum-suite .ensures text) (c .with-marks .ensures)
+    λ text. finish-went (record { builder = a .b; words = a .records .now; text = text }) (p₄ .is-of .ensures) (p₃ .if1 .left)
+    (p₂ .sum-suite .last .1 .0) (p₁ .summed .given .1) (p₂ .sum-suite .ensures text) (c .with-marks .ensures)
 
 pub close-report-spec : {M : Type 1} → statement M
 close-report-spec =

@@ -40,7 +40,8 @@ returns-2 c =
     let p₂ = p₁ .before .before in
     let p₃ = p₂ .before in
     let a = p₃ .before .before .before .args in
-    λ text. case-stopped (a .outcome) (record { builder = a .b; words = a .records .now; text = text }) (p₃ .is-of .ensures) (p₂ .if1 .left) (p₁ .count-case .last .1 .0) (c .enum-told .given .1) (p₁ .count-case .ensures text)
+    λ text. case-stopped (a .outcome) (record { builder = a .b; words = a .records .now; text = text }) (p₃ .is-of .ensures)
+    (p₂ .if1 .left) (p₁ .count-case .last .1 .0) (c .enum-told .given .1) (p₁ .count-case .ensures text)
 
 take-record-requires : tie.Need-take-record-requires
 take-record-requires c κs = search needs
@@ -64,7 +65,8 @@ returns-3 c =
     let a = p₅ .before .before .before .args in
     λ text.
     let d : Draft = record { builder = a .b; words = a .records .now; text = text } in
-    not-taken kind.case caseMarks (record { builder = p₂ .counted .given .0 .0; words = p₃ .count-case .last .1 .0; text = text }) (p₁ .take-record .last .1 .0) (c .enum-told2 .given .1) (p₁ .take-record .ensures text)
+    not-taken kind.case caseMarks (record { builder = p₂ .counted .given .0 .0; words = p₃ .count-case .last .1 .0; text = text })
+    (p₁ .take-record .last .1 .0) (c .enum-told2 .given .1) (p₁ .take-record .ensures text)
     ∙ case-went (a .outcome) d (p₅ .is-of .ensures) (p₄ .if1 .left) (p₃ .count-case .last .1 .0) (p₂ .counted .given .1) (p₃ .count-case .ensures text)
 
 last-of-requires : tie.Need-last-of-requires
@@ -89,7 +91,8 @@ returns-4 c =
     λ text.
     let d : Draft = record { builder = a .b; words = a .records .now; text = text } in
     let b = p₂ .taken .given .0 .0 in
-    was-taken kind.case caseMarks (record { builder = p₄ .counted .given .0 .0; words = p₅ .count-case .last .1 .0; text = text }) (p₃ .take-record .last .1 .0) (p₂ .taken .given .1) (p₃ .take-record .ensures text)
+    was-taken kind.case caseMarks (record { builder = p₄ .counted .given .0 .0; words = p₅ .count-case .last .1 .0; text = text })
+    (p₃ .take-record .last .1 .0) (p₂ .taken .given .1) (p₃ .take-record .ensures text)
     (c .with-marks .ensures ∙ ap (λ (n : ℕ). marks (b .report) (b .suite) n nowhere b) (p₁ .last-of .ensures))
     ∙ case-went (a .outcome) d (p₇ .is-of .ensures) (p₆ .if1 .left) (p₅ .count-case .last .1 .0) (p₄ .counted .given .1) (p₅ .count-case .ensures text)
 

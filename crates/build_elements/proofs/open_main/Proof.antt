@@ -48,7 +48,8 @@ returns-3 c =
     let p₄ = p₃ .before .before in
     let a = p₄ .before .before .before .args in
     λ text.
-    not-taken (p₃ .main-kind .result) mainMarks (record { builder = p₄ .step .given .0 .0; words = a .records .now; text = text }) (p₁ .take-record .last .1 .0) (c .enum-told2 .given .1) (p₁ .take-record .ensures text)
+    not-taken (p₃ .main-kind .result) mainMarks (record { builder = p₄ .step .given .0 .0; words = a .records .now; text = text })
+    (p₁ .take-record .last .1 .0) (c .enum-told2 .given .1) (p₁ .take-record .ensures text)
     ∙ main-went (a .outcome) (p₃ .main-kind .ensures) (a .records .now) text (p₄ .step .given .1) (p₂ .if1 .left)
 
 last-of-requires : tie.Need-last-of-requires
@@ -71,7 +72,8 @@ returns-4 c =
     let a = p₆ .before .before .before .args in
     λ text.
     let b = p₂ .taken .given .0 .0 in
-    was-taken (p₅ .main-kind .result) mainMarks (record { builder = p₆ .step .given .0 .0; words = a .records .now; text = text }) (p₃ .take-record .last .1 .0) (p₂ .taken .given .1) (p₃ .take-record .ensures text)
+    was-taken (p₅ .main-kind .result) mainMarks (record { builder = p₆ .step .given .0 .0; words = a .records .now; text = text })
+    (p₃ .take-record .last .1 .0) (p₂ .taken .given .1) (p₃ .take-record .ensures text)
     (c .with-marks .ensures ∙ ap (λ (n : ℕ). marks (b .report) (b .suite) (b .case) n b) (p₁ .last-of .ensures))
     ∙ main-went (a .outcome) (p₅ .main-kind .ensures) (a .records .now) text (p₆ .step .given .1) (p₄ .if1 .left)
 

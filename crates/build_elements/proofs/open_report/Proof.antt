@@ -37,7 +37,8 @@ returns c =
     let p₃ = p₂ .before .before .before in
     let p₄ = p₃ .before .before .before .before in
     let a = p₄ .before .before .before .before .args in
-    not-taken kind.report reportMarks (record { builder = p₂ .no-builder .result; words = p₄ .clear-words .last .0; text = p₃ .clear .last .0 }) (p₁ .take-record .last .1 .0) (c .enum-told .given .1) (p₁ .take-record .ensures (p₃ .clear .last .0))
+    not-taken kind.report reportMarks (record { builder = p₂ .no-builder .result; words = p₄ .clear-words .last .0; text = p₃ .clear .last .0 })
+    (p₁ .take-record .last .1 .0) (c .enum-told .given .1) (p₁ .take-record .ensures (p₃ .clear .last .0))
     ∙ report-said (a .records .now) (a .text .now) (p₂ .no-builder .ensures) (p₄ .clear-words .ensures) (p₃ .clear .ensures)
 
 with-marks-requires : tie.Need-with-marks-requires
@@ -57,7 +58,8 @@ returns-2 c =
     let p₄ = p₃ .before .before .before in
     let p₅ = p₄ .before .before .before .before in
     let a = p₅ .before .before .before .before .args in
-    was-taken kind.report reportMarks (record { builder = p₃ .no-builder .result; words = p₅ .clear-words .last .0; text = p₄ .clear .last .0 }) (p₂ .take-record .last .1 .0) (p₁ .taken .given .1) (p₂ .take-record .ensures (p₄ .clear .last .0)) (c .with-marks .ensures)
+    was-taken kind.report reportMarks (record { builder = p₃ .no-builder .result; words = p₅ .clear-words .last .0; text = p₄ .clear .last .0 })
+    (p₂ .take-record .last .1 .0) (p₁ .taken .given .1) (p₂ .take-record .ensures (p₄ .clear .last .0)) (c .with-marks .ensures)
     ∙ report-said (a .records .now) (a .text .now) (p₃ .no-builder .ensures) (p₅ .clear-words .ensures) (p₄ .clear .ensures)
 
 pub open-report-spec : {M : Type 1} → statement M

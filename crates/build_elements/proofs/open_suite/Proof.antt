@@ -40,7 +40,8 @@ returns-2 c =
     let p₂ = p₁ .before .before in
     let p₃ = p₂ .before in
     let a = p₃ .before .before .before .args in
-    λ text. suite-stopped (record { builder = a .b; words = a .records .now; text = text }) (p₃ .is-of .ensures) (p₂ .if1 .left) (p₁ .sum-suite .last .1 .0) (c .enum-told .given .1) (p₁ .sum-suite .ensures text)
+    λ text. suite-stopped (record { builder = a .b; words = a .records .now; text = text }) (p₃ .is-of .ensures)
+    (p₂ .if1 .left) (p₁ .sum-suite .last .1 .0) (c .enum-told .given .1) (p₁ .sum-suite .ensures text)
 
 take-record-requires : tie.Need-take-record-requires
 take-record-requires c κs = search needs
@@ -64,7 +65,8 @@ returns-3 c =
     let a = p₅ .before .before .before .args in
     λ text.
     let d : Draft = record { builder = a .b; words = a .records .now; text = text } in
-    not-taken kind.suite suiteMarks (record { builder = p₂ .summed .given .0 .0; words = p₃ .sum-suite .last .1 .0; text = text }) (p₁ .take-record .last .1 .0) (c .enum-told2 .given .1) (p₁ .take-record .ensures text)
+    not-taken kind.suite suiteMarks (record { builder = p₂ .summed .given .0 .0; words = p₃ .sum-suite .last .1 .0; text = text })
+    (p₁ .take-record .last .1 .0) (c .enum-told2 .given .1) (p₁ .take-record .ensures text)
     ∙ suite-went d (p₅ .is-of .ensures) (p₄ .if1 .left) (p₃ .sum-suite .last .1 .0) (p₂ .summed .given .1) (p₃ .sum-suite .ensures text)
 
 last-of-requires : tie.Need-last-of-requires
@@ -89,7 +91,8 @@ returns-4 c =
     λ text.
     let d : Draft = record { builder = a .b; words = a .records .now; text = text } in
     let b = p₂ .taken .given .0 .0 in
-    was-taken kind.suite suiteMarks (record { builder = p₄ .summed .given .0 .0; words = p₅ .sum-suite .last .1 .0; text = text }) (p₃ .take-record .last .1 .0) (p₂ .taken .given .1) (p₃ .take-record .ensures text)
+    was-taken kind.suite suiteMarks (record { builder = p₄ .summed .given .0 .0; words = p₅ .sum-suite .last .1 .0; text = text })
+    (p₃ .take-record .last .1 .0) (p₂ .taken .given .1) (p₃ .take-record .ensures text)
     (c .with-marks .ensures ∙ ap (λ (n : ℕ). marks (b .report) n nowhere nowhere b) (p₁ .last-of .ensures))
     ∙ suite-went d (p₇ .is-of .ensures) (p₆ .if1 .left) (p₅ .sum-suite .last .1 .0) (p₄ .summed .given .1) (p₅ .sum-suite .ensures text)
 

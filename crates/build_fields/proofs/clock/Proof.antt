@@ -25,7 +25,9 @@ same-length-2 c = search needs
 
 returns-2 : tie.Need-returns-2
 unfolding asks draftOf
-returns-2 c = λ text. rw (passes (c .before .before .is-timed .ensures text) (c .before .if1 .left), not-true (leb (c .before .before .before .before .before .args .seconds) 8388607 && leb (c .before .before .before .before .before .args .nanos) 999999999) (c .if2 .taken)) refl
+returns-2 c =
+    let args = c .before .before .before .before .before .args in
+    λ text. rw (passes (c .before .before .is-timed .ensures text) (c .before .if1 .left), not-true (leb (args .seconds) 8388607 && leb (args .nanos) 999999999) (c .if2 .taken)) refl
 
 mul-least : tie.Need-mul-least
 mul-least c = search needs
@@ -53,7 +55,17 @@ same-length-3 c = search needs
 
 returns-3 : tie.Need-returns-3
 unfolding asks draftOf
-returns-3 c = λ text. rw (passes (c .before .before .before .before .before .before .before .is-timed .ensures text) (c .before .before .before .before .before .before .if1 .left), not-false (leb (c .before .before .before .before .before .before .before .before .before .before .args .seconds) 8388607 && leb (c .before .before .before .before .before .before .before .before .before .before .args .nanos) 999999999) (c .before .before .before .before .before .if2 .left), record-back (c .before .before .before .before .before .before .before .before .before .before .args .records .now) (c .before .before .before .before .before .before .before .before .before .before .args .i) (c .before .before .before .before .least .ensures) (putTime (c .before .before .before .before .before .before .before .before .before .before .args .seconds, c .before .before .before .before .before .before .before .before .before .before .args .nanos)) (c .before .before .put-time .ensures)) refl
+returns-3 c =
+    let args = c .before .before .before .before .before .before .before .before .before .before .args in
+    let is-timed = c .before .before .before .before .before .before .before .is-timed in
+    let if1 = c .before .before .before .before .before .before .if1 in
+    let if2 = c .before .before .before .before .before .if2 in
+    let least = c .before .before .before .before .least in
+    λ text. rw (
+      passes (is-timed .ensures text) (if1 .left),
+      not-false (leb (args .seconds) 8388607 && leb (args .nanos) 999999999) (if2 .left),
+      record-back (args .records .now) (args .i) (least .ensures) (putTime (args .seconds, args .nanos)) (c .before .before .put-time .ensures),
+    ) refl
 
 pub clock-spec : {M : Type 1} → statement M
 clock-spec =

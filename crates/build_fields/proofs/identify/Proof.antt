@@ -47,7 +47,12 @@ same-length-2 c = search needs
 
 returns-2 : tie.Need-returns-2
 unfolding setUuid asks draftOf
-returns-2 c = λ text. rw (passes (c .before .before .before .before .before .before .before .is-of .ensures) (c .before .before .before .before .before .before .if1 .left), record-back (c .before .before .before .before .before .before .before .before .before .before .args .records .now) (c .before .before .before .before .before .before .before .before .before .before .args .b .report) (c .before .before .before .before .least .ensures) (putUuid (c .before .before .before .before .before .before .before .before .before .before .args .w)) (c .before .before .put-uuid .ensures)) refl
+returns-2 c =
+    let args = c .before .before .before .before .before .before .before .before .before .before .args in
+    let is-of = c .before .before .before .before .before .before .before .is-of in
+    let if1 = c .before .before .before .before .before .before .if1 in
+    let least = c .before .before .before .before .least in
+    λ text. rw (passes (is-of .ensures) (if1 .left), record-back (args .records .now) (args .b .report) (least .ensures) (putUuid (args .w)) (c .before .before .put-uuid .ensures)) refl
 
 pub identify-spec : {M : Type 1} → statement M
 identify-spec =

@@ -20,14 +20,18 @@ same-length c = search needs
 
 returns : tie.Need-returns
 unfolding setNumber
-returns c = λ text. rw (c .before .before .before .before .enum-told .given .1) (c .before .before .put-number .ensures text)
+returns c =
+    let enum-told-step = c .before .before .before .before .enum-told in
+    λ text. rw (enum-told-step .given .1) (c .before .before .put-number .ensures text)
 
 same-length-2 : tie.Need-same-length-2
 same-length-2 c = search needs
 
 returns-2 : tie.Need-returns-2
 unfolding setNumber
-returns-2 c = λ text. rw (c .before .before .before .before .enum-told2 .given .1) (c .before .before .put-number2 .ensures text)
+returns-2 c =
+    let enum-told2 = c .before .before .before .before .enum-told2 in
+    λ text. rw (enum-told2 .given .1) (c .before .before .put-number2 .ensures text)
 
 pub number-spec : {M : Type 1} → statement M
 number-spec =

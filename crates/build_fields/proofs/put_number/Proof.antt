@@ -47,7 +47,16 @@ same-length-2 c = search needs
 
 returns-2 : tie.Need-returns-2
 unfolding asks draftOf
-returns-2 c = λ text. rw (passes (c .before .before .before .before .before .before .before .before .before .before .is-of .ensures) (c .before .before .before .before .before .before .before .before .before .if1 .left), record-back (c .before .before .before .before .before .before .before .before .before .before .before .before .before .args .records .now) (c .before .before .before .before .before .before .before .before .before .before .before .before .before .args .i) (c .before .before .before .before .before .before .before .before .least .ensures) (putNumber (c .before .before .before .before .before .before .before .before .before .before .before .before .before .args .o) (c .before .before .before .before .before .before .before .before .before .before .before .before .before .args .k) (c .before .before .before .before .before .before .before .before .before .before .before .before .before .args .n)) (c .before .before .put-bit .ensures ∙ ap (marked (c .before .before .before .before .before .before .before .before .before .before .before .before .before .args .k)) (c .before .before .before .before .before .put-count .ensures))) refl
+returns-2 c =
+    let args = c .before .before .before .before .before .before .before .before .before .before .before .before .before .args in
+    let is-of = c .before .before .before .before .before .before .before .before .before .before .is-of in
+    let if1 = c .before .before .before .before .before .before .before .before .before .if1 in
+    let least = c .before .before .before .before .before .before .before .before .least in
+    let put-count = c .before .before .before .before .before .put-count in
+    λ text. rw (
+      passes (is-of .ensures) (if1 .left),
+      record-back (args .records .now) (args .i) (least .ensures) (putNumber (args .o) (args .k) (args .n)) (c .before .before .put-bit .ensures ∙ ap (marked (args .k)) (put-count .ensures)),
+    ) refl
 
 pub put-number-spec : {M : Type 1} → statement M
 put-number-spec =

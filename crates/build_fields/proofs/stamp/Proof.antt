@@ -53,7 +53,18 @@ same-length-3 c = search needs
 
 returns-3 : tie.Need-returns-3
 unfolding asks draftOf
-returns-3 c = λ text. rw (passes (c .before .before .before .before .before .before .before .before .is-timed .ensures text) (c .before .before .before .before .before .before .before .if1 .left), passes (c .before .before .before .before .before .before .in-range .ensures) (c .before .before .before .before .before .if2 .left), record-back (c .before .before .before .before .before .before .before .before .before .before .before .args .records .now) (c .before .before .before .before .before .before .before .before .before .before .before .args .i) (c .before .before .before .before .least .ensures) (putMoment (c .before .before .before .before .before .before .before .before .before .before .before .args .m)) (c .before .before .put-moment .ensures)) refl
+returns-3 c =
+    let args = c .before .before .before .before .before .before .before .before .before .before .before .args in
+    let is-timed = c .before .before .before .before .before .before .before .before .is-timed in
+    let if1 = c .before .before .before .before .before .before .before .if1 in
+    let in-range = c .before .before .before .before .before .before .in-range in
+    let if2 = c .before .before .before .before .before .if2 in
+    let least = c .before .before .before .before .least in
+    λ text. rw (
+      passes (is-timed .ensures text) (if1 .left),
+      passes (in-range .ensures) (if2 .left),
+      record-back (args .records .now) (args .i) (least .ensures) (putMoment (args .m)) (c .before .before .put-moment .ensures),
+    ) refl
 
 pub stamp-spec : {M : Type 1} → statement M
 stamp-spec =

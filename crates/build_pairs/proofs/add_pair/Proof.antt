@@ -14,7 +14,10 @@ same-length : tie.Need-same-length
 same-length c = search needs
 
 returns : tie.Need-returns
-returns c = added-nowhere (c .before .before .before .before .before .before .before .before .args .b) (c .before .before .before .before .before .before .before .before .args .records .now) (c .before .before .before .before .before .before .before .before .args .text .now) (c .before .before .before .before .before .before .before .before .args .k) (c .before .before .before .before .before .before .before .before .args .key .now) (c .before .before .before .before .before .before .before .before .args .value .now) (c .before .before .place-for .ensures) (c .before .may-add .ensures) (not-true (c .before .may-add .result) (c .if1 .taken)) _ _
+returns c =
+    let args = c .before .before .before .before .before .before .before .before .args in
+    added-nowhere (args .b) (args .records .now) (args .text .now) (args .k) (args .key .now) (args .value .now)
+    (c .before .before .place-for .ensures) (c .before .may-add .ensures) (not-true (c .before .may-add .result) (c .if1 .taken)) _ _
 
 keep-requires : tie.Need-keep-requires
 keep-requires c κs = search needs
@@ -32,10 +35,24 @@ same-length-3 : tie.Need-same-length-3
 same-length-3 c = search needs
 
 returns-2 : tie.Need-returns-2
-returns-2 c = key-refused (c .before .before .before .before .before .before .before .before .before .before .before .before .before .before .args .b) (c .before .before .before .before .before .before .before .before .before .before .before .before .before .before .args .records .now) (c .before .before .before .before .before .before .before .before .before .before .before .before .before .before .args .text .now) (c .before .before .before .before .before .before .before .before .before .before .before .before .before .before .args .k) (c .before .before .before .before .before .before .before .before .before .before .before .before .before .before .args .key .now) (c .before .before .before .before .before .before .before .before .before .before .before .before .before .before .args .value .now) (c .before .before .before .before .before .before .before .before .place-for .ensures) (c .before .before .before .before .before .before .before .may-add .ensures) (not-false (c .before .before .before .before .before .before .before .may-add .result) (c .before .before .before .before .before .before .if1 .left)) _ _ (c .before .before .before .before .keep .ensures) (c .enum-told .given .1)
+returns-2 c =
+    let args = c .before .before .before .before .before .before .before .before .before .before .before .before .before .before .args in
+    let place-for = c .before .before .before .before .before .before .before .before .place-for in
+    let may-add = c .before .before .before .before .before .before .before .may-add in
+    let if1 = c .before .before .before .before .before .before .if1 in
+    let keep = c .before .before .before .before .keep in
+    key-refused (args .b) (args .records .now) (args .text .now) (args .k) (args .key .now) (args .value .now) (place-for .ensures)
+    (may-add .ensures) (not-false (may-add .result) (if1 .left)) _ _ (keep .ensures) (c .enum-told .given .1)
 
 add-value-requires : tie.Need-add-value-requires
-add-value-requires c κs = added-fits (c .before .before .before .before .before .before .before .before .before .before .before .before .before .before .before .before .before .args .b) (c .before .before .before .before .before .before .before .before .before .before .before .before .before .before .before .before .before .args .records .now) (c .before .before .before .before .before .before .before .before .before .before .before .before .before .before .before .before .before .args .text .now) (c .before .before .before .before .before .before .before .before .before .before .before .before .before .before .before .before .before .args .k) (c .before .before .before .before .before .before .before .before .before .before .before .before .before .before .before .before .before .args .key .now) (c .before .before .before .before .before .before .before .before .before .before .before .before .before .before .before .before .before .args .value .now) (c .before .before .before .before .before .before .before .before .before .before .before .place-for .ensures) (c .before .before .before .before .before .before .before .before .before .before .may-add .ensures) (not-false (c .before .before .before .before .before .before .before .before .before .before .may-add .result) (c .before .before .before .before .before .before .before .before .before .if1 .left)) _ _ (c .before .before .before .before .before .before .before .keep .ensures) (c .before .before .before .keyed .given .1)
+add-value-requires c κs =
+    let args = c .before .before .before .before .before .before .before .before .before .before .before .before .before .before .before .before .before .args in
+    let place-for = c .before .before .before .before .before .before .before .before .before .before .before .place-for in
+    let may-add = c .before .before .before .before .before .before .before .before .before .before .may-add in
+    let if1 = c .before .before .before .before .before .before .before .before .before .if1 in
+    let keep = c .before .before .before .before .before .before .before .keep in
+    added-fits (args .b) (args .records .now) (args .text .now) (args .k) (args .key .now) (args .value .now) (place-for .ensures)
+    (may-add .ensures) (not-false (may-add .result) (if1 .left)) _ _ (keep .ensures) (c .before .before .before .keyed .given .1)
 
 same-length-4 : tie.Need-same-length-4
 same-length-4 c = search needs
@@ -44,7 +61,16 @@ same-length-5 : tie.Need-same-length-5
 same-length-5 c = search needs
 
 returns-3 : tie.Need-returns-3
-returns-3 c = added-done (c .before .before .before .before .before .before .before .before .before .before .before .before .before .before .before .before .before .before .before .before .before .before .args .b) (c .before .before .before .before .before .before .before .before .before .before .before .before .before .before .before .before .before .before .before .before .before .before .args .records .now) (c .before .before .before .before .before .before .before .before .before .before .before .before .before .before .before .before .before .before .before .before .before .before .args .text .now) (c .before .before .before .before .before .before .before .before .before .before .before .before .before .before .before .before .before .before .before .before .before .before .args .k) (c .before .before .before .before .before .before .before .before .before .before .before .before .before .before .before .before .before .before .before .before .before .before .args .key .now) (c .before .before .before .before .before .before .before .before .before .before .before .before .before .before .before .before .before .before .before .before .before .before .args .value .now) (c .before .before .before .before .before .before .before .before .before .before .before .before .before .before .before .before .place-for .ensures) (c .before .before .before .before .before .before .before .before .before .before .before .before .before .before .before .may-add .ensures) (not-false (c .before .before .before .before .before .before .before .before .before .before .before .before .before .before .before .may-add .result) (c .before .before .before .before .before .before .before .before .before .before .before .before .before .before .if1 .left)) _ _ (c .before .before .before .before .before .before .before .before .before .before .before .before .keep .ensures) (c .before .before .before .before .before .before .before .before .keyed .given .1) (c .before .before .before .before .add-value .ensures)
+returns-3 c =
+    let at-place-for = c .before .before .before .before .before .before .before .before .before .before .before .before .before .before .before .before in
+    let args = at-place-for .before .before .before .before .before .before .args in
+    let may-add = c .before .before .before .before .before .before .before .before .before .before .before .before .before .before .before .may-add in
+    let if1 = c .before .before .before .before .before .before .before .before .before .before .before .before .before .before .if1 in
+    let keep = c .before .before .before .before .before .before .before .before .before .before .before .before .keep in
+    let keyed = c .before .before .before .before .before .before .before .before .keyed in
+    let add-value = c .before .before .before .before .add-value in
+    added-done (args .b) (args .records .now) (args .text .now) (args .k) (args .key .now) (args .value .now) (at-place-for .place-for .ensures)
+    (may-add .ensures) (not-false (may-add .result) (if1 .left)) _ _ (keep .ensures) (keyed .given .1) (add-value .ensures)
 
 pub add-pair-spec : {M : Type 1} → statement M
 add-pair-spec =

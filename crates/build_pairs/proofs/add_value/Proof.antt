@@ -19,10 +19,18 @@ same-length : tie.Need-same-length
 same-length c = search needs
 
 returns : tie.Need-returns
-returns c = then-refused (c .before .before .before .before .keep .result) (c .before .before .before .before .before .before .before .before .before .args .records .now) (c .before .before .before .before .keep .last .1 .0) (puttingKept (c .before .before .before .before .before .before .before .before .before .args .k) (c .before .before .before .before .before .before .before .before .before .args .b) (c .before .before .before .before .before .before .before .before .before .args .c .bytes)) (c .before .before .before .before .before .before .before .before .before .args .records .now) (c .before .before .before .before .keep .last .1 .0) (c .enum-told .given .1) (c .before .before .before .before .keep .ensures (c .before .before .before .before .before .before .before .before .before .args .records .now))
+returns c =
+    let args = c .before .before .before .before .before .before .before .before .before .args in
+    let keep = c .before .before .before .before .keep in
+    then-refused (keep .result) (args .records .now) (keep .last .1 .0) (puttingKept (args .k) (args .b) (args .c .bytes))
+    (args .records .now) (keep .last .1 .0) (c .enum-told .given .1) (keep .ensures (args .records .now))
 
 put-kept-requires : tie.Need-put-kept-requires
-put-kept-requires c κs = value-fits (c .before .before .before .before .before .before .before .before .before .before .before .before .args .b) (c .before .before .before .before .before .before .before .before .before .before .before .before .args .c) (c .before .before .before .before .before .before .before .before .before .before .before .before .args .records .now) (c .before .before .before .before .before .before .before .before .before .before .before .before .args .text .now) (c .before .before .before .before .before .before .before .before .before .before .before .before .args .value .now) _ _ (c .before .before .before .before .before .before .before .keep .ensures) (c .before .before .before .valued .given .1) (c .before .before .before .before .before .before .before .before .before .before .before .before .pre)
+put-kept-requires c κs =
+    let start = c .before .before .before .before .before .before .before .before .before .before .before .before in
+    let keep = c .before .before .before .before .before .before .before .keep in
+    value-fits (start .args .b) (start .args .c) (start .args .records .now) (start .args .text .now)
+    (start .args .value .now) _ _ (keep .ensures) (c .before .before .before .valued .given .1) (start .pre)
 
 same-length-2 : tie.Need-same-length-2
 same-length-2 c = search needs
@@ -31,7 +39,12 @@ same-length-3 : tie.Need-same-length-3
 same-length-3 c = search needs
 
 returns-2 : tie.Need-returns-2
-returns-2 c = c .before .before .put-kept .ensures ∙ then-done (c .before .before .before .before .before .before .before .before .before .before .keep .result) (c .before .before .before .before .before .before .before .before .before .before .before .before .before .before .before .args .records .now) (c .before .before .before .before .before .before .before .before .before .before .keep .last .1 .0) (puttingKept (c .before .before .before .before .before .before .before .before .before .before .before .before .before .before .before .args .k) (c .before .before .before .before .before .before .before .before .before .before .before .before .before .before .before .args .b) (c .before .before .before .before .before .before .before .before .before .before .before .before .before .before .before .args .c .bytes)) (c .before .before .before .before .before .before .valued .given .1) (c .before .before .before .before .before .before .before .before .before .before .keep .ensures (c .before .before .before .before .before .before .before .before .before .before .before .before .before .before .before .args .records .now))
+returns-2 c =
+    let args = c .before .before .before .before .before .before .before .before .before .before .before .before .before .before .before .args in
+    let keep = c .before .before .before .before .before .before .before .before .before .before .keep in
+    let valued = c .before .before .before .before .before .before .valued in
+    c .before .before .put-kept .ensures
+    ∙ then-done (keep .result) (args .records .now) (keep .last .1 .0) (puttingKept (args .k) (args .b) (args .c .bytes)) (valued .given .1) (keep .ensures (args .records .now))
 
 pub add-value-spec : {M : Type 1} → statement M
 add-value-spec =

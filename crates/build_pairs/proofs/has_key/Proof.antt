@@ -19,7 +19,10 @@ same-requires : tie.Need-same-requires
 same-requires c κs = search needs
 
 returns : tie.Need-returns
-returns c = own-key (c .before .before .before .before .before .before .before .args .text .now) (c .before .before .before .before .before .before .before .args .r .now) (c .before .before .before .before .before .before .before .args .key .now) (c .before .part-of .result .now) (c .before .before .before .field .ensures) (c .before .before .field2 .ensures) (c .before .part-of .ensures) (c .same .ensures)
+returns c =
+    let args = c .before .before .before .before .before .before .before .args in
+    own-key (args .text .now) (args .r .now) (args .key .now) (c .before .part-of .result .now)
+    (c .before .before .before .field .ensures) (c .before .before .field2 .ensures) (c .before .part-of .ensures) (c .same .ensures)
 
 pub has-key-spec : {M : Type 1} → statement M
 has-key-spec =

@@ -38,7 +38,12 @@ has-key-requires : tie.Need-has-key-requires Inv-loop μ-loop
 has-key-requires c κs = search needs
 
 returns : tie.Need-returns Inv-loop μ-loop
-returns c = sym (c .before .before .before .before .before .loop .inv ∙ key-here (c .before .before .before .before .before .before .before .before .before .args .text .now) (c .before .before .before .before .before .before .before .before .before .args .records .now) (c .before .before .before .before .before .before .before .before .before .args .key .now) (c .before .before .before .before .before .loop .i) (c .before .before .before .before .before .before .before .before .before .args .to) (c .before .before .before .before .loop-test .taken) (c .before .before .before .least .ensures) (c .before .has-key .ensures) (c .if1 .taken))
+returns c =
+    let args = c .before .before .before .before .before .before .before .before .before .args in
+    let loop = c .before .before .before .before .before .loop in
+    let loop-test = c .before .before .before .before .loop-test in
+    sym (loop .inv ∙ key-here (args .text .now) (args .records .now) (args .key .now) (loop .i) (args .to)
+    (loop-test .taken) (c .before .before .before .least .ensures) (c .before .has-key .ensures) (c .if1 .taken))
 
 add-i : tie.Need-add-i Inv-loop μ-loop
 add-i c = let h = c .before .before .before .before .loop-test .taken in let p = c .before .before .before .before .before .before .before .before .before .pre in omega arith
@@ -47,10 +52,17 @@ loop-less : tie.Need-loop-less Inv-loop μ-loop
 loop-less c = let h = c .before .before .before .before .loop-test .taken in omega arith
 
 loop-again : tie.Need-loop-again Inv-loop μ-loop
-loop-again c = c .before .before .before .before .before .loop .inv ∙ key-next (c .before .before .before .before .before .before .before .before .before .args .text .now) (c .before .before .before .before .before .before .before .before .before .args .records .now) (c .before .before .before .before .before .before .before .before .before .args .key .now) (c .before .before .before .before .before .loop .i) (c .before .before .before .before .before .before .before .before .before .args .to) (c .before .before .before .before .loop-test .taken) (c .before .before .before .least .ensures) (c .before .has-key .ensures) (c .if1 .left)
+loop-again c =
+    let args = c .before .before .before .before .before .before .before .before .before .args in
+    let loop = c .before .before .before .before .before .loop in
+    let loop-test = c .before .before .before .before .loop-test in
+    loop .inv ∙ key-next (args .text .now) (args .records .now) (args .key .now) (loop .i) (args .to)
+    (loop-test .taken) (c .before .before .before .least .ensures) (c .before .has-key .ensures) (c .if1 .left)
 
 returns-2 : tie.Need-returns-2 Inv-loop μ-loop
-returns-2 c = sym (c .before .loop .inv ∙ key-none (c .before .before .before .before .before .args .text .now) (c .before .before .before .before .before .args .records .now) (c .before .before .before .before .before .args .key .now) (c .before .loop .i) (c .before .before .before .before .before .args .to) (c .loop-test .left))
+returns-2 c =
+    let args = c .before .before .before .before .before .args in
+    sym (c .before .loop .inv ∙ key-none (args .text .now) (args .records .now) (args .key .now) (c .before .loop .i) (args .to) (c .loop-test .left))
 
 pub key-place-spec : {M : Type 1} → statement M
 key-place-spec =

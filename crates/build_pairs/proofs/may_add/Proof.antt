@@ -22,7 +22,11 @@ may-stand-behind-requires : tie.Need-may-stand-behind-requires
 may-stand-behind-requires c κs = search needs
 
 returns : tie.Need-returns
-returns c = may-be-added (c .before .before .before .before .before .before .args .b) (c .before .before .before .before .before .before .args .records .now) (c .before .before .before .before .before .before .args .k) (c .before .before .before .before .before .before .args .place) (⊎-elim (λ w. w .1 ∙ (let z = w .0 .taken in omega arith)) (λ w. w .1) (c .before .before .before .before .if1 .came)) (c .before .before .before .last-of .ensures) (c .before .before .is-record .ensures) (c .before .kind-at .ensures) (c .may-stand-behind .ensures)
+returns c =
+    let args = c .before .before .before .before .before .before .args in
+    let if1 = c .before .before .before .before .if1 in
+    may-be-added (args .b) (args .records .now) (args .k) (args .place) (⊎-elim (λ w. w .1 ∙ (let z = w .0 .taken in omega arith)) (λ w. w .1) (if1 .came))
+    (c .before .before .before .last-of .ensures) (c .before .before .is-record .ensures) (c .before .kind-at .ensures) (c .may-stand-behind .ensures)
 
 pub may-add-spec : {M : Type 1} → statement M
 may-add-spec =

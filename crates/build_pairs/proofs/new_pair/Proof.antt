@@ -16,16 +16,28 @@ same-length : tie.Need-same-length
 same-length c = search needs
 
 returns : tie.Need-returns
-returns c = new-refused (c .before .before .before .before .take-record .result) (c .before .before .before .before .before .before .before .args .k) (c .before .before .before .before .before .before .before .args .b) (c .before .before .before .before .before .before .before .args .records .now) (c .before .before .before .before .before .before .before .args .place) (c .before .before .before .before .before .before .before .args .x) (c .before .before .before .before .before .before .before .args .y) (c .before .before .before .before .take-record .last .1 .0) (c .before .before .before .before .take-record .ensures) (c .enum-told .given .1)
+returns c =
+    let args = c .before .before .before .before .before .before .before .args in
+    let take-record = c .before .before .before .before .take-record in
+    new-refused (take-record .result) (args .k) (args .b) (args .records .now) (args .place) (args .x) (args .y) (take-record .last .1 .0) (take-record .ensures) (c .enum-told .given .1)
 
 put-pair-in-requires : tie.Need-put-pair-in-requires
-put-pair-in-requires c κs = let f = new-fits (c .before .before .before .before .before .before .take-record .result) (c .before .before .before .before .before .before .before .before .before .args .k) (c .before .before .before .before .before .before .before .before .before .args .b) (c .before .before .before .before .before .before .before .before .before .args .records .now) (c .before .before .before .before .before .before .before .before .before .args .place) (c .before .before .before .before .before .before .before .before .before .args .x) (c .before .before .before .before .before .before .before .before .before .args .y) (c .before .before .before .before .before .before .take-record .last .1 .0) (c .before .before .before .before .before .before .take-record .ensures) (c .before .before .taken .given .1) (c .before .before .before .before .before .before .before .before .before .pre .0) in (f .0, f .1, f .2, c .before .before .before .before .before .before .before .before .before .pre .1, c .before .before .before .before .before .before .before .before .before .pre .2)
+put-pair-in-requires c κs =
+    let start = c .before .before .before .before .before .before .before .before .before in
+    let take-record = c .before .before .before .before .before .before .take-record in
+    let f = new-fits (take-record .result) (start .args .k) (start .args .b) (start .args .records .now) (start .args .place) (start .args .x) (start .args .y)
+    (take-record .last .1 .0) (take-record .ensures) (c .before .before .taken .given .1) (start .pre .0) in (f .0, f .1, f .2, start .pre .1, start .pre .2)
 
 same-length-2 : tie.Need-same-length-2
 same-length-2 c = search needs
 
 returns-2 : tie.Need-returns-2
-returns-2 c = new-done (c .before .before .before .before .before .before .before .before .before .take-record .result) (c .before .before .before .before .before .before .before .before .before .before .before .before .args .k) (c .before .before .before .before .before .before .before .before .before .before .before .before .args .b) (c .before .before .before .before .before .before .before .before .before .before .before .before .args .records .now) (c .before .before .before .before .before .before .before .before .before .before .before .before .args .place) (c .before .before .before .before .before .before .before .before .before .before .before .before .args .x) (c .before .before .before .before .before .before .before .before .before .before .before .before .args .y) (c .before .before .before .before .before .before .before .before .before .take-record .last .1 .0) (c .before .before .before .before .before .before .before .before .before .take-record .ensures) (c .before .before .before .before .before .taken .given .1) (c .before .before .put-pair-in .ensures)
+returns-2 c =
+    let args = c .before .before .before .before .before .before .before .before .before .before .before .before .args in
+    let take-record = c .before .before .before .before .before .before .before .before .before .take-record in
+    let taken = c .before .before .before .before .before .taken in
+    new-done (take-record .result) (args .k) (args .b) (args .records .now) (args .place) (args .x) (args .y)
+    (take-record .last .1 .0) (take-record .ensures) (taken .given .1) (c .before .before .put-pair-in .ensures)
 
 pub new-pair-spec : {M : Type 1} → statement M
 new-pair-spec =

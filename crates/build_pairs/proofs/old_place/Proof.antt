@@ -5,7 +5,9 @@ use Rattle.build_pairs.proofs.old_place.Statement.{statement}
 use Rattle.build_pairs.proofs.old_place.Tie as tie
 
 returns : tie.Need-returns
-returns c = λ t e. old-none (c .before .before .before .before .args .b) (c .before .before .before .before .args .records .now) (c .before .before .before .before .args .text .now) (c .before .before .before .before .args .key .now) (c .before .before .before .before .args .k) (c .before .before .before .before .args .place) t e (c .if1 .taken)
+returns c =
+    let args = c .before .before .before .before .args in
+    λ t e. old-none (args .b) (args .records .now) (args .text .now) (args .key .now) (args .k) (args .place) t e (c .if1 .taken)
 
 add-key-place : tie.Need-add-key-place
 add-key-place c = search needs
@@ -14,7 +16,10 @@ key-place-requires : tie.Need-key-place-requires
 key-place-requires c κs = search needs
 
 returns-2 : tie.Need-returns-2
-returns-2 c = λ t e. old-sought (c .before .before .before .before .before .before .before .args .b) (c .before .before .before .before .before .before .before .args .records .now) (c .before .before .before .before .before .before .before .args .text .now) (c .before .before .before .before .before .before .before .args .key .now) (c .before .before .before .before .before .before .before .args .k) (c .before .before .before .before .before .before .before .args .place) t e (c .before .before .before .if1 .left) (⊎-elim (λ w. own-suite (c .before .before .before .before .before .before .before .args .k) (c .before .before .before .before .before .before .before .args .b) (w .0 .taken) (w .1)) (λ w. own-case (c .before .before .before .before .before .before .before .args .k) (c .before .before .before .before .before .before .before .args .b) (w .0 .left) (w .1)) (c .before .before .if2 .came)) (c .key-place .ensures)
+returns-2 c =
+    let args = c .before .before .before .before .before .before .before .args in
+    λ t e. old-sought (args .b) (args .records .now) (args .text .now) (args .key .now) (args .k) (args .place) t e (c .before .before .before .if1 .left)
+    (⊎-elim (λ w. own-suite (args .k) (args .b) (w .0 .taken) (w .1)) (λ w. own-case (args .k) (args .b) (w .0 .left) (w .1)) (c .before .before .if2 .came)) (c .key-place .ensures)
 
 pub old-place-spec : {M : Type 1} → statement M
 old-place-spec = tie.close (tie.spec returns add-key-place key-place-requires returns-2)

@@ -13,10 +13,14 @@ is-main-requires : tie.Need-is-main-requires
 is-main-requires c κs = search needs
 
 returns : tie.Need-returns
-returns c = place-last (c .before .before .before .before .before .args .b) (c .before .before .before .before .before .args .words .now) (c .before .before .before .last-of .ensures) (c .before .before .kind-at .ensures) (c .before .is-main .ensures) (c .if1 .taken)
+returns c =
+    let args = c .before .before .before .before .before .args in
+    place-last (args .b) (args .words .now) (c .before .before .before .last-of .ensures) (c .before .before .kind-at .ensures) (c .before .is-main .ensures) (c .if1 .taken)
 
 returns-2 : tie.Need-returns-2
-returns-2 c = place-end (c .before .before .before .before .before .args .b) (c .before .before .before .before .before .args .words .now) (c .before .before .before .last-of .ensures) (c .before .before .kind-at .ensures) (c .before .is-main .ensures) (c .if1 .left)
+returns-2 c =
+    let args = c .before .before .before .before .before .args in
+    place-end (args .b) (args .words .now) (c .before .before .before .last-of .ensures) (c .before .before .kind-at .ensures) (c .before .is-main .ensures) (c .if1 .left)
 
 pub place-for-spec : {M : Type 1} → statement M
 place-for-spec =

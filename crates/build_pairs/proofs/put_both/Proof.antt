@@ -35,7 +35,12 @@ same-length : tie.Need-same-length
 same-length c = search needs
 
 returns : tie.Need-returns
-returns c = record-back (c .before .before .before .before .before .before .before .before .before .before .args .records .now) (c .before .before .before .before .before .before .before .before .before .before .args .i) (c .before .before .before .before .before .before .before .before .least .ensures) (λ r. putText word.value bit.value (c .before .before .before .before .before .before .before .before .before .before .args .y) (c .before .before .before .before .before .before .before .before .before .before .args .m) (putText word.key bit.key (c .before .before .before .before .before .before .before .before .before .before .args .x) (c .before .before .before .before .before .before .before .before .before .before .args .n) r)) (c .before .before .put-text2 .ensures ∙ ap (putText word.value bit.value (c .before .before .before .before .before .before .before .before .before .before .args .y) (c .before .before .before .before .before .before .before .before .before .before .args .m)) (c .before .before .before .before .before .put-text .ensures))
+returns c =
+    let args = c .before .before .before .before .before .before .before .before .before .before .args in
+    let least = c .before .before .before .before .before .before .before .before .least in
+    let put-text = c .before .before .before .before .before .put-text in
+    record-back (args .records .now) (args .i) (least .ensures) (λ r. putText word.value bit.value (args .y) (args .m) (putText word.key bit.key (args .x) (args .n) r))
+    (c .before .before .put-text2 .ensures ∙ ap (putText word.value bit.value (args .y) (args .m)) (put-text .ensures))
 
 pub put-both-spec : {M : Type 1} → statement M
 put-both-spec =

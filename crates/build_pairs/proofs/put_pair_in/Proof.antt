@@ -19,7 +19,10 @@ same-length : tie.Need-same-length
 same-length c = search needs
 
 returns : tie.Need-returns
-returns c = pair-last (c .before .before .before .before .before .before .before .args .b) (c .before .before .before .before .before .before .before .args .records .now) (c .before .before .before .before .before .before .before .args .place) (c .before .before .before .before .before .before .before .args .x) (c .before .before .before .before .before .before .before .args .y) (c .before .before .before .before .before .before .before .args .z) (c .before .before .before .before .before .last-of .ensures) (c .before .before .before .put-both .ensures) (c .if1 .taken)
+returns c =
+    let args = c .before .before .before .before .before .before .before .args in
+    let last-of = c .before .before .before .before .before .last-of in
+    pair-last (args .b) (args .records .now) (args .place) (args .x) (args .y) (args .z) (last-of .ensures) (c .before .before .before .put-both .ensures) (c .if1 .taken)
 
 exchange-requires : tie.Need-exchange-requires
 exchange-requires c κs = search needs
@@ -31,7 +34,12 @@ same-length-2 : tie.Need-same-length-2
 same-length-2 c = search needs
 
 returns-2 : tie.Need-returns-2
-returns-2 c = pair-before (c .before .before .before .before .before .before .before .before .before .before .before .args .b) (c .before .before .before .before .before .before .before .before .before .before .before .args .records .now) (c .before .before .before .before .before .before .before .before .before .before .before .args .place) (c .before .before .before .before .before .before .before .before .before .before .before .args .x) (c .before .before .before .before .before .before .before .before .before .before .before .args .y) (c .before .before .before .before .before .before .before .before .before .before .before .args .z) (c .before .before .before .before .before .before .before .before .before .last-of .ensures) (c .before .before .before .before .before .before .before .put-both .ensures) (c .before .before .before .before .if1 .left) (c .before .before .exchange .ensures)
+returns-2 c =
+    let args = c .before .before .before .before .before .before .before .before .before .before .before .args in
+    let last-of = c .before .before .before .before .before .before .before .before .before .last-of in
+    let put-both = c .before .before .before .before .before .before .before .put-both in
+    let if1 = c .before .before .before .before .if1 in
+    pair-before (args .b) (args .records .now) (args .place) (args .x) (args .y) (args .z) (last-of .ensures) (put-both .ensures) (if1 .left) (c .before .before .exchange .ensures)
 
 pub put-pair-in-spec : {M : Type 1} → statement M
 put-pair-in-spec =

@@ -30,7 +30,10 @@ same-length : tie.Need-same-length
 same-length c = search needs
 
 returns : tie.Need-returns
-returns c = record-back (c .before .before .before .before .before .before .args .records .now) (c .before .before .before .before .before .before .args .i) (c .before .before .before .before .least .ensures) (putPair word.value (c .before .before .before .before .before .before .args .y) (c .before .before .before .before .before .before .args .n)) (c .before .before .put-pair .ensures)
+returns c =
+    let args = c .before .before .before .before .before .before .args in
+    let least = c .before .before .before .before .least in
+    record-back (args .records .now) (args .i) (least .ensures) (putPair word.value (args .y) (args .n)) (c .before .before .put-pair .ensures)
 
 pub put-value-spec : {M : Type 1} → statement M
 put-value-spec =

@@ -13,7 +13,9 @@ same-length : tie.Need-same-length
 same-length c = search needs
 
 returns : tie.Need-returns
-returns c = λ text. no-record (c .before .before .before .before .before .args .kind) (c .before .before .before .before .before .args .b) (c .before .before .before .before .before .args .records .now) text (rw (c .before .room-for .ensures) at (c .if1 .taken))
+returns c =
+    let args = c .before .before .before .before .before .args in
+    λ text. no-record (args .kind) (args .b) (args .records .now) text (rw (c .before .room-for .ensures) at (c .if1 .taken))
 
 mul-put-field : tie.Need-mul-put-field
 mul-put-field c = search needs
@@ -31,7 +33,11 @@ same-length-2 : tie.Need-same-length-2
 same-length-2 c = search needs
 
 returns-2 : tie.Need-returns-2
-returns-2 c = λ text. one-record (c .before .before .before .before .before .before .before .before .before .args .kind) (c .before .before .before .before .before .before .before .before .before .args .b) (c .before .before .before .before .before .before .before .before .before .args .records .now) text (rw (c .before .before .before .before .before .room-for .ensures) at (c .before .before .before .before .if1 .left)) (c .before .before .put-field .ensures)
+returns-2 c =
+    let args = c .before .before .before .before .before .before .before .before .before .args in
+    let room-for = c .before .before .before .before .before .room-for in
+    let if1 = c .before .before .before .before .if1 in
+    λ text. one-record (args .kind) (args .b) (args .records .now) text (rw (room-for .ensures) at (if1 .left)) (c .before .before .put-field .ensures)
 
 pub take-record-spec : {M : Type 1} → statement M
 take-record-spec =

@@ -23,7 +23,9 @@ family-by-requires : tie.Need-family-by-requires
 family-by-requires c κs = search needs
 
 returns : tie.Need-returns
-returns c = λ text. family-runs (c .before .before .before .before .before .before .before .args .b) (c .before .before .before .before .before .before .before .args .words .now) text (c .before .before .before .if1 .taken) (c .family-by .ensures) (c .before .kind-at .ensures) (c .before .before .last-of .ensures)
+returns c =
+    let args = c .before .before .before .before .before .before .before .args in
+    λ text. family-runs (args .b) (args .words .now) text (c .before .before .before .if1 .taken) (c .family-by .ensures) (c .before .kind-at .ensures) (c .before .before .last-of .ensures)
 
 cast-least : tie.Need-cast-least
 cast-least c = search needs
@@ -53,7 +55,11 @@ family-by-requires-2 : tie.Need-family-by-requires-2
 family-by-requires-2 c κs = search needs
 
 returns-2 : tie.Need-returns-2
-returns-2 c = λ text. family-none (c .before .before .before .before .before .before .before .before .before .args .b) (c .before .before .before .before .before .before .before .before .before .args .words .now) text (c .before .before .before .before .before .if1 .left) (c .family-by2 .ensures) (c .before .has-bit .ensures) (record-part (c .before .before .before .before .before .before .before .before .before .args .words .now) (c .before .before .before .before .before .before .before .before .before .args .b .main) (c .before .before .before .least .ensures))
+returns-2 c =
+    let args = c .before .before .before .before .before .before .before .before .before .args in
+    let if1 = c .before .before .before .before .before .if1 in
+    λ text. family-none (args .b) (args .words .now) text (if1 .left) (c .family-by2 .ensures) (c .before .has-bit .ensures)
+    (record-part (args .words .now) (args .b .main) (c .before .before .before .least .ensures))
 
 pub family-of-spec : {M : Type 1} → statement M
 family-of-spec =

@@ -18,13 +18,17 @@ same-length : tie.Need-same-length
 same-length c = search needs
 
 returns : tie.Need-returns
-returns c = rw (c .before .before .before .before .enum-told .given .1) (c .before .before .put-bit .ensures)
+returns c =
+    let enum-told-step = c .before .before .before .before .enum-told in
+    rw (enum-told-step .given .1) (c .before .before .put-bit .ensures)
 
 same-length-2 : tie.Need-same-length-2
 same-length-2 c = search needs
 
 returns-2 : tie.Need-returns-2
-returns-2 c = rw (c .before .before .before .before .enum-told2 .given .1) (c .before .before .unmark-flaky .ensures)
+returns-2 c =
+    let enum-told2 = c .before .before .before .before .enum-told2 in
+    rw (enum-told2 .given .1) (c .before .before .unmark-flaky .ensures)
 
 pub flag-spec : {M : Type 1} → statement M
 flag-spec =

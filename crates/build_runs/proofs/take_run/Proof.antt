@@ -13,7 +13,9 @@ same-length : tie.Need-same-length
 same-length c = search needs
 
 returns : tie.Need-returns
-returns c = λ text. no-main (c .before .before .before .before .args .b) (c .before .before .before .before .args .records .now) text (c .before .before .before .before .args .k) (c .before .is-non-success .ensures text) (c .if1 .taken)
+returns c =
+    let args = c .before .before .before .before .args in
+    λ text. no-main (args .b) (args .records .now) text (args .k) (c .before .is-non-success .ensures text) (c .if1 .taken)
 
 family-of-requires : tie.Need-family-of-requires
 family-of-requires c κs = search needs
@@ -52,11 +54,19 @@ same-length-2 : tie.Need-same-length-2
 same-length-2 c = search needs
 
 returns-2 : tie.Need-returns-2
-returns-2 c = λ text.
-    let words = c .before .before .before .before .before .before .before .before .before .before .before .before .before .before .before .before .before .args .records .now in
-    let b = c .before .before .before .before .before .before .before .before .before .before .before .before .before .before .before .before .before .args .b in
-    let back = record-back words (b .main) (c .before .before .before .before .before .before .before .before .before .least .ensures) (unmarked bit.flaky) (c .before .before .before .before .before .before .before .unmark-flaky .ensures) in
-    to-main b words text (c .before .before .before .before .before .before .before .before .before .before .before .before .before .before .before .before .before .args .k) (c .before .before .before .before .before .before .before .before .before .before .before .before .before .before .is-non-success .ensures text) (c .before .before .before .before .before .before .before .before .before .before .before .before .before .if1 .left) (c .before .before .before .before .before .before .before .before .before .before .before .family-of .ensures text) back (c .before .before .before .run-kind .ensures) (c .before .before .take-record .ensures text)
+returns-2 c =
+    let args = c .before .before .before .before .before .before .before .before .before .before .before .before .before .before .before .before .before .args in
+    let is-non-success = c .before .before .before .before .before .before .before .before .before .before .before .before .before .before .is-non-success in
+    let if1 = c .before .before .before .before .before .before .before .before .before .before .before .before .before .if1 in
+    let family-of = c .before .before .before .before .before .before .before .before .before .before .before .family-of in
+    let least = c .before .before .before .before .before .before .before .before .before .least in
+    let unmark-flaky = c .before .before .before .before .before .before .before .unmark-flaky in
+    λ text.
+    let words = args .records .now in
+    let b = args .b in
+    let back = record-back words (b .main) (least .ensures) (unmarked bit.flaky) (unmark-flaky .ensures) in
+    to-main b words text (args .k) (is-non-success .ensures text) (if1 .left) (family-of .ensures text)
+    back (c .before .before .before .run-kind .ensures) (c .before .before .take-record .ensures text)
 
 pub take-run-spec : {M : Type 1} → statement M
 take-run-spec =

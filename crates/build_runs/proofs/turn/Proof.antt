@@ -18,7 +18,10 @@ same-length : tie.Need-same-length
 same-length c = search needs
 
 returns : tie.Need-returns
-returns c = c .before .before .put-field .ensures ∙ ap (set (c .before .before .before .before .before .before .before .before .args .r .now) 0) (c .before .before .before .turned-kind .ensures ∙ ap (turnedKind (c .before .before .before .before .before .before .before .before .args .family)) (c .before .before .before .before .field .ensures))
+returns c =
+    let args = c .before .before .before .before .before .before .before .before .args in
+    let field = c .before .before .before .before .field in
+    c .before .before .put-field .ensures ∙ ap (set (args .r .now) 0) (c .before .before .before .turned-kind .ensures ∙ ap (turnedKind (args .family)) (field .ensures))
 
 pub turn-spec : {M : Type 1} → statement M
 turn-spec =

@@ -13,7 +13,9 @@ same-length : tie.Need-same-length
 same-length c = search needs
 
 returns : tie.Need-returns
-returns c = λ text. turns-none (c .before .before .before .before .args .b) (c .before .before .before .before .args .records .now) text (c .before .is-non-success .ensures text) (c .before .before .before .before .args .family) (c .if1 .taken)
+returns c =
+    let args = c .before .before .before .before .args in
+    λ text. turns-none (args .b) (args .records .now) text (c .before .is-non-success .ensures text) (args .family) (c .if1 .taken)
 
 cast-from : tie.Need-cast-from
 cast-from c = search needs
@@ -25,15 +27,24 @@ cast-to : tie.Need-cast-to
 cast-to c = search needs
 
 turn-runs-requires : tie.Need-turn-runs-requires
-turn-runs-requires c κs = few-records (c .before .before .before .before .before .before .before .before .args .b) (c .before .before .before .before .before .before .before .before .args .records .now) [] (c .before .before .before .before .before .is-non-success .ensures []) (c .before .before .before .before .if1 .left)
+turn-runs-requires c κs =
+    let args = c .before .before .before .before .before .before .before .before .args in
+    let is-non-success = c .before .before .before .before .before .is-non-success in
+    let if1 = c .before .before .before .before .if1 in
+    few-records (args .b) (args .records .now) [] (is-non-success .ensures []) (if1 .left)
 
 same-length-2 : tie.Need-same-length-2
 same-length-2 c = search needs
 
 returns-2 : tie.Need-returns-2
-returns-2 c = λ text.
-    turns-runs (c .before .before .before .before .before .before .before .before .before .before .before .args .b) (c .before .before .before .before .before .before .before .before .before .before .before .args .records .now) text (c .before .before .before .before .before .before .before .before .is-non-success .ensures text) (c .before .before .before .before .before .before .before .before .before .before .before .args .family) (c .before .before .before .before .before .before .before .if1 .left)
-    (c .before .before .before .before .if2 .taken) (c .before .before .turn-runs .ensures)
+returns-2 c =
+    let args = c .before .before .before .before .before .before .before .before .before .before .before .args in
+    let is-non-success = c .before .before .before .before .before .before .before .before .is-non-success in
+    let if1 = c .before .before .before .before .before .before .before .if1 in
+    let if2 = c .before .before .before .before .if2 in
+    λ text.
+    turns-runs (args .b) (args .records .now) text (is-non-success .ensures text) (args .family) (if1 .left)
+    (if2 .taken) (c .before .before .turn-runs .ensures)
 
 cast-least : tie.Need-cast-least
 cast-least c = search needs
@@ -63,12 +74,18 @@ same-length-3 : tie.Need-same-length-3
 same-length-3 c = search needs
 
 returns-3 : tie.Need-returns-3
-returns-3 c = λ text.
-    let words = c .before .before .before .before .before .before .before .before .before .before .before .before .before .args .records .now in
-    let b = c .before .before .before .before .before .before .before .before .before .before .before .before .before .args .b in
-    let family = c .before .before .before .before .before .before .before .before .before .before .before .before .before .args .family in
-    let back = record-back words (b .main) (c .before .before .before .before .least .ensures) (flagged family) (c .before .before .flag .ensures) in
-    turns-flag b words text (c .before .before .before .before .before .before .before .before .before .before .is-non-success .ensures text) family (c .before .before .before .before .before .before .before .before .before .if1 .left) (c .before .before .before .before .before .before .if2 .left) back
+returns-3 c =
+    let args = c .before .before .before .before .before .before .before .before .before .before .before .before .before .args in
+    let is-non-success = c .before .before .before .before .before .before .before .before .before .before .is-non-success in
+    let if1 = c .before .before .before .before .before .before .before .before .before .if1 in
+    let if2 = c .before .before .before .before .before .before .if2 in
+    let least = c .before .before .before .before .least in
+    λ text.
+    let words = args .records .now in
+    let b = args .b in
+    let family = args .family in
+    let back = record-back words (b .main) (least .ensures) (flagged family) (c .before .before .flag .ensures) in
+    turns-flag b words text (is-non-success .ensures text) family (if1 .left) (if2 .left) back
 
 pub turn-case-spec : {M : Type 1} → statement M
 turn-case-spec =

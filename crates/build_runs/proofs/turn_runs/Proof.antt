@@ -44,7 +44,12 @@ loop-less : tie.Need-loop-less Inv-loop μ-loop
 loop-less c = omega arith
 
 loop-again : tie.Need-loop-again Inv-loop μ-loop
-loop-again c = turning-more (c .before .before .before .before .before .before .loop .inv) (c .before .before .before .before .before .loop-test .taken) (record-back (c .before .before .before .before .before .before .loop .records) (c .before .before .before .before .before .before .loop .i) (c .before .before .before .before .least .ensures) (turned (c .before .before .before .before .before .before .before .before .args .family)) (c .before .before .turn .ensures))
+loop-again c =
+    let args = c .before .before .before .before .before .before .before .before .args in
+    let loop = c .before .before .before .before .before .before .loop in
+    let loop-test = c .before .before .before .before .before .loop-test in
+    let least = c .before .before .before .before .least in
+    turning-more (loop .inv) (loop-test .taken) (record-back (loop .records) (loop .i) (least .ensures) (turned (args .family)) (c .before .before .turn .ensures))
 
 same-length : tie.Need-same-length Inv-loop μ-loop
 same-length c = c .before .loop .inv .same

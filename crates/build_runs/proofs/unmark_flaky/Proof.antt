@@ -11,7 +11,10 @@ field-requires : tie.Need-field-requires
 field-requires c κs = search needs
 
 sub-put-field : tie.Need-sub-put-field
-sub-put-field c = unmark-fits (c .before .before .before .before .before .before .before .args .r .now) (c .before .before .before .before .has-bit .ensures) (c .before .before .before .if1 .taken) (c .before .field .ensures)
+sub-put-field c =
+    let args = c .before .before .before .before .before .before .before .args in
+    let has-bit = c .before .before .before .before .has-bit in
+    unmark-fits (args .r .now) (has-bit .ensures) (c .before .before .before .if1 .taken) (c .before .field .ensures)
 
 put-field-requires : tie.Need-put-field-requires
 put-field-requires c κs = search needs
@@ -20,13 +23,20 @@ same-length : tie.Need-same-length
 same-length c = search needs
 
 returns : tie.Need-returns
-returns c = c .before .before .put-field .ensures ∙ unmark-put (c .before .before .before .before .before .before .before .before .before .before .args .r .now) (c .before .before .before .before .before .before .before .has-bit .ensures) (c .before .before .before .before .before .before .if1 .taken) (c .before .before .before .before .field .ensures)
+returns c =
+    let args = c .before .before .before .before .before .before .before .before .before .before .args in
+    let has-bit = c .before .before .before .before .before .before .before .has-bit in
+    let if1 = c .before .before .before .before .before .before .if1 in
+    let field = c .before .before .before .before .field in
+    c .before .before .put-field .ensures ∙ unmark-put (args .r .now) (has-bit .ensures) (if1 .taken) (field .ensures)
 
 same-length-2 : tie.Need-same-length-2
 same-length-2 c = search needs
 
 returns-2 : tie.Need-returns-2
-returns-2 c = unmark-none (c .before .before .before .before .args .r .now) (c .before .has-bit .ensures) (c .if1 .left)
+returns-2 c =
+    let args = c .before .before .before .before .args in
+    unmark-none (args .r .now) (c .before .has-bit .ensures) (c .if1 .left)
 
 pub unmark-flaky-spec : {M : Type 1} → statement M
 unmark-flaky-spec =

@@ -8,7 +8,9 @@ is-refused-requires : tie.Need-is-refused-requires
 is-refused-requires c κs = search needs
 
 returns : tie.Need-returns
-returns c = λ words. kept-foul (c .before .before .before .before .args .b) (c .before .before .before .before .args .text .now) (c .before .before .before .before .args .s .now) (c .before .before .before .before .args .lossy) (c .before .is-refused .ensures) (c .if1 .taken) words _
+returns c =
+    let args = c .before .before .before .before .args in
+    λ words. kept-foul (args .b) (args .text .now) (args .s .now) (args .lossy) (c .before .is-refused .ensures) (c .if1 .taken) words _
 
 least-requires : tie.Need-least-requires
 least-requires c κs = search needs
@@ -17,7 +19,11 @@ cast-fill : tie.Need-cast-fill
 cast-fill c = search needs
 
 returns-2 : tie.Need-returns-2
-returns-2 c = λ words. kept-behind (c .before .before .before .before .before .before .before .args .b) (c .before .before .before .before .before .before .before .args .text .now) (c .before .before .before .before .before .before .before .args .s .now) (c .before .before .before .before .before .before .before .args .lossy) (c .before .before .before .before .is-refused .ensures) (c .before .before .before .if1 .left) (c .before .before .least .ensures) (c .if2 .taken) words _
+returns-2 c =
+    let args = c .before .before .before .before .before .before .before .args in
+    let is-refused = c .before .before .before .before .is-refused in
+    λ words.
+    kept-behind (args .b) (args .text .now) (args .s .now) (args .lossy) (is-refused .ensures) (c .before .before .before .if1 .left) (c .before .before .least .ensures) (c .if2 .taken) words _
 
 part-store-text-start : tie.Need-part-store-text-start
 part-store-text-start c = search needs
@@ -38,19 +44,51 @@ same-length : tie.Need-same-length
 same-length c = search needs
 
 returns-3 : tie.Need-returns-3
-returns-3 c = λ words. kept-full (c .before .before .before .before .before .before .before .before .before .before .before .before .before .args .b) (c .before .before .before .before .before .before .before .before .before .before .before .before .before .args .text .now) (c .before .before .before .before .before .before .before .before .before .before .before .before .before .args .s .now) (c .before .before .before .before .before .before .before .before .before .before .before .before .before .args .lossy) (c .before .before .before .before .before .before .before .before .before .before .is-refused .ensures) (c .before .before .before .before .before .before .before .before .before .if1 .left) (c .before .before .before .before .before .before .before .before .least .ensures) (c .before .before .before .before .before .before .if2 .left) (c .enum-told .given .1) (c .before .before .before .before .store-text .ensures .0) words _
+returns-3 c =
+    let args = c .before .before .before .before .before .before .before .before .before .before .before .before .before .args in
+    let is-refused = c .before .before .before .before .before .before .before .before .before .before .is-refused in
+    let if1 = c .before .before .before .before .before .before .before .before .before .if1 in
+    let least = c .before .before .before .before .before .before .before .before .least in
+    let if2 = c .before .before .before .before .before .before .if2 in
+    let store-text = c .before .before .before .before .store-text in
+    λ words.
+    kept-full (args .b) (args .text .now) (args .s .now) (args .lossy) (is-refused .ensures) (if1 .left) (least .ensures) (if2 .left) (c .enum-told .given .1) (store-text .ensures .0) words _
 
 add-kept : tie.Need-add-kept
-add-kept c = let h = kept-end (c .before .before .before .before .before .before .before .before .before .before .before .before .before .before .args .b) (c .before .before .before .before .before .before .before .before .before .before .before .before .before .before .args .text .now) (c .before .before .before .before .before .before .before .before .before .before .before .before .before .before .args .s .now) (c .before .before .before .before .before .before .before .before .before .before .before .before .before .before .args .lossy) (c .before .before .before .before .before .before .before .before .before .before .before .is-refused .ensures) (c .before .before .before .before .before .before .before .before .before .before .if1 .left) (c .before .before .before .before .before .before .before .before .before .least .ensures) (c .before .before .before .before .before .before .before .if2 .left) (c .before .put .given .1) (c .before .before .before .before .before .store-text .ensures .0) in omega arith
+add-kept c =
+    let args = c .before .before .before .before .before .before .before .before .before .before .before .before .before .before .args in
+    let is-refused = c .before .before .before .before .before .before .before .before .before .before .before .is-refused in
+    let if1 = c .before .before .before .before .before .before .before .before .before .before .if1 in
+    let least = c .before .before .before .before .before .before .before .before .before .least in
+    let if2 = c .before .before .before .before .before .before .before .if2 in
+    let store-text = c .before .before .before .before .before .store-text in
+    let h = kept-end (args .b) (args .text .now) (args .s .now) (args .lossy) (is-refused .ensures) (if1 .left) (least .ensures) (if2 .left) (c .before .put .given .1) (store-text .ensures .0) in
+    omega arith
 
 cast-kept : tie.Need-cast-kept
-cast-kept c = let h = kept-end (c .before .before .before .before .before .before .before .before .before .before .before .before .before .before .args .b) (c .before .before .before .before .before .before .before .before .before .before .before .before .before .before .args .text .now) (c .before .before .before .before .before .before .before .before .before .before .before .before .before .before .args .s .now) (c .before .before .before .before .before .before .before .before .before .before .before .before .before .before .args .lossy) (c .before .before .before .before .before .before .before .before .before .before .before .is-refused .ensures) (c .before .before .before .before .before .before .before .before .before .before .if1 .left) (c .before .before .before .before .before .before .before .before .before .least .ensures) (c .before .before .before .before .before .before .before .if2 .left) (c .before .put .given .1) (c .before .before .before .before .before .store-text .ensures .0) in omega arith
+cast-kept c =
+    let args = c .before .before .before .before .before .before .before .before .before .before .before .before .before .before .args in
+    let is-refused = c .before .before .before .before .before .before .before .before .before .before .before .is-refused in
+    let if1 = c .before .before .before .before .before .before .before .before .before .before .if1 in
+    let least = c .before .before .before .before .before .before .before .before .before .least in
+    let if2 = c .before .before .before .before .before .before .before .if2 in
+    let store-text = c .before .before .before .before .before .store-text in
+    let h = kept-end (args .b) (args .text .now) (args .s .now) (args .lossy) (is-refused .ensures) (if1 .left) (least .ensures) (if2 .left) (c .before .put .given .1) (store-text .ensures .0) in
+    omega arith
 
 same-length-2 : tie.Need-same-length-2
 same-length-2 c = search needs
 
 returns-4 : tie.Need-returns-4
-returns-4 c = kept-done (c .before .before .before .before .before .before .before .before .before .before .before .before .before .before .args .b) (c .before .before .before .before .before .before .before .before .before .before .before .before .before .before .args .text .now) (c .before .before .before .before .before .before .before .before .before .before .before .before .before .before .args .s .now) (c .before .before .before .before .before .before .before .before .before .before .before .before .before .before .args .lossy) (c .before .before .before .before .before .before .before .before .before .before .before .is-refused .ensures) (c .before .before .before .before .before .before .before .before .before .before .if1 .left) (c .before .before .before .before .before .before .before .before .before .least .ensures) (c .before .before .before .before .before .before .before .if2 .left) (c .before .put .given .1) (c .before .before .before .before .before .store-text .ensures .0) (c .before .before .before .before .before .store-text .ensures .1)
+returns-4 c =
+    let args = c .before .before .before .before .before .before .before .before .before .before .before .before .before .before .args in
+    let is-refused = c .before .before .before .before .before .before .before .before .before .before .before .is-refused in
+    let if1 = c .before .before .before .before .before .before .before .before .before .before .if1 in
+    let least = c .before .before .before .before .before .before .before .before .before .least in
+    let if2 = c .before .before .before .before .before .before .before .if2 in
+    let store-text = c .before .before .before .before .before .store-text in
+    kept-done (args .b) (args .text .now) (args .s .now) (args .lossy) (is-refused .ensures) (if1 .left)
+    (least .ensures) (if2 .left) (c .before .put .given .1) (store-text .ensures .0) (store-text .ensures .1)
 
 pub keep-spec : {M : Type 1} → statement M
 keep-spec =

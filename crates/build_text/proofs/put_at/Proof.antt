@@ -12,7 +12,10 @@ same-length : tie.Need-same-length
 same-length c = search needs
 
 returns : tie.Need-returns
-returns c = put-nowhere (c .before .before .before .before .before .before .args .b) (c .before .before .before .before .before .before .args .records .now) (c .before .before .before .before .before .before .args .text .now) (c .before .before .before .before .before .before .args .s .now) (c .before .before .before .before .before .before .args .i) (c .before .before .before .before .before .before .args .o) (c .before .before .before .before .before .before .args .k) (c .before .before .before .before .before .before .args .lossy) (sym (c .before .is-record .ensures) ∙ not-true (c .before .is-record .result) (c .if1 .taken)) _ _
+returns c =
+    let args = c .before .before .before .before .before .before .args in
+    put-nowhere (args .b) (args .records .now) (args .text .now) (args .s .now) (args .i) (args .o) (args .k)
+    (args .lossy) (sym (c .before .is-record .ensures) ∙ not-true (c .before .is-record .result) (c .if1 .taken)) _ _
 
 keep-requires : tie.Need-keep-requires
 keep-requires c κs = search needs
@@ -30,10 +33,23 @@ same-length-3 : tie.Need-same-length-3
 same-length-3 c = search needs
 
 returns-2 : tie.Need-returns-2
-returns-2 c = put-refused (c .before .before .before .before .before .before .before .before .before .before .before .before .args .b) (c .before .before .before .before .before .before .before .before .before .before .before .before .args .records .now) (c .before .before .before .before .before .before .before .before .before .before .before .before .args .text .now) (c .before .before .before .before .before .before .before .before .before .before .before .before .args .s .now) (c .before .before .before .before .before .before .before .before .before .before .before .before .args .i) (c .before .before .before .before .before .before .before .before .before .before .before .before .args .o) (c .before .before .before .before .before .before .before .before .before .before .before .before .args .k) (c .before .before .before .before .before .before .before .before .before .before .before .before .args .lossy) (sym (c .before .before .before .before .before .before .before .is-record .ensures) ∙ not-false (c .before .before .before .before .before .before .before .is-record .result) (c .before .before .before .before .before .before .if1 .left)) _ _ (c .before .before .before .before .keep .ensures) (c .enum-told .given .1)
+returns-2 c =
+    let args = c .before .before .before .before .before .before .before .before .before .before .before .before .args in
+    let is-record = c .before .before .before .before .before .before .before .is-record in
+    let if1 = c .before .before .before .before .before .before .if1 in
+    let keep = c .before .before .before .before .keep in
+    put-refused (args .b) (args .records .now) (args .text .now) (args .s .now) (args .i) (args .o) (args .k) (args .lossy)
+    (sym (is-record .ensures) ∙ not-false (is-record .result) (if1 .left)) _ _ (keep .ensures) (c .enum-told .given .1)
 
 sub-put-into : tie.Need-sub-put-into
-sub-put-into c = put-longer (c .before .before .before .before .before .before .before .before .before .before .before .before .before .before .before .before .args .b) (c .before .before .before .before .before .before .before .before .before .before .before .before .before .before .before .before .args .records .now) (c .before .before .before .before .before .before .before .before .before .before .before .before .before .before .before .before .args .text .now) (c .before .before .before .before .before .before .before .before .before .before .before .before .before .before .before .before .args .s .now) (c .before .before .before .before .before .before .before .before .before .before .before .before .before .before .before .before .args .i) (c .before .before .before .before .before .before .before .before .before .before .before .before .before .before .before .before .args .o) (c .before .before .before .before .before .before .before .before .before .before .before .before .before .before .before .before .args .k) (c .before .before .before .before .before .before .before .before .before .before .before .before .before .before .before .before .args .lossy) (sym (c .before .before .before .before .before .before .before .before .before .before .before .is-record .ensures) ∙ not-false (c .before .before .before .before .before .before .before .before .before .before .before .is-record .result) (c .before .before .before .before .before .before .before .before .before .before .if1 .left)) _ _ (c .before .before .before .before .before .before .before .before .keep .ensures) (c .before .before .before .before .kept .given .1)
+sub-put-into c =
+    let args = c .before .before .before .before .before .before .before .before .before .before .before .before .before .before .before .before .args in
+    let is-record = c .before .before .before .before .before .before .before .before .before .before .before .is-record in
+    let if1 = c .before .before .before .before .before .before .before .before .before .before .if1 in
+    let keep = c .before .before .before .before .before .before .before .before .keep in
+    let kept = c .before .before .before .before .kept in
+    put-longer (args .b) (args .records .now) (args .text .now) (args .s .now) (args .i) (args .o) (args .k) (args .lossy)
+    (sym (is-record .ensures) ∙ not-false (is-record .result) (if1 .left)) _ _ (keep .ensures) (kept .given .1)
 
 put-into-requires : tie.Need-put-into-requires
 put-into-requires c κs = search needs
@@ -45,7 +61,14 @@ same-length-5 : tie.Need-same-length-5
 same-length-5 c = search needs
 
 returns-3 : tie.Need-returns-3
-returns-3 c = put-done (c .before .before .before .before .before .before .before .before .before .before .before .before .before .before .before .before .before .before .before .args .b) (c .before .before .before .before .before .before .before .before .before .before .before .before .before .before .before .before .before .before .before .args .records .now) (c .before .before .before .before .before .before .before .before .before .before .before .before .before .before .before .before .before .before .before .args .text .now) (c .before .before .before .before .before .before .before .before .before .before .before .before .before .before .before .before .before .before .before .args .s .now) (c .before .before .before .before .before .before .before .before .before .before .before .before .before .before .before .before .before .before .before .args .i) (c .before .before .before .before .before .before .before .before .before .before .before .before .before .before .before .before .before .before .before .args .o) (c .before .before .before .before .before .before .before .before .before .before .before .before .before .before .before .before .before .before .before .args .k) (c .before .before .before .before .before .before .before .before .before .before .before .before .before .before .before .before .before .before .before .args .lossy) (sym (c .before .before .before .before .before .before .before .before .before .before .before .before .before .before .is-record .ensures) ∙ not-false (c .before .before .before .before .before .before .before .before .before .before .before .before .before .before .is-record .result) (c .before .before .before .before .before .before .before .before .before .before .before .before .before .if1 .left)) _ _ (c .before .before .before .before .before .before .before .before .before .before .before .keep .ensures) (c .before .before .before .before .before .before .before .kept .given .1) (c .before .before .put-into .ensures)
+returns-3 c =
+    let at-is-record = c .before .before .before .before .before .before .before .before .before .before .before .before .before .before in
+    let args = at-is-record .before .before .before .before .before .args in
+    let if1 = c .before .before .before .before .before .before .before .before .before .before .before .before .before .if1 in
+    let keep = c .before .before .before .before .before .before .before .before .before .before .before .keep in
+    let kept = c .before .before .before .before .before .before .before .kept in
+    put-done (args .b) (args .records .now) (args .text .now) (args .s .now) (args .i) (args .o) (args .k) (args .lossy)
+    (sym (at-is-record .is-record .ensures) ∙ not-false (at-is-record .is-record .result) (if1 .left)) _ _ (keep .ensures) (kept .given .1) (c .before .before .put-into .ensures)
 
 pub put-at-spec : {M : Type 1} → statement M
 put-at-spec =

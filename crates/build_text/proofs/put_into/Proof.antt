@@ -8,7 +8,8 @@ mul-at : tie.Need-mul-at
 mul-at c = search needs
 
 returns : tie.Need-returns
-returns c = record-behind (c .before .before .args .i) (c .before .before .args .records .now) (putText (c .before .before .args .o) (c .before .before .args .k) (c .before .before .args .start) (c .before .before .args .n)) (put-nothing (c .before .before .args .o) (c .before .before .args .k) (c .before .before .args .start) (c .before .before .args .n)) (c .if1 .taken)
+returns c = record-behind (c .before .before .args .i) (c .before .before .args .records .now) (putText (c .before .before .args .o) (c .before .before .args .k) (c .before .before .args .start)
+    (c .before .before .args .n)) (put-nothing (c .before .before .args .o) (c .before .before .args .k) (c .before .before .args .start) (c .before .before .args .n)) (c .if1 .taken)
 
 mul-put-text : tie.Need-mul-put-text
 mul-put-text c = search needs
@@ -29,7 +30,9 @@ same-length : tie.Need-same-length
 same-length c = search needs
 
 returns-2 : tie.Need-returns-2
-returns-2 c = record-back (c .before .before .before .before .before .before .args .i) (c .before .before .before .before .before .before .args .records .now) (putText (c .before .before .before .before .before .before .args .o) (c .before .before .before .before .before .before .args .k) (c .before .before .before .before .before .before .args .start) (c .before .before .before .before .before .before .args .n)) (c .before .before .put-text .ensures)
+returns-2 c =
+    let args = c .before .before .before .before .before .before .args in
+    record-back (args .i) (args .records .now) (putText (args .o) (args .k) (args .start) (args .n)) (c .before .before .put-text .ensures)
 
 pub put-into-spec : {M : Type 1} → statement M
 put-into-spec =

@@ -10,7 +10,9 @@ enum-told : tie.Need-enum-told
 enum-told c = search needs
 
 returns : tie.Need-returns
-returns c = named-refused (c .before .before .before .before .before .args .step) (c .before .before .before .before .before .args .records .now) (c .before .before .before .before .before .args .text .now) (c .before .before .before .before .before .args .name .now) (c .enum-told .given .1)
+returns c =
+    let args = c .before .before .before .before .before .args in
+    named-refused (args .step) (args .records .now) (args .text .now) (args .name .now) (c .enum-told .given .1)
 
 last-of-requires : tie.Need-last-of-requires
 last-of-requires c κs = search needs
@@ -25,7 +27,12 @@ same-length-2 : tie.Need-same-length-2
 same-length-2 c = search needs
 
 returns-2 : tie.Need-returns-2
-returns-2 c = named-done (c .before .before .before .before .before .before .before .before .before .before .before .before .before .before .args .step) (c .before .before .before .before .before .before .before .before .before .before .before .before .before .before .args .records .now) (c .before .before .before .before .before .before .before .before .before .before .before .before .before .before .args .text .now) (c .before .before .before .before .before .before .before .before .before .before .before .before .before .before .args .name .now) (c .before .before .before .before .before .before .before .before .before .step .given .1) (c .before .before .before .before .before .last-of .ensures) (c .before .before .before .before .put-at .ensures)
+returns-2 c =
+    let args = c .before .before .before .before .before .before .before .before .before .before .before .before .before .before .args in
+    let step = c .before .before .before .before .before .before .before .before .before .step in
+    let last-of = c .before .before .before .before .before .last-of in
+    let put-at = c .before .before .before .before .put-at in
+    named-done (args .step) (args .records .now) (args .text .now) (args .name .now) (step .given .1) (last-of .ensures) (put-at .ensures)
 
 pub put-name-spec : {M : Type 1} → statement M
 put-name-spec =

@@ -18,9 +18,10 @@ same-length-2 c = search needs
 
 returns : tie.Need-returns
 returns c =
+    let settle = c .before .before .before .before .settle in
     let a = c .before .before .before .before .before .before .before .before .before .before .before .before .before .before .before .before .before .args in
     let p = c .before .before .before .before .before .before .before .before .before .before .before .write-field in
-    ends (now (a .records)) (now (a .text)) (p .result) (p .last .1 .0) (p .last .1 .1 .0) (p .ensures) (p .kept .1 .0) (p .kept .1 .1 .0) (c .before .before .before .before .settle .ensures)
+    ends (now (a .records)) (now (a .text)) (p .result) (p .last .1 .0) (p .last .1 .1 .0) (p .ensures) (p .kept .1 .0) (p .kept .1 .1 .0) (settle .ensures)
 
 pub set-output-lossy-spec : {M : Type 1} → statement M
 set-output-lossy-spec =

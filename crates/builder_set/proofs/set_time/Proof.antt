@@ -24,9 +24,11 @@ same-length-2 c = search needs
 returns : tie.Need-returns
 unfolding setTime
 returns c =
+    let mark-of = c .before .before .before .before .before .before .before .before .before .before .mark-of in
+    let settle = c .before .before .before .before .settle in
     let a = c .before .before .before .before .before .before .before .before .before .before .before .before .before .before .args in
     let p = c .before .before .before .before .before .before .before .before .before .clock in
-    ends (now (a .records)) (now (a .text)) (p .result) (p .last .1 .0) (now (a .text)) (rw (c .before .before .before .before .before .before .before .before .before .before .mark-of .ensures) at (p .ensures (now (a .text)))) (p .kept .1 .0) refl (c .before .before .before .before .settle .ensures)
+    ends (now (a .records)) (now (a .text)) (p .result) (p .last .1 .0) (now (a .text)) (rw (mark-of .ensures) at (p .ensures (now (a .text)))) (p .kept .1 .0) refl (settle .ensures)
 
 pub set-time-spec : {M : Type 1} → statement M
 set-time-spec =

@@ -22,9 +22,11 @@ same-length c = search needs
 
 returns : tie.Need-returns
 returns c =
+    let mark-of = c .before .before .before .before .before .mark-of in
+    let is-output = c .before .before .before .before .is-output in
     let a = c .before .before .before .before .before .before .before .before .before .args in
     let d : Draft = record { builder = a .b; words = now (a .records); text = now (a .text) } in
-    let same = apt-by (a .lossy) (a .element) (a .field) (now (a .s)) d (c .before .before .before .before .before .mark-of .ensures) (c .before .before .kind-at .ensures) (c .before .before .before .before .is-output .ensures) (c .before .has-text .ensures) in
+    let same = apt-by (a .lossy) (a .element) (a .field) (now (a .s)) d (mark-of .ensures) (c .before .before .kind-at .ensures) (is-output .ensures) (c .before .has-text .ensures) in
     field-lacking (a .lossy) (a .element) (a .field) (now (a .s)) d same (c .if1 .taken) (now (a .records)) (now (a .text))
 
 word-for-requires : tie.Need-word-for-requires
@@ -44,10 +46,18 @@ same-length-3 c = search needs
 
 returns-2 : tie.Need-returns-2
 returns-2 c =
+    let mark-of = c .before .before .before .before .before .before .before .before .before .before .before .before .before .before .mark-of in
+    let is-output = c .before .before .before .before .before .before .before .before .before .before .before .before .before .is-output in
+    let kind-at = c .before .before .before .before .before .before .before .before .before .before .before .kind-at in
+    let has-text = c .before .before .before .before .before .before .before .before .before .before .has-text in
+    let if1 = c .before .before .before .before .before .before .before .before .before .if1 in
+    let word-for = c .before .before .before .before .before .before .word-for in
+    let bit-for = c .before .before .before .before .before .bit-for in
+    let put-at = c .before .before .before .before .put-at in
     let a = c .before .before .before .before .before .before .before .before .before .before .before .before .before .before .before .before .before .before .args in
     let d : Draft = record { builder = a .b; words = now (a .records); text = now (a .text) } in
-    let same = apt-by (a .lossy) (a .element) (a .field) (now (a .s)) d (c .before .before .before .before .before .before .before .before .before .before .before .before .before .before .mark-of .ensures) (c .before .before .before .before .before .before .before .before .before .before .before .kind-at .ensures) (c .before .before .before .before .before .before .before .before .before .before .before .before .before .is-output .ensures) (c .before .before .before .before .before .before .before .before .before .before .has-text .ensures) in
-    field-put (a .lossy) (a .element) (a .field) (now (a .s)) d same (c .before .before .before .before .before .before .before .before .before .if1 .left) (c .before .before .before .before .before .before .before .before .before .before .before .before .before .before .mark-of .ensures) (c .before .before .before .before .before .before .word-for .ensures) (c .before .before .before .before .before .bit-for .ensures) (c .before .before .before .before .put-at .ensures)
+    let same = apt-by (a .lossy) (a .element) (a .field) (now (a .s)) d (mark-of .ensures) (kind-at .ensures) (is-output .ensures) (has-text .ensures) in
+    field-put (a .lossy) (a .element) (a .field) (now (a .s)) d same (if1 .left) (mark-of .ensures) (word-for .ensures) (bit-for .ensures) (put-at .ensures)
 
 pub write-field-spec : {M : Type 1} → statement M
 write-field-spec =

@@ -21,7 +21,8 @@ unfolding digit
 returns-2 c = simp (c .before .if1 .left, c .if2 .taken)
 
 sub-result-3 : tie.Need-sub-result-3
-sub-result-3 c = let a = c .before .before .before .args in omega (arith, leb-true 0x41 (a .b) (and-eq-true-iff (leb 0x41 (a .b)) _ .0 (and-eq-true-iff (eqb (a .base) 16) _ .0 (c .if3 .taken) .1) .0))
+sub-result-3 c =
+    let a = c .before .before .before .args in omega (arith, leb-true 0x41 (a .b) (and-eq-true-iff (leb 0x41 (a .b)) _ .0 (and-eq-true-iff (eqb (a .base) 16) _ .0 (c .if3 .taken) .1) .0))
 
 returns-3 : tie.Need-returns-3
 unfolding digit

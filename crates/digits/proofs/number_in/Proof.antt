@@ -27,24 +27,36 @@ digit-of-requires : tie.Need-digit-of-requires Inv-loop μ-loop
 digit-of-requires c κs = search needs
 
 returns-2 : tie.Need-returns-2 Inv-loop μ-loop
-returns-2 c = reading-other (c .before .before .before .before .loop .inv) _ (c .before .before .before .loop-test .taken) (c .before .digit-of .ensures) (c .if2 .taken)
+returns-2 c =
+    let loop = c .before .before .before .before .loop in
+    reading-other (loop .inv) _ (c .before .before .before .loop-test .taken) (c .before .digit-of .ensures) (c .if2 .taken)
 
 returns-3 : tie.Need-returns-3 Inv-loop μ-loop
-returns-3 c = reading-large (c .before .before .before .before .before .loop .inv) _ (c .before .before .before .before .loop-test .taken) (c .before .before .digit-of .ensures) (omega arith) (omega arith)
+returns-3 c =
+    let loop = c .before .before .before .before .before .loop in
+    let loop-test = c .before .before .before .before .loop-test in
+    reading-large (loop .inv) _ (loop-test .taken) (c .before .before .digit-of .ensures) (omega arith) (omega arith)
 
 div-if4 : tie.Need-div-if4 Inv-loop μ-loop
 div-if4 c = omega arith
 
 returns-4 : tie.Need-returns-4 Inv-loop μ-loop
 returns-4 c =
-    let p : 0 < c .before .before .before .before .before .before .before .before .before .args .base = omega arith in
+    let args = c .before .before .before .before .before .before .before .before .before .args in
+    let loop = c .before .before .before .before .before .before .loop in
+    let loop-test = c .before .before .before .before .before .loop-test in
+    let p : 0 < args .base = omega arith in
     let k = div-lt-iff-lt-mul p .0 (c .if4 .taken) in
-    reading-large (c .before .before .before .before .before .before .loop .inv) _ (c .before .before .before .before .before .loop-test .taken) (c .before .before .before .digit-of .ensures) p (omega arith)
+    reading-large (loop .inv) _ (loop-test .taken) (c .before .before .before .digit-of .ensures) p (omega arith)
 
 -- past the tests, the next number is in range
-next-fits : (c : tie.Else4 Inv-loop μ-loop) → c .before .before .before .before .before .before .loop .v * c .before .before .before .before .before .before .before .before .before .args .base + c .before .before .before .digit-of .result ≤ c .before .before .before .before .before .before .before .before .before .args .most
+next-fits : (c : tie.Else4 Inv-loop μ-loop) →
+    let args = c .before .before .before .before .before .before .before .before .before .args in
+    let loop = c .before .before .before .before .before .before .loop in
+    loop .v * args .base + c .before .before .before .digit-of .result ≤ args .most
 next-fits c =
-    let p : 0 < c .before .before .before .before .before .before .before .before .before .args .base = omega arith in
+    let args = c .before .before .before .before .before .before .before .before .before .args in
+    let p : 0 < args .base = omega arith in
     let k = le-div-iff-mul-le p .0 (c .if4 .left) in
     omega arith
 
@@ -61,7 +73,10 @@ loop-less : tie.Need-loop-less Inv-loop μ-loop
 loop-less c = omega arith
 
 loop-again : tie.Need-loop-again Inv-loop μ-loop
-loop-again c = reading-more (c .before .before .before .before .before .before .loop .inv) _ (c .before .before .before .before .before .loop-test .taken) (c .before .before .before .digit-of .ensures) (c .before .before .if2 .left) (next-fits c)
+loop-again c =
+    let loop = c .before .before .before .before .before .before .loop in
+    let loop-test = c .before .before .before .before .before .loop-test in
+    reading-more (loop .inv) _ (loop-test .taken) (c .before .before .before .digit-of .ensures) (c .before .before .if2 .left) (next-fits c)
 
 returns-5 : tie.Need-returns-5 Inv-loop μ-loop
 returns-5 c = reading-done (c .before .loop .inv) (c .loop-test .left) (omega arith)

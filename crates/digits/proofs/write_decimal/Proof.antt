@@ -17,9 +17,11 @@ same-length : tie.Need-same-length
 same-length c = search needs
 
 returns : tie.Need-returns
-returns c = let o = c .before .before .before .before .before .before .args .out .now in
+returns c =
+    let places-of = c .before .before .before .before .places-of in
+    let o = c .before .before .before .before .before .before .args .out .now in
     let e = c .before .before .write-digits .ensures in
-    let f = decimal-last _ _ (c .before .before .before .before .places-of .ensures) in
+    let f = decimal-last _ _ (places-of .ensures) in
     (e .0 ∙ ap (placing cause.OutputFull (length o)) f, e .1 ∙ ap (laid o) f)
 
 pub write-decimal-spec : {M : Type 1} → statement M

@@ -27,9 +27,12 @@ same-length : tie.Need-same-length
 same-length c = search needs
 
 returns : tie.Need-returns
-returns c = let o = c .before .before .before .before .before .before .before .before .args .out .now in
+returns c =
+    let at-most-twenty = c .before .before .before .before .before .before .at-most-twenty in
+    let spell = c .before .before .before .before .before .spell in
+    let o = c .before .before .before .before .before .before .before .before .args .out .now in
     let e = c .before .before .copy-into .ensures in
-    let f = spelt _ _ _ _ (c .before .before .before .before .before .before .at-most-twenty .ensures) (c .before .before .before .before .before .spell .ensures) in
+    let f = spelt _ _ _ _ (at-most-twenty .ensures) (spell .ensures) in
     (e .0 ∙ ap (placing cause.OutputFull (length o)) f, e .1 ∙ ap (laid o) f)
 
 pub write-digits-spec : {M : Type 1} → statement M

@@ -21,11 +21,13 @@ abbrev μ-loop : tie.MeasureT-loop
 μ-loop out₀ s i₀ k₀ out i k = length s - i
 
 -- the byte at hand is marked: its backslash comes next
-to-mark : (c : tie.After-is-marked Inv-loop μ-loop) → c .is-marked .result ≡ true → let l = c .before .before .before in let a = l .before .before .before .args in Coming listed (a .out .now) (l .loop .out) (l .loop .k) (a .s .now) (l .loop .i) (92 ∷ letter (getD (a .s .now) (l .loop .i) 0) ∷ [])
+to-mark : (c : tie.After-is-marked Inv-loop μ-loop) → c .is-marked .result ≡ true → let l = c .before .before .before in let a = l .before .before .before .args in
+    Coming listed (a .out .now) (l .loop .out) (l .loop .k) (a .s .now) (l .loop .i) (92 ∷ letter (getD (a .s .now) (l .loop .i) 0) ∷ [])
 to-mark c t = let l = c .before .before .before .loop in coming listed _ (l .i) (l .inv .1) (c .before .before .loop-test .taken) (listed-marked _ (sym (c .is-marked .ensures) ∙ t))
 
 -- where both ways meet, its letter comes next
-to-letter : (c : tie.Joined1 Inv-loop μ-loop) → let l = c .before .before .before .before in let a = l .before .before .before .args in Coming listed (a .out .now) (c .if1 .out) (c .if1 .k) (a .s .now) (l .loop .i) (letter (getD (a .s .now) (l .loop .i) 0) ∷ [])
+to-letter : (c : tie.Joined1 Inv-loop μ-loop) → let l = c .before .before .before .before in let a = l .before .before .before .args in
+    Coming listed (a .out .now) (c .if1 .out) (c .if1 .k) (a .s .now) (l .loop .i) (letter (getD (a .s .now) (l .loop .i) 0) ∷ [])
 to-letter c =
     let l = c .before .before .before .before .loop in
     ⊎-elim
@@ -46,7 +48,9 @@ is-marked-requires : tie.Need-is-marked-requires Inv-loop μ-loop
 is-marked-requires c κs = search needs
 
 same-length : tie.Need-same-length Inv-loop μ-loop
-same-length c = c .before .before .before .before .before .loop .inv .1 .same
+same-length c =
+    let loop = c .before .before .before .before .before .loop in
+    loop .inv .1 .same
 
 returns : tie.Need-returns Inv-loop μ-loop
 returns c = laying-full cause.OutputFull (to-mark (c .before .before) (c .before .if1 .taken)) (c .if2 .taken)

@@ -28,10 +28,15 @@ same-length : tie.Need-same-length
 same-length c = search needs
 
 returns : tie.Need-returns
-returns c = let a = c .before .before .before .before .before .before .before .before .before .before .before .before .before .before .before .before .before .before .before .args in
-    let l : length (c .before .before .before .before .before .before .before .before .before .put-line .last .0) ≡ length (a .out .now) = search needs in
-    let p = rw (c .before .before .before .before .before .enum-told .given .1) at (c .before .before .before .before .before .before .before .before .before .put-line .ensures) in
-    short-line (a .events .now) (a .attributes .now) (a .source .now) (a .refusal) (length (a .out .now)) (c .refuse .ensures) (c .before .before .before .before .before .before .before .before .before .before .before .before .before .clear .ensures) p (c .before .before .before .clear2 .ensures ∙ ap zeros l)
+returns c =
+    let clear = c .before .before .before .before .before .before .before .before .before .before .before .before .before .clear in
+    let put-line = c .before .before .before .before .before .before .before .before .before .put-line in
+    let enum-told-step = c .before .before .before .before .before .enum-told in
+    let a = c .before .before .before .before .before .before .before .before .before .before .before .before .before .before .before .before .before .before .before .args in
+    let l : length (put-line .last .0) ≡ length (a .out .now) = search needs in
+    let p = rw (enum-told-step .given .1) at (put-line .ensures) in
+    short-line (a .events .now) (a .attributes .now) (a .source .now) (a .refusal) (length (a .out .now))
+    (c .refuse .ensures) (clear .ensures) p (c .before .before .before .clear2 .ensures ∙ ap zeros l)
 
 no-refusal-requires : tie.Need-no-refusal-requires
 no-refusal-requires c κs = search needs
@@ -40,9 +45,12 @@ same-length-2 : tie.Need-same-length-2
 same-length-2 c = search needs
 
 returns-2 : tie.Need-returns-2
-returns-2 c = let a = c .before .before .before .before .before .before .before .before .before .before .before .before .before .before .before .before .args in
-    let p = rw (c .before .before .put .given .1) at (c .before .before .before .before .before .before .put-line .ensures) in
-    whole-line (a .events .now) (a .attributes .now) (a .source .now) (a .refusal) (length (a .out .now)) (c .no-refusal .ensures) (c .before .before .before .before .before .before .before .before .before .before .clear .ensures) p
+returns-2 c =
+    let clear = c .before .before .before .before .before .before .before .before .before .before .clear in
+    let put-line = c .before .before .before .before .before .before .put-line in
+    let a = c .before .before .before .before .before .before .before .before .before .before .before .before .before .before .before .before .args in
+    let p = rw (c .before .before .put .given .1) at (put-line .ensures) in
+    whole-line (a .events .now) (a .attributes .now) (a .source .now) (a .refusal) (length (a .out .now)) (c .no-refusal .ensures) (clear .ensures) p
 
 pub explain-spec : {M : Type 1} → statement M
 explain-spec =

@@ -42,11 +42,29 @@ put-requires-3 : tie.Need-put-requires-3
 put-requires-3 c κs = search needs
 
 same-length : tie.Need-same-length
-same-length c = c .before .before .put3 .kept .0 ∙ c .before .before .before .before .before .before .before .put-place .kept .0 ∙ c .before .before .before .before .before .before .before .before .before .before .before .put-sentence .kept .0 ∙ c .before .before .before .before .before .before .before .before .before .before .before .before .before .before .before .put2 .kept .0 ∙ c .before .before .before .before .before .before .before .before .before .before .before .before .before .before .before .before .before .before .before .before .put-path .kept .0 ∙ c .before .before .before .before .before .before .before .before .before .before .before .before .before .before .before .before .before .before .before .before .before .before .before .before .put-decimal .kept .0 ∙ c .before .before .before .before .before .before .before .before .before .before .before .before .before .before .before .before .before .before .before .before .before .before .before .before .before .before .before .before .before .put .kept .0
+same-length c =
+    let at-put2 = c .before .before .before .before .before .before .before .before .before .before .before .before .before .before .before in
+    let at-put-path = at-put2 .before .before .before .before .before in
+    let at-put-decimal = at-put-path .before .before .before .before in
+    let put = at-put-decimal .before .before .before .before .before .put in
+    let put-sentence = c .before .before .before .before .before .before .before .before .before .before .before .put-sentence in
+    let put-place = c .before .before .before .before .before .before .before .put-place in
+    c .before .before .put3 .kept .0 ∙ put-place .kept .0 ∙ put-sentence .kept .0 ∙ at-put2 .put2 .kept .0 ∙ at-put-path .put-path .kept .0 ∙ at-put-decimal .put-decimal .kept .0 ∙ put .kept .0
 
 returns : tie.Need-returns
-returns c = let a = c .before .before .before .before .before .before .before .before .before .before .before .before .before .before .before .before .before .before .before .before .before .before .before .before .before .before .before .before .before .before .before .before .before .before .before .before .before .args in
-    other (more (c .before .before .before .before .before .before .before .before .before .before .before .before .before .before .before .before .before .before .before .before .before .before .before .before .before .before .before .before .before .put .ensures) (more (c .before .before .before .before .before .before .before .before .before .before .before .before .before .before .before .before .before .before .before .before .before .before .before .before .put-decimal .ensures) (more (c .before .before .before .before .before .before .before .before .before .before .before .before .before .before .before .before .before .before .before .before .put-path .ensures) (more (c .before .before .before .before .before .before .before .before .before .before .before .before .before .before .before .put2 .ensures) (more (c .before .before .before .before .before .before .before .before .before .before .before .put-sentence .ensures) (more (c .before .before .before .before .before .before .before .put-place .ensures) (c .before .before .put3 .ensures))))))) (line-parts (a .events .now) (a .attributes .now) (a .source .now) (a .refusal) (c .before .before .before .before .before .before .before .before .before .before .before .before .before .before .before .before .before .before .before .before .before .before .before .before .before .number-of .ensures))
+returns c =
+    let at-put2 = c .before .before .before .before .before .before .before .before .before .before .before .before .before .before .before in
+    let at-put-path = at-put2 .before .before .before .before .before in
+    let at-put-decimal = at-put-path .before .before .before .before in
+    let at-number-of = at-put-decimal .before in
+    let put = at-number-of .before .before .before .before .put in
+    let put-sentence = c .before .before .before .before .before .before .before .before .before .before .before .put-sentence in
+    let put-place = c .before .before .before .before .before .before .before .put-place in
+    let a = c .before .before .before .before .before .before .before .before .before .before .before .before .before .before .before .before .before .before .before
+    .before .before .before .before .before .before .before .before .before .before .before .before .before .before .before .before .before .before .args in
+    other (more (put .ensures) (more (at-put-decimal .put-decimal .ensures)
+    (more (at-put-path .put-path .ensures) (more (at-put2 .put2 .ensures) (more (put-sentence .ensures) (more (put-place .ensures) (c .before .before .put3 .ensures)))))))
+    (line-parts (a .events .now) (a .attributes .now) (a .source .now) (a .refusal) (at-number-of .number-of .ensures))
 
 pub put-line-spec : {M : Type 1} → statement M
 put-line-spec =

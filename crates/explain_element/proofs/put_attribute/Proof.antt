@@ -20,7 +20,10 @@ same-length : tie.Need-same-length
 same-length c = search needs
 
 returns : tie.Need-returns
-returns c = other (c .before .before .put .ensures) (c .before .before .before .line-in .ensures ∙ ap (λ (n : ℕ). lineIn n attributeTable) (c .before .before .before .before .least .ensures) ∙ attribute-at (c .before .before .before .before .before .before .before .before .before .args .code))
+returns c =
+    let args = c .before .before .before .before .before .before .before .before .before .args in
+    let least = c .before .before .before .before .least in
+    other (c .before .before .put .ensures) (c .before .before .before .line-in .ensures ∙ ap (λ (n : ℕ). lineIn n attributeTable) (least .ensures) ∙ attribute-at (args .code))
 
 pub put-attribute-spec : {M : Type 1} → statement M
 put-attribute-spec =

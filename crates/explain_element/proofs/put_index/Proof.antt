@@ -26,7 +26,13 @@ same-length : tie.Need-same-length
 same-length c = search needs
 
 returns : tie.Need-returns
-returns c = other (more (c .before .before .before .before .before .before .before .before .before .before .before .put .ensures) (more (c .before .before .before .before .before .before .before .put-decimal .ensures) (c .before .before .put2 .ensures))) (index-shown (c .before .before .before .before .before .before .before .before .before .before .before .before .before .before .before .before .before .args .kind) (c .before .before .before .before .before .before .before .before .before .before .before .before .before .before .before .before .before .args .index) (c .before .before .before .before .before .before .before .before .before .before .before .before .before .before .before .has-name .ensures) (c .before .before .before .before .before .before .before .before .before .before .before .before .before .before .if1 .taken))
+returns c =
+    let args = c .before .before .before .before .before .before .before .before .before .before .before .before .before .before .before .before .before .args in
+    let has-name = c .before .before .before .before .before .before .before .before .before .before .before .before .before .before .before .has-name in
+    let if1 = c .before .before .before .before .before .before .before .before .before .before .before .before .before .before .if1 in
+    let put = c .before .before .before .before .before .before .before .before .before .before .before .put in
+    let put-decimal = c .before .before .before .before .before .before .before .put-decimal in
+    other (more (put .ensures) (more (put-decimal .ensures) (c .before .before .put2 .ensures))) (index-shown (args .kind) (args .index) (has-name .ensures) (if1 .taken))
 
 returns-2 : tie.Need-returns-2
 returns-2 c = other (puts-none _) (index-none (c .before .before .before .args .kind) (c .before .before .before .args .index) (c .before .has-name .ensures) (c .if1 .left))

@@ -20,7 +20,10 @@ same-length : tie.Need-same-length
 same-length c = search needs
 
 returns : tie.Need-returns
-returns c = other (c .before .before .put .ensures) (c .before .before .before .line-in .ensures ∙ ap (λ (n : ℕ). lineIn n kindTable) (c .before .before .before .before .least .ensures) ∙ kind-at (c .before .before .before .before .before .before .before .before .before .args .kind))
+returns c =
+    let args = c .before .before .before .before .before .before .before .before .before .args in
+    let least = c .before .before .before .before .least in
+    other (c .before .before .put .ensures) (c .before .before .before .line-in .ensures ∙ ap (λ (n : ℕ). lineIn n kindTable) (least .ensures) ∙ kind-at (args .kind))
 
 pub put-kind-spec : {M : Type 1} → statement M
 put-kind-spec =

@@ -31,10 +31,14 @@ first-at-requires : tie.Need-first-at-requires Inv-loop μ-loop
 first-at-requires c κs = search needs
 
 add-least : tie.Need-add-least Inv-loop μ-loop
-add-least c = omega (arith, newline-within (c .before .before .before .loop .inv) (c .first-at .result) (c .first-at .ensures), c .before .before .before .before .before .good)
+add-least c =
+    let good = c .before .before .before .before .before .good in
+    omega (arith, newline-within (c .before .before .before .loop .inv) (c .first-at .result) (c .first-at .ensures), good)
 
 add-least-2 : tie.Need-add-least-2 Inv-loop μ-loop
-add-least-2 c = omega (arith, newline-within (c .before .before .before .loop .inv) (c .first-at .result) (c .first-at .ensures), c .before .before .before .before .before .good)
+add-least-2 c =
+    let good = c .before .before .before .before .before .good in
+    omega (arith, newline-within (c .before .before .before .loop .inv) (c .first-at .result) (c .first-at .ensures), good)
 
 least-requires : tie.Need-least-requires Inv-loop μ-loop
 least-requires c κs = search needs
@@ -46,7 +50,9 @@ loop-less : tie.Need-loop-less Inv-loop μ-loop
 loop-less c = omega arith
 
 loop-again : tie.Need-loop-again Inv-loop μ-loop
-loop-again c = passing-more (c .before .before .before .before .loop .inv) (c .before .first-at .result) (c .before .first-at .ensures) (c .before .before .before .loop-test .taken) (c .least .result) (c .least .ensures)
+loop-again c =
+    let loop = c .before .before .before .before .loop in
+    passing-more (loop .inv) (c .before .first-at .result) (c .before .first-at .ensures) (c .before .before .before .loop-test .taken) (c .least .result) (c .least .ensures)
 
 sub-rest : tie.Need-sub-rest Inv-loop μ-loop
 sub-rest c = omega (arith, c .before .loop .inv .within)
@@ -61,12 +67,16 @@ first-at-requires-2 : tie.Need-first-at-requires-2 Inv-loop μ-loop
 first-at-requires-2 c κs = search needs
 
 slice-aggregate-result : tie.Need-slice-aggregate-result Inv-loop μ-loop
-slice-aggregate-result c = let a = c .before .before .before .before .before .before .args in
-    let rest = take (length (a .text .now) - c .before .before .before .before .loop .at) (drop (c .before .before .before .before .loop .at) (a .text .now)) in
+slice-aggregate-result c =
+    let loop = c .before .before .before .before .loop in
+    let a = c .before .before .before .before .before .before .args in
+    let rest = take (length (a .text .now) - loop .at) (drop (loop .at) (a .text .now)) in
     sym (length-take-le (c .before .first-at2 .result) rest (rw (c .before .first-at2 .ensures) (first-within 10 rest)))
 
 returns : tie.Need-returns Inv-loop μ-loop
-returns c = passing-done (c .before .before .before .before .loop .inv) (c .before .first-at2 .result) (c .before .first-at2 .ensures) (c .before .before .before .loop-test .left)
+returns c =
+    let loop = c .before .before .before .before .loop in
+    passing-done (loop .inv) (c .before .first-at2 .result) (c .before .first-at2 .ensures) (c .before .before .before .loop-test .left)
 
 pub line-in-spec : {M : Type 1} → statement M
 line-in-spec =

@@ -29,7 +29,12 @@ same-requires : tie.Need-same-requires
 same-requires c κs = search needs
 
 returns : tie.Need-returns
-returns c = c .same .ensures ∙ ap (λ (l : List ℕ). sameBytes l (bytes "name")) (rw (c .before .before .before .before .before .wide .ensures, c .before .before .before .wide2 .ensures, c .before .before .before .before .before .before .word-of .ensures, c .before .before .before .before .word-of2 .ensures) at (c .before .before .bytes-of .ensures))
+returns c =
+    let word-of = c .before .before .before .before .before .before .word-of in
+    let wide = c .before .before .before .before .before .wide in
+    let word-of2 = c .before .before .before .before .word-of2 in
+    c .same .ensures ∙ ap (λ (l : List ℕ). sameBytes l (bytes "name"))
+    (rw (wide .ensures, c .before .before .before .wide2 .ensures, word-of .ensures, word-of2 .ensures) at (c .before .before .bytes-of .ensures))
 
 pub is-name-spec : {M : Type 1} → statement M
 is-name-spec =

@@ -15,7 +15,9 @@ loop-holds : tie.Need-loop-holds Inv-loop μ-loop
 loop-holds c = hunting-start (c .before .before .args .attributes .now) (c .before .before .args .source .now) (c .before .before .args .first) (c .before .before .args .end)
 
 returns : tie.Need-returns Inv-loop μ-loop
-returns c = hunting-past (c .before .before .before .before .before .args .attributes .now) (c .before .before .before .before .before .args .source .now) (c .before .before .loop .inv) (c .before .loop-test .taken) (c .if1 .taken)
+returns c =
+    let args = c .before .before .before .before .before .args in
+    hunting-past (args .attributes .now) (args .source .now) (c .before .before .loop .inv) (c .before .loop-test .taken) (c .if1 .taken)
 
 mul-at : tie.Need-mul-at Inv-loop μ-loop
 mul-at c = search needs
@@ -36,7 +38,12 @@ is-name-requires : tie.Need-is-name-requires Inv-loop μ-loop
 is-name-requires c κs = search needs
 
 returns-2 : tie.Need-returns-2 Inv-loop μ-loop
-returns-2 c = hunting-hit (c .before .before .before .before .before .before .before .before .args .attributes .now) (c .before .before .before .before .before .before .before .before .args .source .now) (c .before .before .before .before .before .loop .inv) (c .before .before .before .before .loop-test .taken) (lent-key (c .before .before .before .before .before .before .before .before .args .attributes .now) (c .before .before .before .before .before .before .before .before .args .source .now) (c .before .before .before .before .before .loop .j) (c .before .is-name .ensures) (c .if2 .taken))
+returns-2 c =
+    let args = c .before .before .before .before .before .before .before .before .args in
+    let loop = c .before .before .before .before .before .loop in
+    let loop-test = c .before .before .before .before .loop-test in
+    hunting-hit (args .attributes .now) (args .source .now) (loop .inv) (loop-test .taken)
+    (lent-key (args .attributes .now) (args .source .now) (loop .j) (c .before .is-name .ensures) (c .if2 .taken))
 
 add-j : tie.Need-add-j Inv-loop μ-loop
 add-j c = omega arith
@@ -45,10 +52,17 @@ loop-less : tie.Need-loop-less Inv-loop μ-loop
 loop-less c = omega arith
 
 loop-again : tie.Need-loop-again Inv-loop μ-loop
-loop-again c = hunting-miss (c .before .before .before .before .before .before .before .before .args .attributes .now) (c .before .before .before .before .before .before .before .before .args .source .now) (c .before .before .before .before .before .loop .inv) (c .before .before .before .before .loop-test .taken) (lent-key (c .before .before .before .before .before .before .before .before .args .attributes .now) (c .before .before .before .before .before .before .before .before .args .source .now) (c .before .before .before .before .before .loop .j) (c .before .is-name .ensures) (c .if2 .left))
+loop-again c =
+    let args = c .before .before .before .before .before .before .before .before .args in
+    let loop = c .before .before .before .before .before .loop in
+    let loop-test = c .before .before .before .before .loop-test in
+    hunting-miss (args .attributes .now) (args .source .now) (loop .inv) (loop-test .taken)
+    (lent-key (args .attributes .now) (args .source .now) (loop .j) (c .before .is-name .ensures) (c .if2 .left))
 
 returns-3 : tie.Need-returns-3 Inv-loop μ-loop
-returns-3 c = hunting-done (c .before .before .before .before .args .attributes .now) (c .before .before .before .before .args .source .now) (c .before .loop .inv) (c .loop-test .left)
+returns-3 c =
+    let args = c .before .before .before .before .args in
+    hunting-done (args .attributes .now) (args .source .now) (c .before .loop .inv) (c .loop-test .left)
 
 pub named-from-spec : {M : Type 1} → statement M
 named-from-spec =

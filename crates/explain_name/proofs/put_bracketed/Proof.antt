@@ -10,7 +10,9 @@ is-value-requires : tie.Need-is-value-requires
 is-value-requires c κs = search needs
 
 returns : tie.Need-returns
-returns c = not-shown (c .before .before .before .before .args .s .now) (sym (c .before .is-value .ensures) ∙ not-true _ (c .if1 .taken))
+returns c =
+    let args = c .before .before .before .before .args in
+    not-shown (args .s .now) (sym (c .before .is-value .ensures) ∙ not-true _ (c .if1 .taken))
 
 slice-aggregate-put : tie.Need-slice-aggregate-put
 slice-aggregate-put c = search needs
@@ -31,7 +33,13 @@ same-length : tie.Need-same-length
 same-length c = search needs
 
 returns-2 : tie.Need-returns-2
-returns-2 c = other (more (c .before .before .before .before .before .before .before .before .before .before .before .put .ensures) (more (c .before .before .before .before .before .before .before .put-value .ensures) (c .before .before .put2 .ensures))) (shown (c .before .before .before .before .before .before .before .before .before .before .before .before .before .before .before .before .before .before .args .s .now) (sym (c .before .before .before .before .before .before .before .before .before .before .before .before .before .before .before .is-value .ensures) ∙ not-false _ (c .before .before .before .before .before .before .before .before .before .before .before .before .before .before .if1 .left)))
+returns-2 c =
+    let args = c .before .before .before .before .before .before .before .before .before .before .before .before .before .before .before .before .before .before .args in
+    let is-value = c .before .before .before .before .before .before .before .before .before .before .before .before .before .before .before .is-value in
+    let if1 = c .before .before .before .before .before .before .before .before .before .before .before .before .before .before .if1 in
+    let put = c .before .before .before .before .before .before .before .before .before .before .before .put in
+    let put-value = c .before .before .before .before .before .before .before .put-value in
+    other (more (put .ensures) (more (put-value .ensures) (c .before .before .put2 .ensures))) (shown (args .s .now) (sym (is-value .ensures) ∙ not-false _ (if1 .left)))
 
 pub put-bracketed-spec : {M : Type 1} → statement M
 put-bracketed-spec =

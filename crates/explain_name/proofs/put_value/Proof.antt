@@ -15,8 +15,12 @@ abbrev μ-loop : tie.MeasureT-loop
 μ-loop out₀ s i₀ mark₀ out i mark = length s - i
 
 -- there are bytes left
-inside : (c : tie.Then1 Inv-loop μ-loop) → c .before .before .loop .i < length (c .before .before .before .before .before .args .s .now)
-inside c = goes-on (c .before .is-open .result) (c .before .before .loop .i) (length (c .before .before .before .before .before .args .s .now)) (c .if1 .taken)
+inside : (c : tie.Then1 Inv-loop μ-loop) →
+    let args = c .before .before .before .before .before .args in
+    c .before .before .loop .i < length (args .s .now)
+inside c =
+    let args = c .before .before .before .before .before .args in
+    goes-on (c .before .is-open .result) (c .before .before .loop .i) (length (args .s .now)) (c .if1 .taken)
 
 loop-holds : tie.Need-loop-holds Inv-loop μ-loop
 loop-holds c = showing-start _ _ _
@@ -40,19 +44,28 @@ array-share-prefix-bytes : tie.Need-array-share-prefix-bytes Inv-loop μ-loop
 array-share-prefix-bytes c = c .before .before .piece-of .ensures .fits
 
 slice-aggregate-put-escaped : tie.Need-slice-aggregate-put-escaped Inv-loop μ-loop
-slice-aggregate-put-escaped c = sym (length-take-le (c .before .before .before .piece-of .result .n) (c .before .before .before .piece-of .result .bytes) (c .before .before .before .piece-of .ensures .fits))
+slice-aggregate-put-escaped c =
+    sym (length-take-le (c .before .before .before .piece-of .result .n) (c .before .before .before .piece-of .result .bytes) (c .before .before .before .piece-of .ensures .fits))
 
 put-escaped-requires : tie.Need-put-escaped-requires Inv-loop μ-loop
 put-escaped-requires c κs = search needs
 
 loop-again : tie.Need-loop-again Inv-loop μ-loop
-loop-again c = showing-more (c .before .before .before .before .before .before .before .before .before .before .before .loop .inv) (inside (c .before .before .before .before .before .before .before .before .before)) (c .before .before .before .before .before .before .before .piece-of .result) (c .before .before .before .before .before .before .before .piece-of .ensures) (c .before .before .before .put-escaped .ensures) (c .before .before .before .put-escaped .kept .0)
+loop-again c =
+    let loop = c .before .before .before .before .before .before .before .before .before .before .before .loop in
+    let at-then1 = c .before .before .before .before .before .before .before .before .before in
+    let piece-of = c .before .before .before .before .before .before .before .piece-of in
+    showing-more (loop .inv) (inside at-then1) (piece-of .result) (piece-of .ensures) (c .before .before .before .put-escaped .ensures) (c .before .before .before .put-escaped .kept .0)
 
 add-i : tie.Need-add-i Inv-loop μ-loop
 add-i c = omega (arith, loop-again c .within)
 
 loop-less : tie.Need-loop-less Inv-loop μ-loop
-loop-less c = omega (arith, showing-moves (c .before .before .before .before .before .before .before .before .before .before .before .loop .inv) (inside (c .before .before .before .before .before .before .before .before .before)) (c .before .before .before .before .before .before .before .piece-of .result) (c .before .before .before .before .before .before .before .piece-of .ensures), inside (c .before .before .before .before .before .before .before .before .before))
+loop-less c =
+    let loop = c .before .before .before .before .before .before .before .before .before .before .before .loop in
+    let at-then1 = c .before .before .before .before .before .before .before .before .before in
+    let piece-of = c .before .before .before .before .before .before .before .piece-of in
+    omega (arith, showing-moves (loop .inv) (inside at-then1) (piece-of .result) (piece-of .ensures), inside at-then1)
 
 same-length : tie.Need-same-length Inv-loop μ-loop
 same-length c = c .before .before .loop .inv .same

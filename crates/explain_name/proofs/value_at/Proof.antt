@@ -8,7 +8,9 @@ bytes-of-requires : tie.Need-bytes-of-requires
 bytes-of-requires c κs = search needs
 
 returns : tie.Need-returns
-returns c = c .bytes-of .ensures ∙ no-value (c .before .before .before .before .args .attributes .now) (c .before .before .before .before .args .source .now) (c .before .before .before .before .args .j) (c .before .if1 .taken)
+returns c =
+    let args = c .before .before .before .before .args in
+    c .bytes-of .ensures ∙ no-value (args .attributes .now) (args .source .now) (args .j) (c .before .if1 .taken)
 
 mul-at : tie.Need-mul-at
 mul-at c = search needs
@@ -41,7 +43,11 @@ bytes-of-requires-2 : tie.Need-bytes-of-requires-2
 bytes-of-requires-2 c κs = search needs
 
 returns-2 : tie.Need-returns-2
-returns-2 c = (rw (c .before .before .before .wide .ensures, c .before .wide2 .ensures, c .before .before .before .before .word-of .ensures, c .before .before .word-of2 .ensures) at (c .bytes-of2 .ensures)) ∙ lent-part (c .before .before .before .before .before .before .before .before .before .args .attributes .now) (c .before .before .before .before .before .before .before .before .before .args .source .now) (c .before .before .before .before .before .before .before .before .before .args .j) 3 4
+returns-2 c =
+    let args = c .before .before .before .before .before .before .before .before .before .args in
+    let word-of = c .before .before .before .before .word-of in
+    (rw (c .before .before .before .wide .ensures, c .before .wide2 .ensures, word-of .ensures, c .before .before .word-of2 .ensures) at (c .bytes-of2 .ensures))
+    ∙ lent-part (args .attributes .now) (args .source .now) (args .j) 3 4
 
 pub value-at-spec : {M : Type 1} → statement M
 value-at-spec =

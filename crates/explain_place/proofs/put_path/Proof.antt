@@ -17,13 +17,17 @@ inside : (c : tie.Then1 Inv-loop μ-loop) → c .before .before .loop .i < c .be
 inside c = goes-on (c .before .is-open .result) (c .before .before .loop .i) (c .before .before .before .least .result) (c .if1 .taken)
 
 most : (c : tie.Then1 Inv-loop μ-loop) → c .before .before .before .least .result ≤ 6
-most c = at-most (c .before .before .before .before .before .before .before .before .before .args .path .len) (c .before .before .before .least .result) (c .before .before .before .least .ensures)
+most c =
+    let args = c .before .before .before .before .before .before .before .before .before .args in
+    at-most (args .path .len) (c .before .before .before .least .result) (c .before .before .before .least .ensures)
 
 least-requires : tie.Need-least-requires Inv-loop μ-loop
 least-requires c κs = search needs
 
 loop-holds : tie.Need-loop-holds Inv-loop μ-loop
-loop-holds c = walking-start (c .before .before .before .before .before .before .args .events .now) (c .before .before .before .before .before .before .args .attributes .now) (c .before .before .before .before .before .before .args .source .now) (c .before .before .before .before .before .before .args .path .elements) (c .least .result) (c .before .before .before .before .before .before .args .out .now) (c .before .before .before .before .before .before .args .k)
+loop-holds c =
+    let args = c .before .before .before .before .before .before .args in
+    walking-start (args .events .now) (args .attributes .now) (args .source .now) (args .path .elements) (c .least .result) (args .out .now) (args .k)
 
 is-open-requires : tie.Need-is-open-requires Inv-loop μ-loop
 is-open-requires c κs = search needs
@@ -38,19 +42,32 @@ put-step-requires : tie.Need-put-step-requires Inv-loop μ-loop
 put-step-requires c κs = search needs
 
 add-i : tie.Need-add-i Inv-loop μ-loop
-add-i c = omega (arith, inside (c .before .before .before .before .before), most (c .before .before .before .before .before))
+add-i c =
+    let at-then1 = c .before .before .before .before .before in
+    omega (arith, inside at-then1, most at-then1)
 
 loop-less : tie.Need-loop-less Inv-loop μ-loop
-loop-less c = omega (arith, inside (c .before .before .before .before .before))
+loop-less c =
+    let at-then1 = c .before .before .before .before .before in
+    omega (arith, inside at-then1)
 
 loop-again : tie.Need-loop-again Inv-loop μ-loop
-loop-again c = walking-more (c .before .before .before .before .before .before .before .before .before .before .before .before .before .before .args .events .now) (c .before .before .before .before .before .before .before .before .before .before .before .before .before .before .args .attributes .now) (c .before .before .before .before .before .before .before .before .before .before .before .before .before .before .args .source .now) (c .before .before .before .before .before .before .before .loop .inv) (most (c .before .before .before .before .before)) (inside (c .before .before .before .before .before)) (c .before .before .put-step .ensures) (c .before .before .put-step .kept .0)
+loop-again c =
+    let args = c .before .before .before .before .before .before .before .before .before .before .before .before .before .before .args in
+    let loop = c .before .before .before .before .before .before .before .loop in
+    let at-then1 = c .before .before .before .before .before in
+    walking-more (args .events .now) (args .attributes .now) (args .source .now) (loop .inv) (most at-then1)
+    (inside at-then1) (c .before .before .put-step .ensures) (c .before .before .put-step .kept .0)
 
 same-length : tie.Need-same-length Inv-loop μ-loop
 same-length c = c .before .before .loop .inv .same
 
 returns : tie.Need-returns Inv-loop μ-loop
-returns c = other (walking-stop (c .before .before .before .before .before .before .before .before .before .args .events .now) (c .before .before .before .before .before .before .before .before .before .args .attributes .now) (c .before .before .before .before .before .before .before .before .before .args .source .now) (c .before .before .loop .inv) (at-most (c .before .before .before .before .before .before .before .before .before .args .path .len) (c .before .before .before .least .result) (c .before .before .before .least .ensures)) (c .before .is-open .result) (c .before .is-open .ensures) (c .if1 .left)) (whole-path (c .before .before .before .before .before .before .before .before .before .args .events .now) (c .before .before .before .before .before .before .before .before .before .args .attributes .now) (c .before .before .before .before .before .before .before .before .before .args .source .now) (c .before .before .before .before .before .before .before .before .before .args .path) (c .before .before .before .least .result) (c .before .before .before .least .ensures))
+returns c =
+    let args = c .before .before .before .before .before .before .before .before .before .args in
+    other (walking-stop (args .events .now) (args .attributes .now) (args .source .now) (c .before .before .loop .inv)
+    (at-most (args .path .len) (c .before .before .before .least .result) (c .before .before .before .least .ensures)) (c .before .is-open .result) (c .before .is-open .ensures) (c .if1 .left))
+    (whole-path (args .events .now) (args .attributes .now) (args .source .now) (args .path) (c .before .before .before .least .result) (c .before .before .before .least .ensures))
 
 pub put-path-spec : {M : Type 1} → statement M
 put-path-spec =

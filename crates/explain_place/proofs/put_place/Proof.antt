@@ -26,7 +26,13 @@ same-length : tie.Need-same-length
 same-length c = search needs
 
 returns-2 : tie.Need-returns-2
-returns-2 c = other (more (c .before .before .before .before .before .before .before .before .before .before .before .before .put .ensures) (more (c .before .before .before .before .before .before .before .before .put-decimal .ensures) (c .before .before .put2 .ensures))) (event-alone (c .before .before .before .before .before .before .before .before .before .before .before .before .before .before .before .before .before .args .event) (c .before .before .before .before .before .before .before .before .before .before .before .before .before .before .before .before .before .args .attribute) (c .before .before .before .before .before .before .before .before .before .before .before .before .before .before .before .if1 .left) (c .before .before .before .before .before .if2 .taken))
+returns-2 c =
+    let args = c .before .before .before .before .before .before .before .before .before .before .before .before .before .before .before .before .before .args in
+    let if1 = c .before .before .before .before .before .before .before .before .before .before .before .before .before .before .before .if1 in
+    let put = c .before .before .before .before .before .before .before .before .before .before .before .before .put in
+    let put-decimal = c .before .before .before .before .before .before .before .before .put-decimal in
+    let if2 = c .before .before .before .before .before .if2 in
+    other (more (put .ensures) (more (put-decimal .ensures) (c .before .before .put2 .ensures))) (event-alone (args .event) (args .attribute) (if1 .left) (if2 .taken))
 
 slice-aggregate-put-3 : tie.Need-slice-aggregate-put-3
 slice-aggregate-put-3 c = search needs
@@ -47,7 +53,16 @@ same-length-2 : tie.Need-same-length-2
 same-length-2 c = search needs
 
 returns-3 : tie.Need-returns-3
-returns-3 c = other (more (c .before .before .before .before .before .before .before .before .before .before .before .before .before .before .before .before .before .before .before .before .before .put .ensures) (more (c .before .before .before .before .before .before .before .before .before .before .before .before .before .before .before .before .before .put-decimal .ensures) (more (c .before .before .before .before .before .before .before .before .before .before .before .put3 .ensures) (more (c .before .before .before .before .before .before .before .put-decimal2 .ensures) (c .before .before .put4 .ensures))))) (event-attribute (c .before .before .before .before .before .before .before .before .before .before .before .before .before .before .before .before .before .before .before .before .before .before .before .before .before .before .args .event) (c .before .before .before .before .before .before .before .before .before .before .before .before .before .before .before .before .before .before .before .before .before .before .before .before .before .before .args .attribute) (c .before .before .before .before .before .before .before .before .before .before .before .before .before .before .before .before .before .before .before .before .before .before .before .before .if1 .left) (c .before .before .before .before .before .before .before .before .before .before .before .before .before .before .if2 .left))
+returns-3 c =
+    let at-put-decimal = c .before .before .before .before .before .before .before .before .before .before .before .before .before .before .before .before .before in
+    let at-put = at-put-decimal .before .before .before .before in
+    let at-if1 = at-put .before .before .before in
+    let args = at-if1 .before .before .args in
+    let if2 = c .before .before .before .before .before .before .before .before .before .before .before .before .before .before .if2 in
+    let put3 = c .before .before .before .before .before .before .before .before .before .before .before .put3 in
+    let put-decimal2 = c .before .before .before .before .before .before .before .put-decimal2 in
+    other (more (at-put .put .ensures) (more (at-put-decimal .put-decimal .ensures) (more (put3 .ensures) (more (put-decimal2 .ensures) (c .before .before .put4 .ensures)))))
+    (event-attribute (args .event) (args .attribute) (at-if1 .if1 .left) (if2 .left))
 
 pub put-place-spec : {M : Type 1} → statement M
 put-place-spec =

@@ -21,8 +21,12 @@ same-length : tie.Need-same-length
 same-length c = search needs
 
 returns : tie.Need-returns
-returns c = let a = c .before .before .before .before .before .before .before .before .before .before .before .before .before .before .args in
-    other (more (c .before .before .before .before .before .before .put .ensures) (c .before .before .put-element .ensures)) (ap (λ (l : List ℕ). l ++ elementText (a .events .now) (a .attributes .now) (a .source .now) (a .e)) (first-mark (a .i) (c .before .before .before .before .before .before .before .before .before .if1 .taken)))
+returns c =
+    let if1 = c .before .before .before .before .before .before .before .before .before .if1 in
+    let put = c .before .before .before .before .before .before .put in
+    let a = c .before .before .before .before .before .before .before .before .before .before .before .before .before .before .args in
+    other (more (put .ensures) (c .before .before .put-element .ensures))
+    (ap (λ (l : List ℕ). l ++ elementText (a .events .now) (a .attributes .now) (a .source .now) (a .e)) (first-mark (a .i) (if1 .taken)))
 
 slice-aggregate-put-2 : tie.Need-slice-aggregate-put-2
 slice-aggregate-put-2 c = search needs
@@ -37,8 +41,12 @@ same-length-2 : tie.Need-same-length-2
 same-length-2 c = search needs
 
 returns-2 : tie.Need-returns-2
-returns-2 c = let a = c .before .before .before .before .before .before .before .before .before .before .before .before .before .before .args in
-    other (more (c .before .before .before .before .before .before .put2 .ensures) (c .before .before .put-element2 .ensures)) (ap (λ (l : List ℕ). l ++ elementText (a .events .now) (a .attributes .now) (a .source .now) (a .e)) (other-mark (a .i) (c .before .before .before .before .before .before .before .before .before .if1 .left)))
+returns-2 c =
+    let if1 = c .before .before .before .before .before .before .before .before .before .if1 in
+    let put2 = c .before .before .before .before .before .before .put2 in
+    let a = c .before .before .before .before .before .before .before .before .before .before .before .before .before .before .args in
+    other (more (put2 .ensures) (c .before .before .put-element2 .ensures))
+    (ap (λ (l : List ℕ). l ++ elementText (a .events .now) (a .attributes .now) (a .source .now) (a .e)) (other-mark (a .i) (if1 .left)))
 
 pub put-step-spec : {M : Type 1} → statement M
 put-step-spec =

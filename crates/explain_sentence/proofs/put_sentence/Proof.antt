@@ -22,7 +22,10 @@ same-length c = search needs
 
 returns : tie.Need-returns
 unfolding sentence
-returns c = other (c .before .before .put .ensures) (c .before .before .before .line-in .ensures ∙ ap (λ (n : ℕ). lineIn n table) (c .before .before .before .before .place-of .ensures) ∙ sentence-at (c .before .before .before .before .before .before .before .before .before .args .cause))
+returns c =
+    let args = c .before .before .before .before .before .before .before .before .before .args in
+    let place-of = c .before .before .before .before .place-of in
+    other (c .before .before .put .ensures) (c .before .before .before .line-in .ensures ∙ ap (λ (n : ℕ). lineIn n table) (place-of .ensures) ∙ sentence-at (args .cause))
 
 pub put-sentence-spec : {M : Type 1} → statement M
 put-sentence-spec =

@@ -20,13 +20,22 @@ enum-told : tie.Need-enum-told
 enum-told c = search needs
 
 returns-3 : tie.Need-returns-3
-returns-3 c = fraction-other _ (c .before .before .before .before .if1 .left) (c .before .before .before .if2 .left) (sym (c .enum-told .given .1) ∙ c .before .before .decimal .ensures)
+returns-3 c =
+    let if1 = c .before .before .before .before .if1 in
+    fraction-other _ (if1 .left) (c .before .before .before .if2 .left) (sym (c .enum-told .given .1) ∙ c .before .before .decimal .ensures)
 
 scaled-requires : tie.Need-scaled-requires
-scaled-requires c κs = (c .before .before .before .before .if2 .left, fraction-below _ (c .before .before .before .before .before .if1 .left) (c .before .before .before .before .if2 .left) _ (sym (c .before .n .given .1) ∙ c .before .before .before .decimal .ensures))
+scaled-requires c κs =
+    let if1 = c .before .before .before .before .before .if1 in
+    let if2 = c .before .before .before .before .if2 in
+    (if2 .left, fraction-below _ (if1 .left) (if2 .left) _ (sym (c .before .n .given .1) ∙ c .before .before .before .decimal .ensures))
 
 returns-4 : tie.Need-returns-4
-returns-4 c = fraction-is _ (c .before .before .before .before .before .before .if1 .left) (c .before .before .before .before .before .if2 .left) _ (sym (c .before .before .n .given .1) ∙ c .before .before .before .before .decimal .ensures) _ (c .scaled .ensures)
+returns-4 c =
+    let if1 = c .before .before .before .before .before .before .if1 in
+    let if2 = c .before .before .before .before .before .if2 in
+    let decimal = c .before .before .before .before .decimal in
+    fraction-is _ (if1 .left) (if2 .left) _ (sym (c .before .before .n .given .1) ∙ decimal .ensures) _ (c .scaled .ensures)
 
 pub billionths-of-spec : {M : Type 1} → statement M
 billionths-of-spec =

@@ -22,7 +22,9 @@ part-result-end : tie.Need-part-result-end
 part-result-end c = search needs
 
 returns-2 : tie.Need-returns-2
-returns-2 c = rest-part (now (c .before .before .before .before .args .s)) 1 ∙ unsigned-plus _ (search needs) (c .before .if2 .taken)
+returns-2 c =
+    let args = c .before .before .before .before .args in
+    rest-part (now (args .s)) 1 ∙ unsigned-plus _ (search needs) (c .before .if2 .taken)
 
 returns-3 : tie.Need-returns-3
 returns-3 c = unsigned-bare _ (search needs) (c .if2 .left)

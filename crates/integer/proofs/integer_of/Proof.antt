@@ -21,10 +21,14 @@ is-utf8-requires c κs = search needs
 
 returns : tie.Need-returns
 returns c =
-    read-bad _ _ (c .before .before .before .before .before .behind-plus .ensures) _ (c .before .before .before .before .decimal .ensures) (c .before .before .enum-told .given .1) (sym (c .before .is-utf8 .ensures) ∙ c .if1 .taken)
+    let behind-plus = c .before .before .before .before .before .behind-plus in
+    let decimal = c .before .before .before .before .decimal in
+    read-bad _ _ (behind-plus .ensures) _ (decimal .ensures) (c .before .before .enum-told .given .1) (sym (c .before .is-utf8 .ensures) ∙ c .if1 .taken)
 
 returns-2 : tie.Need-returns-2
-returns-2 c = read-is _ _ (c .before .before .before .before .behind-plus .ensures) _ (c .before .before .before .decimal .ensures) _ (c .before .n .given .1)
+returns-2 c =
+    let behind-plus = c .before .before .before .before .behind-plus in
+    read-is _ _ (behind-plus .ensures) _ (c .before .before .before .decimal .ensures) _ (c .before .n .given .1)
 
 returns-3 : tie.Need-returns-3
 returns-3 c = search needs

@@ -29,13 +29,18 @@ same-length c = search needs
 
 returns : tie.Need-returns
 returns c =
-    let text = c .before .before .before .before .before .before .before .before .before .before .before .before .before .before .before .before .before .before .before .before .args .text .now in
-    let r = c .before .before .before .before .before .before .before .before .before .before .before .before .before .before .before .before .before .before .before .before .args .r .now in
-    let rs = recordsIn (c .before .before .before .before .before .before .before .before .before .before .before .before .before .before .before .before .before .before .before .before .args .below .now) in
+    let at-put-case-line = c .before .before .before .before .before .before .before .before .before .before .before .before .before in
+    let args = at-put-case-line .before .before .before .before .before .before .before .args in
+    let put-status = c .before .before .before .before .before .before .before .before .before .put-status in
+    let is-skipped = c .before .before .before .before .before .before .is-skipped in
+    let if1 = c .before .before .before .before .before .if1 in
+    let text = args .text .now in
+    let r = args .r .now in
+    let rs = recordsIn (args .below .now) in
     let e = c .before .before .before .before .before .before .before .before .before .before .before .before .before .before .before .sum-up .ensures in
-    let s = rw e at (c .before .before .before .before .before .before .before .before .before .put-status .ensures) in
-    let q = rw e at (sym (c .before .before .before .before .before .before .is-skipped .ensures) ∙ c .before .before .before .before .before .if1 .taken) in
-    other (more (c .before .before .before .before .before .before .before .before .before .before .before .before .before .put-case-line .ensures) (more s (c .before .before .put .ensures))) (skipped-parts text r rs q)
+    let s = rw e at (put-status .ensures) in
+    let q = rw e at (sym (is-skipped .ensures) ∙ if1 .taken) in
+    other (more (at-put-case-line .put-case-line .ensures) (more s (c .before .before .put .ensures))) (skipped-parts text r rs q)
 
 put-runs-requires : tie.Need-put-runs-requires
 put-runs-requires c κs = search needs
@@ -51,13 +56,19 @@ same-length-2 c = search needs
 
 returns-2 : tie.Need-returns-2
 returns-2 c =
-    let text = c .before .before .before .before .before .before .before .before .before .before .before .before .before .before .before .before .before .before .before .before .before .before .before .before .args .text .now in
-    let r = c .before .before .before .before .before .before .before .before .before .before .before .before .before .before .before .before .before .before .before .before .before .before .before .before .args .r .now in
-    let rs = recordsIn (c .before .before .before .before .before .before .before .before .before .before .before .before .before .before .before .before .before .before .before .before .before .before .before .before .args .below .now) in
+    let at-put-case-line = c .before .before .before .before .before .before .before .before .before .before .before .before .before .before .before .before .before in
+    let args = at-put-case-line .before .before .before .before .before .before .before .args in
+    let put-status = c .before .before .before .before .before .before .before .before .before .before .before .before .before .put-status in
+    let is-skipped = c .before .before .before .before .before .before .before .before .before .before .is-skipped in
+    let if1 = c .before .before .before .before .before .before .before .before .before .if1 in
+    let put-runs = c .before .before .before .before .before .before .before .put-runs in
+    let text = args .text .now in
+    let r = args .r .now in
+    let rs = recordsIn (args .below .now) in
     let e = c .before .before .before .before .before .before .before .before .before .before .before .before .before .before .before .before .before .before .before .sum-up .ensures in
-    let s = rw e at (c .before .before .before .before .before .before .before .before .before .before .before .before .before .put-status .ensures) in
-    let q = rw e at (sym (c .before .before .before .before .before .before .before .before .before .before .is-skipped .ensures) ∙ c .before .before .before .before .before .before .before .before .before .if1 .left) in
-    other (more (c .before .before .before .before .before .before .before .before .before .before .before .before .before .before .before .before .before .put-case-line .ensures) (more s (more (c .before .before .before .before .before .before .before .put-runs .ensures) (c .before .before .put2 .ensures)))) (case-parts text r rs q)
+    let s = rw e at (put-status .ensures) in
+    let q = rw e at (sym (is-skipped .ensures) ∙ if1 .left) in
+    other (more (at-put-case-line .put-case-line .ensures) (more s (more (put-runs .ensures) (c .before .before .put2 .ensures)))) (case-parts text r rs q)
 
 pub put-case-spec : {M : Type 1} → statement M
 put-case-spec =

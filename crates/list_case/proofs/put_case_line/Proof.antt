@@ -24,7 +24,12 @@ same-length : tie.Need-same-length
 same-length c = search needs
 
 returns : tie.Need-returns
-returns c = other (more (c .before .before .before .before .before .before .before .before .before .before .before .before .before .before .put .ensures) (more (c .before .before .before .before .before .before .before .before .before .before .put-name .ensures) (more (c .before .before .before .before .before .before .put-classname .ensures) (c .before .before .put-time .ensures)))) (opened-parts (c .before .before .before .before .before .before .before .before .before .before .before .before .before .before .before .before .before .before .before .before .args .text .now) (c .before .before .before .before .before .before .before .before .before .before .before .before .before .before .before .before .before .before .before .before .args .r .now) [])
+returns c =
+    let at-put = c .before .before .before .before .before .before .before .before .before .before .before .before .before .before in
+    let args = at-put .before .before .before .before .before .before .args in
+    let put-name = c .before .before .before .before .before .before .before .before .before .before .put-name in
+    let put-classname = c .before .before .before .before .before .before .put-classname in
+    other (more (at-put .put .ensures) (more (put-name .ensures) (more (put-classname .ensures) (c .before .before .put-time .ensures)))) (opened-parts (args .text .now) (args .r .now) [])
 
 pub put-case-line-spec : {M : Type 1} → statement M
 put-case-line-spec =

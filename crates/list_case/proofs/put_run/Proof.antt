@@ -23,7 +23,12 @@ same-length : tie.Need-same-length
 same-length c = search needs
 
 returns : tie.Need-returns
-returns c = other (more (rw (c .before .before .before .before .before .before .before .before .before .before .before .before .field .ensures) at (c .before .before .before .before .before .before .before .before .before .before .before .put-run-kind .ensures)) (more (c .before .before .before .before .before .before .before .put-time .ensures) (c .before .before .put .ensures))) (run-parts (c .before .before .before .before .before .before .before .before .before .before .before .before .before .before .before .before .args .r .now))
+returns c =
+    let args = c .before .before .before .before .before .before .before .before .before .before .before .before .before .before .before .before .args in
+    let field = c .before .before .before .before .before .before .before .before .before .before .before .before .field in
+    let put-run-kind = c .before .before .before .before .before .before .before .before .before .before .before .put-run-kind in
+    let put-time = c .before .before .before .before .before .before .before .put-time in
+    other (more (rw (field .ensures) at (put-run-kind .ensures)) (more (put-time .ensures) (c .before .before .put .ensures))) (run-parts (args .r .now))
 
 pub put-run-spec : {M : Type 1} → statement M
 put-run-spec =

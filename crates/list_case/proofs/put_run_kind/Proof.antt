@@ -14,7 +14,10 @@ same-length : tie.Need-same-length
 same-length c = search needs
 
 returns : tie.Need-returns
-returns c = other (c .before .before .put .ensures) (run-failure (c .before .before .before .before .before .before .before .args .run) (c .before .before .before .before .before .if1 .taken))
+returns c =
+    let args = c .before .before .before .before .before .before .before .args in
+    let if1 = c .before .before .before .before .before .if1 in
+    other (c .before .before .put .ensures) (run-failure (args .run) (if1 .taken))
 
 slice-aggregate-put-2 : tie.Need-slice-aggregate-put-2
 slice-aggregate-put-2 c = search needs
@@ -26,7 +29,10 @@ same-length-2 : tie.Need-same-length-2
 same-length-2 c = search needs
 
 returns-2 : tie.Need-returns-2
-returns-2 c = other (c .before .before .put2 .ensures) (run-error (c .before .before .before .before .before .before .before .args .run) (c .before .before .before .before .before .if1 .left))
+returns-2 c =
+    let args = c .before .before .before .before .before .before .before .args in
+    let if1 = c .before .before .before .before .before .if1 in
+    other (c .before .before .put2 .ensures) (run-error (args .run) (if1 .left))
 
 pub put-run-kind-spec : {M : Type 1} → statement M
 put-run-kind-spec =

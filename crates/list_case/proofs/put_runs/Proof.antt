@@ -22,10 +22,14 @@ abbrev μ-loop : tie.MeasureT-loop
 μ-loop out₀ words at₀ mark₀ out at mark = length words - at
 
 abbrev words : tie.Then1 Inv-loop μ-loop → List ℕ
-words c = c .before .before .before .before .before .before .before .args .words .now
+words c =
+    let args = c .before .before .before .before .before .before .before .args in
+    args .words .now
 
 abbrev at : tie.Then1 Inv-loop μ-loop → ℕ
-at c = c .before .before .before .before .loop .at
+at c =
+    let loop = c .before .before .before .before .loop in
+    loop .at
 
 -- the record at hand, and those behind it
 abbrev here : tie.Then1 Inv-loop μ-loop → List ℕ
@@ -83,12 +87,15 @@ ends-case-requires : tie.Need-ends-case-requires Inv-loop μ-loop
 ends-case-requires c κs = search needs
 
 same-length : tie.Need-same-length Inv-loop μ-loop
-same-length c = c .before .before .before .before .before .before .before .before .loop .inv .same
+same-length c =
+    let loop = c .before .before .before .before .before .before .before .before .loop in
+    loop .inv .same
 
 returns : tie.Need-returns Inv-loop μ-loop
 returns c =
+    let loop = c .before .before .before .before .before .before .before .before .loop in
     let t = c .before .before .before .before in
-    going-end runsShown (c .before .before .before .before .before .before .before .before .loop .inv) (stands-now t) (runs-end (here t) (rest t) (rw (c .before .before .field .ensures) at (sym (c .before .ends-case .ensures) ∙ c .if2 .taken)))
+    going-end runsShown (loop .inv) (stands-now t) (runs-end (here t) (rest t) (rw (c .before .before .field .ensures) at (sym (c .before .ends-case .ensures) ∙ c .if2 .taken)))
 
 is-run-requires : tie.Need-is-run-requires Inv-loop μ-loop
 is-run-requires c κs = search needs
@@ -97,31 +104,47 @@ put-run-requires : tie.Need-put-run-requires Inv-loop μ-loop
 put-run-requires c κs = search needs
 
 loop-less : tie.Need-loop-less Inv-loop μ-loop
-loop-less c = omega (arith, room (c .before .before .before .before .before .before .before .before .before .before))
+loop-less c =
+    let at-then1 = c .before .before .before .before .before .before .before .before .before .before in
+    omega (arith, room at-then1)
 
 loop-again : tie.Need-loop-again Inv-loop μ-loop
 loop-again c =
+    let loop = c .before .before .before .before .before .before .before .before .before .before .before .before .before .before .loop in
+    let field = c .before .before .before .before .before .before .before .before .field in
+    let ends-case = c .before .before .before .before .before .before .before .ends-case in
+    let if2 = c .before .before .before .before .before .before .if2 in
+    let is-run = c .before .before .before .before .before .is-run in
+    let if3 = c .before .before .before .before .if3 in
     let t = c .before .before .before .before .before .before .before .before .before .before in
-    let e = runs-run (here t) (rest t) (rw (c .before .before .before .before .before .before .before .before .field .ensures) at (sym (c .before .before .before .before .before .before .before .ends-case .ensures) ∙ c .before .before .before .before .before .before .if2 .left)) (rw (c .before .before .before .before .before .before .before .before .field .ensures) at (sym (c .before .before .before .before .before .is-run .ensures) ∙ c .before .before .before .before .if3 .taken)) in
-    going-puts runsShown (c .before .before .before .before .before .before .before .before .before .before .before .before .before .before .loop .inv) (stands-now t) (runText (runListed (here t))) e (c .before .before .put-run .ensures) (search needs)
+    let e = runs-run (here t) (rest t) (rw (field .ensures) at (sym (ends-case .ensures) ∙ if2 .left)) (rw (field .ensures) at (sym (is-run .ensures) ∙ if3 .taken)) in
+    going-puts runsShown (loop .inv) (stands-now t) (runText (runListed (here t))) e (c .before .before .put-run .ensures) (search needs)
 
 loop-less-2 : tie.Need-loop-less-2 Inv-loop μ-loop
-loop-less-2 c = omega (arith, room (c .before .before .before .before .before .before))
+loop-less-2 c =
+    let at-then1 = c .before .before .before .before .before .before in
+    omega (arith, room at-then1)
 
 loop-again-2 : tie.Need-loop-again-2 Inv-loop μ-loop
 loop-again-2 c =
+    let loop = c .before .before .before .before .before .before .before .before .before .before .loop in
+    let field = c .before .before .before .before .field in
     let t = c .before .before .before .before .before .before in
-    let e = runs-other (here t) (rest t) (rw (c .before .before .before .before .field .ensures) at (sym (c .before .before .before .ends-case .ensures) ∙ c .before .before .if2 .left)) (rw (c .before .before .before .before .field .ensures) at (sym (c .before .is-run .ensures) ∙ c .if3 .left)) in
-    going-pass runsShown (c .before .before .before .before .before .before .before .before .before .before .loop .inv) (stands-now t) e
+    let e = runs-other (here t) (rest t) (rw (field .ensures) at (sym (c .before .before .before .ends-case .ensures) ∙ c .before .before .if2 .left))
+    (rw (field .ensures) at (sym (c .before .is-run .ensures) ∙ c .if3 .left)) in
+    going-pass runsShown (loop .inv) (stands-now t) e
 
 same-length-2 : tie.Need-same-length-2 Inv-loop μ-loop
-same-length-2 c = c .before .before .before .before .loop .inv .same
+same-length-2 c =
+    let loop = c .before .before .before .before .loop in
+    loop .inv .same
 
 returns-2 : tie.Need-returns-2 Inv-loop μ-loop
 returns-2 c =
+    let loop = c .before .before .before .before .loop in
     let free = c .before .before .before .is-open in
     let more = c .before .stands-here in
-    going-stop runsShown (c .before .before .before .before .loop .inv) (free .result) (more .result) runs-over (c .if1 .left) (free .ensures) (more .ensures)
+    going-stop runsShown (loop .inv) (free .result) (more .result) runs-over (c .if1 .left) (free .ensures) (more .ensures)
 
 pub put-runs-spec : {M : Type 1} → statement M
 put-runs-spec =

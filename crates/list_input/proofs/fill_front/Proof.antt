@@ -26,14 +26,18 @@ part-fill-words-end c = search needs
 
 fill-words-requires : tie.Need-fill-words-requires
 fill-words-requires c κs =
-    let a = length-take-le (c .before .before .before .before .args .n) (c .before .before .before .before .args .area .now) (c .before .before .before .before .pre .0) in
-    rw (a, rest-part (c .before .before .before .before .args .s .now) (c .before .before .before .before .args .at), length-drop (c .before .before .before .before .args .at) (c .before .before .before .before .args .s .now)) (omega (arith, c .before .before .before .before .pre .1))
+    let args = c .before .before .before .before .args in
+    let pre = c .before .before .before .before .pre in
+    let a = length-take-le (args .n) (args .area .now) (pre .0) in
+    rw (a, rest-part (args .s .now) (args .at), length-drop (args .at) (args .s .now)) (omega (arith, pre .1))
 
 same-length : tie.Need-same-length
 same-length c = search needs
 
 returns : tie.Need-returns
-returns c = front-filled _ _ (c .before .before .before .before .before .before .before .args .area .now) (c .before .before .before .before .before .before .before .args .s .now) _ (c .before .before .before .before .before .before .before .pre .0) (c .before .before .fill-words .ensures)
+returns c =
+    let start = c .before .before .before .before .before .before .before in
+    front-filled _ _ (start .args .area .now) (start .args .s .now) _ (start .pre .0) (c .before .before .fill-words .ensures)
 
 pub fill-front-spec : {M : Type 1} → statement M
 fill-front-spec =

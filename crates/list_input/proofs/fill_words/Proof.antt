@@ -20,16 +20,24 @@ loop-holds : tie.Need-loop-holds Inv-loop μ-loop
 loop-holds c = filling-start _ _
 
 mul-at : tie.Need-mul-at Inv-loop μ-loop
-mul-at c = omega (arith, c .before .loop .inv .same, c .before .before .before .before .pre)
+mul-at c =
+    let pre = c .before .before .before .before .pre in
+    omega (arith, c .before .loop .inv .same, pre)
 
 sub-word-of : tie.Need-sub-word-of Inv-loop μ-loop
-sub-word-of c = omega (arith, c .before .loop .inv .same, c .before .before .before .before .pre)
+sub-word-of c =
+    let pre = c .before .before .before .before .pre in
+    omega (arith, c .before .loop .inv .same, pre)
 
 part-word-of-start : tie.Need-part-word-of-start Inv-loop μ-loop
-part-word-of-start c = omega (arith, c .before .loop .inv .same, c .before .before .before .before .pre)
+part-word-of-start c =
+    let pre = c .before .before .before .before .pre in
+    omega (arith, c .before .loop .inv .same, pre)
 
 part-word-of-end : tie.Need-part-word-of-end Inv-loop μ-loop
-part-word-of-end c = omega (arith, c .before .loop .inv .same, c .before .before .before .before .pre)
+part-word-of-end c =
+    let pre = c .before .before .before .before .pre in
+    omega (arith, c .before .loop .inv .same, pre)
 
 word-of-requires : tie.Need-word-of-requires Inv-loop μ-loop
 word-of-requires c κs = search needs
@@ -47,7 +55,9 @@ loop-less : tie.Need-loop-less Inv-loop μ-loop
 loop-less c = omega (arith, c .before .before .before .loop .inv .same)
 
 loop-again : tie.Need-loop-again Inv-loop μ-loop
-loop-again c = filling-more (c .before .before .before .loop .inv) (c .before .before .loop-test .taken) _ (c .word-of .ensures ∙ ap wordOf (rest-part (c .before .before .before .before .before .before .args .s .now) (c .before .before .before .loop .i * 4)))
+loop-again c =
+    let args = c .before .before .before .before .before .before .args in
+    filling-more (c .before .before .before .loop .inv) (c .before .before .loop-test .taken) _ (c .word-of .ensures ∙ ap wordOf (rest-part (args .s .now) (c .before .before .before .loop .i * 4)))
 
 same-length : tie.Need-same-length Inv-loop μ-loop
 same-length c = c .before .loop .inv .same

@@ -22,7 +22,8 @@ returns-2 : tie.Need-returns-2
 returns-2 c =
     let a = c .before .before .before .before .before .before .before .args in
     let k = c .before .before .numbers-of in
-    input-not (length (a .events .now)) (length (a .attributes .now)) (a .s .now) (k .result .events) (k .result .attributes) (k .result .source) (k .ensures .0 .0) (k .ensures .1 .0 .0) (k .ensures .1 .1 .0) (c .before .before .before .if1 .left) (c .before .is-whole .result) (c .before .is-whole .ensures) (not-true _ (c .if2 .taken)) (a .events .now) (a .attributes .now)
+    input-not (length (a .events .now)) (length (a .attributes .now)) (a .s .now) (k .result .events) (k .result .attributes) (k .result .source) (k .ensures .0 .0) (k .ensures .1 .0 .0)
+    (k .ensures .1 .1 .0) (c .before .before .before .if1 .left) (c .before .is-whole .result) (c .before .is-whole .ensures) (not-true _ (c .if2 .taken)) (a .events .now) (a .attributes .now)
 
 mul-here : tie.Need-mul-here
 mul-here c = search needs
@@ -44,14 +45,24 @@ add-at c = search needs
 
 fill-front-requires : tie.Need-fill-front-requires
 fill-front-requires c κs =
-    let f = rest-true (length (c .before .before .before .before .before .before .before .before .before .before .before .before .args .events .now)) (length (c .before .before .before .before .before .before .before .before .before .before .before .before .args .attributes .now)) (length (c .before .before .before .before .before .before .before .before .before .before .before .before .args .s .now)) (c .before .before .before .before .before .before .before .numbers-of .result .events) (c .before .before .before .before .before .before .before .numbers-of .result .attributes) (c .before .before .before .before .before .before .before .numbers-of .result .source) (sym (c .before .before .before .before .before .before .is-whole .ensures) ∙ not-false _ (c .before .before .before .before .before .if2 .left)) in
+    let args = c .before .before .before .before .before .before .before .before .before .before .before .before .args in
+    let numbers-of = c .before .before .before .before .before .before .before .numbers-of in
+    let is-whole = c .before .before .before .before .before .before .is-whole in
+    let if2 = c .before .before .before .before .before .if2 in
+    let f = rest-true (length (args .events .now)) (length (args .attributes .now)) (length (args .s .now)) (numbers-of .result .events)
+    (numbers-of .result .attributes) (numbers-of .result .source) (sym (is-whole .ensures) ∙ not-false _ (if2 .left)) in
     let x = f .0 in
     let y = f .2 in
     (omega arith, omega arith)
 
 fill-front-requires-2 : tie.Need-fill-front-requires-2
 fill-front-requires-2 c κs =
-    let f = rest-true (length (c .before .before .before .before .before .before .before .before .before .before .before .before .before .before .before .before .args .events .now)) (length (c .before .before .before .before .before .before .before .before .before .before .before .before .before .before .before .before .args .attributes .now)) (length (c .before .before .before .before .before .before .before .before .before .before .before .before .before .before .before .before .args .s .now)) (c .before .before .before .before .before .before .before .before .before .before .before .numbers-of .result .events) (c .before .before .before .before .before .before .before .before .before .before .before .numbers-of .result .attributes) (c .before .before .before .before .before .before .before .before .before .before .before .numbers-of .result .source) (sym (c .before .before .before .before .before .before .before .before .before .before .is-whole .ensures) ∙ not-false _ (c .before .before .before .before .before .before .before .before .before .if2 .left)) in
+    let args = c .before .before .before .before .before .before .before .before .before .before .before .before .before .before .before .before .args in
+    let numbers-of = c .before .before .before .before .before .before .before .before .before .before .before .numbers-of in
+    let is-whole = c .before .before .before .before .before .before .before .before .before .before .is-whole in
+    let if2 = c .before .before .before .before .before .before .before .before .before .if2 in
+    let f = rest-true (length (args .events .now)) (length (args .attributes .now)) (length (args .s .now)) (numbers-of .result .events)
+    (numbers-of .result .attributes) (numbers-of .result .source) (sym (is-whole .ensures) ∙ not-false _ (if2 .left)) in
     let x = f .1 in
     let y = f .2 in
     (omega arith, omega arith)
@@ -64,9 +75,15 @@ same-length-2 c = search needs
 
 returns-3 : tie.Need-returns-3
 returns-3 c =
+    let if1 = c .before .before .before .before .before .before .before .before .before .before .before .before .before .before .before .if1 in
+    let is-whole = c .before .before .before .before .before .before .before .before .before .before .before .before .before .is-whole in
+    let if2 = c .before .before .before .before .before .before .before .before .before .before .before .before .if2 in
+    let fill-front = c .before .before .before .before .before .before .fill-front in
     let a = c .before .before .before .before .before .before .before .before .before .before .before .before .before .before .before .before .before .before .before .args in
     let k = c .before .before .before .before .before .before .before .before .before .before .before .before .before .before .numbers-of in
-    input-is (length (a .events .now)) (length (a .attributes .now)) (a .s .now) (k .result .events) (k .result .attributes) (k .result .source) (k .ensures .0 .0) (k .ensures .1 .0 .0) (k .ensures .1 .1 .0) (c .before .before .before .before .before .before .before .before .before .before .before .before .before .before .before .if1 .left) (c .before .before .before .before .before .before .before .before .before .before .before .before .before .is-whole .result) (c .before .before .before .before .before .before .before .before .before .before .before .before .before .is-whole .ensures) (not-false _ (c .before .before .before .before .before .before .before .before .before .before .before .before .if2 .left)) (a .events .now) _ (a .attributes .now) _ (c .before .before .before .before .before .before .fill-front .ensures) (c .before .before .fill-front2 .ensures)
+    input-is (length (a .events .now)) (length (a .attributes .now)) (a .s .now) (k .result .events) (k .result .attributes)
+    (k .result .source) (k .ensures .0 .0) (k .ensures .1 .0 .0) (k .ensures .1 .1 .0) (if1 .left) (is-whole .result) (is-whole .ensures)
+    (not-false _ (if2 .left)) (a .events .now) _ (a .attributes .now) _ (fill-front .ensures) (c .before .before .fill-front2 .ensures)
 
 pub input-of-spec : {M : Type 1} → statement M
 input-of-spec =

@@ -42,10 +42,17 @@ wide-requires-3 : tie.Need-wide-requires-3
 wide-requires-3 c κs = search needs
 
 returns : tie.Need-returns
-returns c = (
-  (c .before .before .before .before .before .before .wide .ensures .0 ∙ c .before .before .before .before .before .before .before .word-of .ensures, c .before .before .before .before .before .before .wide .ensures .1),
-  ((c .before .before .before .wide2 .ensures .0 ∙ c .before .before .before .before .word-of2 .ensures ∙ ap wordOf (rest-part (c .before .before .before .before .before .before .before .before .before .args .s .now) 4), c .before .before .before .wide2 .ensures .1), (c .wide3 .ensures .0 ∙ c .before .word-of3 .ensures ∙ ap wordOf (rest-part (c .before .before .before .before .before .before .before .before .before .args .s .now) 8), c .wide3 .ensures .1)),
-)
+returns c =
+    let args = c .before .before .before .before .before .before .before .before .before .args in
+    let word-of = c .before .before .before .before .before .before .before .word-of in
+    let wide = c .before .before .before .before .before .before .wide in
+    let word-of2 = c .before .before .before .before .word-of2 in (
+      (wide .ensures .0 ∙ word-of .ensures, wide .ensures .1),
+      (
+        (c .before .before .before .wide2 .ensures .0 ∙ word-of2 .ensures ∙ ap wordOf (rest-part (args .s .now) 4), c .before .before .before .wide2 .ensures .1),
+        (c .wide3 .ensures .0 ∙ c .before .word-of3 .ensures ∙ ap wordOf (rest-part (args .s .now) 8), c .wide3 .ensures .1),
+      ),
+    )
 
 pub numbers-of-spec : {M : Type 1} → statement M
 numbers-of-spec =

@@ -12,33 +12,49 @@ enum-known-found : tie.Need-enum-known-found
 enum-known-found c = search needs
 
 add-end : tie.Need-add-end
-add-end c = let a = c .before .before .before .before .before .before .before .before .before .before .before .args in
-    let l = found-lies (a .found) _ (c .before .before .found .given .1) (length (a .events .now)) (length (a .attributes .now)) (length (a .input .now)) (c .before .before .before .before .before .before .before .before .before .before .before .pre) in
+add-end c =
+    let pre = c .before .before .before .before .before .before .before .before .before .before .before .pre in
+    let a = c .before .before .before .before .before .before .before .before .before .before .before .args in
+    let l = found-lies (a .found) _ (c .before .before .found .given .1) (length (a .events .now)) (length (a .attributes .now)) (length (a .input .now)) pre in
     omega arith
 
 slice-aggregate-public-listing : tie.Need-slice-aggregate-public-listing
-slice-aggregate-public-listing c = let a = c .before .before .before .before .before .before .before .before .before .before .before .before .args in
-    let l = found-lies (a .found) _ (c .before .before .before .found .given .1) (length (a .events .now)) (length (a .attributes .now)) (length (a .input .now)) (c .before .before .before .before .before .before .before .before .before .before .before .before .pre) in
+slice-aggregate-public-listing c =
+    let start = c .before .before .before .before .before .before .before .before .before .before .before .before in
+    let a = start .args in
+    let l = found-lies (a .found) _ (c .before .before .before .found .given .1) (length (a .events .now)) (length (a .attributes .now)) (length (a .input .now)) (start .pre) in
     sym (length-take-le _ _ (l .0))
 
 slice-aggregate-public-listing-2 : tie.Need-slice-aggregate-public-listing-2
-slice-aggregate-public-listing-2 c = let a = c .before .before .before .before .before .before .before .before .before .before .before .before .before .args in
-    let l = found-lies (a .found) _ (c .before .before .before .before .found .given .1) (length (a .events .now)) (length (a .attributes .now)) (length (a .input .now)) (c .before .before .before .before .before .before .before .before .before .before .before .before .before .pre) in
+slice-aggregate-public-listing-2 c =
+    let start = c .before .before .before .before .before .before .before .before .before .before .before .before .before in
+    let found = c .before .before .before .before .found in
+    let a = start .args in
+    let l = found-lies (a .found) _ (found .given .1) (length (a .events .now)) (length (a .attributes .now)) (length (a .input .now)) (start .pre) in
     sym (length-take-le _ _ (l .1 .0))
 
 sub-public-listing : tie.Need-sub-public-listing
-sub-public-listing c = let a = c .before .before .before .before .before .before .before .before .before .before .before .before .before .args in
-    let l = found-lies (a .found) _ (c .before .before .before .before .found .given .1) (length (a .events .now)) (length (a .attributes .now)) (length (a .input .now)) (c .before .before .before .before .before .before .before .before .before .before .before .before .before .pre) in
+sub-public-listing c =
+    let pre = c .before .before .before .before .before .before .before .before .before .before .before .before .before .pre in
+    let found = c .before .before .before .before .found in
+    let a = c .before .before .before .before .before .before .before .before .before .before .before .before .before .args in
+    let l = found-lies (a .found) _ (found .given .1) (length (a .events .now)) (length (a .attributes .now)) (length (a .input .now)) pre in
     omega arith
 
 part-public-listing-start : tie.Need-part-public-listing-start
-part-public-listing-start c = let a = c .before .before .before .before .before .before .before .before .before .before .before .before .before .args in
-    let l = found-lies (a .found) _ (c .before .before .before .before .found .given .1) (length (a .events .now)) (length (a .attributes .now)) (length (a .input .now)) (c .before .before .before .before .before .before .before .before .before .before .before .before .before .pre) in
+part-public-listing-start c =
+    let pre = c .before .before .before .before .before .before .before .before .before .before .before .before .before .pre in
+    let found = c .before .before .before .before .found in
+    let a = c .before .before .before .before .before .before .before .before .before .before .before .before .before .args in
+    let l = found-lies (a .found) _ (found .given .1) (length (a .events .now)) (length (a .attributes .now)) (length (a .input .now)) pre in
     omega arith
 
 part-public-listing-end : tie.Need-part-public-listing-end
-part-public-listing-end c = let a = c .before .before .before .before .before .before .before .before .before .before .before .before .before .args in
-    let l = found-lies (a .found) _ (c .before .before .before .before .found .given .1) (length (a .events .now)) (length (a .attributes .now)) (length (a .input .now)) (c .before .before .before .before .before .before .before .before .before .before .before .before .before .pre) in
+part-public-listing-end c =
+    let pre = c .before .before .before .before .before .before .before .before .before .before .before .before .before .pre in
+    let found = c .before .before .before .before .found in
+    let a = c .before .before .before .before .before .before .before .before .before .before .before .before .before .args in
+    let l = found-lies (a .found) _ (found .given .1) (length (a .events .now)) (length (a .attributes .now)) (length (a .input .now)) pre in
     omega arith
 
 public-listing-requires : tie.Need-public-listing-requires
@@ -63,8 +79,13 @@ same-length-4 : tie.Need-same-length-4
 same-length-4 c = search needs
 
 returns : tie.Need-returns
-returns c = let a = c .before .before .before .before .before .before .before .before .before .before .before .before .before .before .before .before .before .before .before .before .before .before .before .before .before .before .before .args in
-    same-found (lent (a .records .now) (a .text .now) (a .scratch .now) (a .out .now)) (length (a .out .now)) _ _ (found-is (a .found) _ (c .before .before .before .before .before .before .before .before .before .before .before .before .before .before .before .before .before .before .found .given .1) (a .events .now) (a .attributes .now) (a .input .now)) _ _ _ _ _ (c .before .before .before .before .before .before .before .before .public-listing .ensures)
+returns c =
+    let found = c .before .before .before .before .before .before .before .before .before .before .before .before .before .before .before .before .before .before .found in
+    let public-listing = c .before .before .before .before .before .before .before .before .public-listing in
+    let a = c .before .before .before .before .before .before .before .before .before .before .before .before .before .before
+    .before .before .before .before .before .before .before .before .before .before .before .before .before .args in
+    same-found (lent (a .records .now) (a .text .now) (a .scratch .now) (a .out .now)) (length (a .out .now)) _ _
+    (found-is (a .found) _ (found .given .1) (a .events .now) (a .attributes .now) (a .input .now)) _ _ _ _ _ (public-listing .ensures)
 
 same-length-5 : tie.Need-same-length-5
 same-length-5 c = search needs
@@ -79,8 +100,12 @@ same-length-8 : tie.Need-same-length-8
 same-length-8 c = search needs
 
 returns-2 : tie.Need-returns-2
-returns-2 c = let a = c .before .before .before .before .before .before .before .before .before .before .before .before .before .before .before .before .before .before .before .before .before .before .args in
-    same-found (lent (a .records .now) (a .text .now) (a .scratch .now) (a .out .now)) (length (a .out .now)) _ _ (found-not (a .found) (c .before .before .before .before .before .before .before .before .before .before .before .before .before .enum-told .given .1) (a .events .now) (a .attributes .now) (a .input .now)) _ _ _ _ _ (c .before .before .before .before .before .before .before .before .refuse-input .ensures)
+returns-2 c =
+    let enum-told-step = c .before .before .before .before .before .before .before .before .before .before .before .before .before .enum-told in
+    let refuse-input = c .before .before .before .before .before .before .before .before .refuse-input in
+    let a = c .before .before .before .before .before .before .before .before .before .before .before .before .before .before .before .before .before .before .before .before .before .before .args in
+    same-found (lent (a .records .now) (a .text .now) (a .scratch .now) (a .out .now)) (length (a .out .now)) _ _
+    (found-not (a .found) (enum-told-step .given .1) (a .events .now) (a .attributes .now) (a .input .now)) _ _ _ _ _ (refuse-input .ensures)
 
 pub print-found-spec : {M : Type 1} → statement M
 print-found-spec =

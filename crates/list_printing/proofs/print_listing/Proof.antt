@@ -19,9 +19,11 @@ input-of-requires c κs = search needs
 
 print-found-requires : tie.Need-print-found-requires
 print-found-requires c κs =
+    let front = c .before .before .before .before .before .before .before .before .before .before .before .before .before .front in
     let a = c .before .before .before .before .before .before .before .before .before .before .before .before .before .before .before .before .before .before .before .before .before .args in
     let i = c .before .before .before .before .before .before .before .before .before .before .input-of in
-    found-lies (i .result) (length (a .events .now)) (length (i .last .1 .0)) (length (a .attributes .now)) (length (i .last .1 .1 .0)) (c .before .before .before .before .before .before .before .before .before .before .before .before .before .front .result .now) (i .ensures .0) (i .kept .1 .0) (i .kept .1 .1 .0)
+    found-lies (i .result) (length (a .events .now)) (length (i .last .1 .0)) (length (a .attributes .now))
+    (length (i .last .1 .1 .0)) (front .result .now) (i .ensures .0) (i .kept .1 .0) (i .kept .1 .1 .0)
 
 clear-words-requires : tie.Need-clear-words-requires
 clear-words-requires c κs = search needs
@@ -50,13 +52,19 @@ same-length-6 c = search needs
 returns : tie.Need-returns
 unfolding printed areasLeft
 returns c =
-    let a = c .before .before .before .before .before .before .before .before .before .before .before .before .before .before .before .before .before .before .before .before .before .before .before .before .before .before .before .before .before .before .before .before .before .before .before .before .before .before .args in
-    let i = c .before .before .before .before .before .before .before .before .before .before .before .before .before .before .before .before .before .before .before .before .before .before .before .before .before .before .before .input-of in
+    let at-print-found = c .before .before .before .before .before .before .before .before .before .before .before .before .before .before .before .before in
+    let front = at-print-found .before .before .before .before .before .before .before .before .before .before .before .before .before .before .front in
+    let clear-words = c .before .before .before .before .before .before .clear-words in
+    let a = c .before .before .before .before .before .before .before .before .before .before .before .before .before .before .before .before .before .before .before
+    .before .before .before .before .before .before .before .before .before .before .before .before .before .before .before .before .before .before .before .args in
+    let i = c .before .before .before .before .before .before .before .before .before .before .before .before .before .before
+    .before .before .before .before .before .before .before .before .before .before .before .before .before .input-of in
     let m = length (a .events .now) in
     let n = length (a .attributes .now) in
-    let e = found-table (i .result) (a .events .now) (i .last .1 .0) (a .attributes .now) (i .last .1 .1 .0) (c .before .before .before .before .before .before .before .before .before .before .before .before .before .before .before .before .before .before .before .before .before .before .before .before .before .before .before .before .before .before .front .result .now) (i .ensures .0) (i .ensures .1 .0) (i .ensures .1 .1) ∙ ap (λ (s : List ℕ). inputOf m n s) (c .before .before .before .before .before .before .before .before .before .before .before .before .before .before .before .before .before .before .before .before .before .before .before .before .before .before .before .before .before .before .front .ensures) in
-    let h = same-found (lent (a .records .now) (a .text .now) (a .scratch .now) (a .out .now)) (length (a .out .now)) _ _ e _ _ _ _ _ (c .before .before .before .before .before .before .before .before .before .before .before .before .before .before .before .before .print-found .ensures) in
-    (h .0, (h .1 .0, (c .before .before .before .before .before .before .clear-words .ensures ∙ ap zeros (i .kept .1 .0), (c .before .before .clear-words2 .ensures ∙ ap zeros (i .kept .1 .1 .0), h .1 .1))))
+    let e = found-table (i .result) (a .events .now) (i .last .1 .0) (a .attributes .now) (i .last .1 .1 .0) (front .result .now) (i .ensures .0) (i .ensures .1 .0) (i .ensures .1 .1)
+    ∙ ap (λ (s : List ℕ). inputOf m n s) (front .ensures) in
+    let h = same-found (lent (a .records .now) (a .text .now) (a .scratch .now) (a .out .now)) (length (a .out .now)) _ _ e _ _ _ _ _ (at-print-found .print-found .ensures) in
+    (h .0, (h .1 .0, (clear-words .ensures ∙ ap zeros (i .kept .1 .0), (c .before .before .clear-words2 .ensures ∙ ap zeros (i .kept .1 .1 .0), h .1 .1))))
 
 pub print-listing-spec : {M : Type 1} → statement M
 print-listing-spec =

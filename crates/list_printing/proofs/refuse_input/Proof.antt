@@ -27,7 +27,11 @@ same-length-4 : tie.Need-same-length-4
 same-length-4 c = search needs
 
 returns : tie.Need-returns
-returns c = (c .before .before .refuse .ensures .0, (c .before .before .refuse .ensures .1, (c .before .before .before .before .before .before .before .before .before .before .before .before .before .before .clear-words .ensures, (c .before .before .before .before .before .before .before .before .before .before .clear .ensures, c .before .before .before .before .before .before .clear2 .ensures))))
+returns c =
+    let clear-words = c .before .before .before .before .before .before .before .before .before .before .before .before .before .before .clear-words in
+    let clear = c .before .before .before .before .before .before .before .before .before .before .clear in
+    let clear2 = c .before .before .before .before .before .before .clear2 in
+    (c .before .before .refuse .ensures .0, (c .before .before .refuse .ensures .1, (clear-words .ensures, (clear .ensures, clear2 .ensures))))
 
 pub refuse-input-spec : {M : Type 1} → statement M
 refuse-input-spec =

@@ -18,7 +18,10 @@ same-length c = search needs
 
 returns : tie.Need-returns
 unfolding kindBy
-returns c = rw (sym (c .before .before .before .before .before .before .is-skipped .ensures) ∙ c .before .before .before .before .before .if1 .taken) (c .before .before .put .ensures)
+returns c =
+    let is-skipped = c .before .before .before .before .before .before .is-skipped in
+    let if1 = c .before .before .before .before .before .if1 in
+    rw (sym (is-skipped .ensures) ∙ if1 .taken) (c .before .before .put .ensures)
 
 is-flaky-requires : tie.Need-is-flaky-requires
 is-flaky-requires c κs = search needs
@@ -34,7 +37,12 @@ same-length-2 c = search needs
 
 returns-2 : tie.Need-returns-2
 unfolding kindBy
-returns-2 c = rw (sym (c .before .before .before .before .before .before .before .before .is-skipped .ensures) ∙ c .before .before .before .before .before .before .before .if1 .left, sym (c .before .before .before .before .before .before .is-flaky .ensures) ∙ c .before .before .before .before .before .if2 .taken) (c .before .before .put2 .ensures)
+returns-2 c =
+    let is-skipped = c .before .before .before .before .before .before .before .before .is-skipped in
+    let if1 = c .before .before .before .before .before .before .before .if1 in
+    let is-flaky = c .before .before .before .before .before .before .is-flaky in
+    let if2 = c .before .before .before .before .before .if2 in
+    rw (sym (is-skipped .ensures) ∙ if1 .left, sym (is-flaky .ensures) ∙ if2 .taken) (c .before .before .put2 .ensures)
 
 slice-aggregate-put-3 : tie.Need-slice-aggregate-put-3
 slice-aggregate-put-3 c = search needs
@@ -47,7 +55,12 @@ same-length-3 c = search needs
 
 returns-3 : tie.Need-returns-3
 unfolding kindBy
-returns-3 c = rw (sym (c .before .before .before .before .before .before .before .before .is-skipped .ensures) ∙ c .before .before .before .before .before .before .before .if1 .left, sym (c .before .before .before .before .before .before .is-flaky .ensures) ∙ c .before .before .before .before .before .if2 .left) (c .before .before .put3 .ensures)
+returns-3 c =
+    let is-skipped = c .before .before .before .before .before .before .before .before .is-skipped in
+    let if1 = c .before .before .before .before .before .before .before .if1 in
+    let is-flaky = c .before .before .before .before .before .before .is-flaky in
+    let if2 = c .before .before .before .before .before .if2 in
+    rw (sym (is-skipped .ensures) ∙ if1 .left, sym (is-flaky .ensures) ∙ if2 .left) (c .before .before .put3 .ensures)
 
 pub put-kind-spec : {M : Type 1} → statement M
 put-kind-spec =

@@ -15,7 +15,10 @@ same-length c = search needs
 
 returns : tie.Need-returns
 unfolding statusBy
-returns c = rw (not-true (c .before .before .before .before .before .before .before .before .args .s .settled) (c .before .before .before .before .before .if1 .taken)) (c .before .before .put .ensures)
+returns c =
+    let args = c .before .before .before .before .before .before .before .before .args in
+    let if1 = c .before .before .before .before .before .if1 in
+    rw (not-true (args .s .settled) (if1 .taken)) (c .before .before .put .ensures)
 
 slice-aggregate-put-2 : tie.Need-slice-aggregate-put-2
 slice-aggregate-put-2 c = search needs
@@ -40,14 +43,22 @@ same-length-2 c = search needs
 
 returns-2 : tie.Need-returns-2
 unfolding statusBy
-returns-2 c = rw (not-false (c .before .before .before .before .before .before .before .before .before .args .s .settled) (c .before .before .before .before .before .before .if1 .left), c .before .before .before .before .before .match .keys1) (c .before .before .put2 .ensures)
+returns-2 c =
+    let args = c .before .before .before .before .before .before .before .before .before .args in
+    let if1 = c .before .before .before .before .before .before .if1 in
+    let match = c .before .before .before .before .before .match in
+    rw (not-false (args .s .settled) (if1 .left), match .keys1) (c .before .before .put2 .ensures)
 
 same-length-3 : tie.Need-same-length-3
 same-length-3 c = search needs
 
 returns-3 : tie.Need-returns-3
 unfolding statusBy
-returns-3 c = rw (not-false (c .before .before .before .before .before .before .before .before .before .args .s .settled) (c .before .before .before .before .before .before .if1 .left), c .before .before .before .before .before .match .keys2) (c .before .before .put3 .ensures)
+returns-3 c =
+    let args = c .before .before .before .before .before .before .before .before .before .args in
+    let if1 = c .before .before .before .before .before .before .if1 in
+    let match = c .before .before .before .before .before .match in
+    rw (not-false (args .s .settled) (if1 .left), match .keys2) (c .before .before .put3 .ensures)
 
 same-length-4 : tie.Need-same-length-4
 same-length-4 c = search needs
@@ -55,9 +66,11 @@ same-length-4 c = search needs
 returns-4 : tie.Need-returns-4
 unfolding statusBy
 returns-4 c =
-    let m = c .before .before .before .before .before .before .before .before .before .args .s .main in
+    let args = c .before .before .before .before .before .before .before .before .before .args in
+    let if1 = c .before .before .before .before .before .before .if1 in
+    let m = args .s .main in
     let n = c .before .before .before .before .before .match .rest in
-    rw (not-false (c .before .before .before .before .before .before .before .before .before .args .s .settled) (c .before .before .before .before .before .before .if1 .left), ne-eqb m 8 (n .0 .1), ne-eqb m 6 (n .1)) (c .before .before .put4 .ensures)
+    rw (not-false (args .s .settled) (if1 .left), ne-eqb m 8 (n .0 .1), ne-eqb m 6 (n .1)) (c .before .before .put4 .ensures)
 
 pub put-main-spec : {M : Type 1} → statement M
 put-main-spec =

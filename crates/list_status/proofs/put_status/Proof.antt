@@ -24,8 +24,11 @@ same-length c = search needs
 
 returns : tie.Need-returns
 returns c =
+    let put-main = c .before .before .before .before .before .before .before .before .before .before .before .put-main in
+    let put-kind = c .before .before .before .before .before .before .before .put-kind in
     let s = c .before .before .before .before .before .before .before .before .before .before .before .before .before .before .args .s in
-    other (more (c .before .before .before .before .before .before .before .before .before .before .before .put-main .ensures) (more (c .before .before .before .before .before .before .before .put-kind .ensures) (rw (c .before .before .before .runs-of .ensures) at (c .before .before .put-number .ensures)))) (three-parts (statusWord (statusBy s)) (kindWord (kindBy s)) (decimal (runsBy s)))
+    other (more (put-main .ensures) (more (put-kind .ensures) (rw (c .before .before .before .runs-of .ensures) at (c .before .before .put-number .ensures))))
+    (three-parts (statusWord (statusBy s)) (kindWord (kindBy s)) (decimal (runsBy s)))
 
 pub put-status-spec : {M : Type 1} → statement M
 put-status-spec =

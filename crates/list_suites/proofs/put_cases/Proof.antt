@@ -22,10 +22,14 @@ abbrev μ-loop : tie.MeasureT-loop
 μ-loop out₀ text words at₀ mark₀ out at mark = length words - at
 
 abbrev words : tie.Then1 Inv-loop μ-loop → List ℕ
-words c = c .before .before .before .before .before .before .before .before .args .words .now
+words c =
+    let args = c .before .before .before .before .before .before .before .before .args in
+    args .words .now
 
 abbrev at : tie.Then1 Inv-loop μ-loop → ℕ
-at c = c .before .before .before .before .loop .at
+at c =
+    let loop = c .before .before .before .before .loop in
+    loop .at
 
 -- the record at hand, and those behind it
 abbrev here : tie.Then1 Inv-loop μ-loop → List ℕ
@@ -80,22 +84,31 @@ field-requires : tie.Need-field-requires Inv-loop μ-loop
 field-requires c κs = search needs
 
 same-length : tie.Need-same-length Inv-loop μ-loop
-same-length c = c .before .before .before .before .before .before .before .loop .inv .same
+same-length c =
+    let loop = c .before .before .before .before .before .before .before .loop in
+    loop .inv .same
 
 returns : tie.Need-returns Inv-loop μ-loop
 returns c =
+    let loop = c .before .before .before .before .before .before .before .loop in
     let t = c .before .before .before in
     let text = c .before .before .before .before .before .before .before .before .before .before .before .args .text .now in
-    going-end (casesShown text) (c .before .before .before .before .before .before .before .loop .inv) (stands-now t) (cases-end text (here t) (rest t) (eq-eqb (getD (here t) 0 0) 2 (sym (c .before .field .ensures) ∙ c .if2 .taken)))
+    going-end (casesShown text) (loop .inv) (stands-now t) (cases-end text (here t) (rest t) (eq-eqb (getD (here t) 0 0) 2 (sym (c .before .field .ensures) ∙ c .if2 .taken)))
 
 mul-put-case : tie.Need-mul-put-case Inv-loop μ-loop
-mul-put-case c = omega (arith, room (c .before .before .before .before .before))
+mul-put-case c =
+    let at-then1 = c .before .before .before .before .before in
+    omega (arith, room at-then1)
 
 sub-put-case : tie.Need-sub-put-case Inv-loop μ-loop
-sub-put-case c = omega (arith, room (c .before .before .before .before .before))
+sub-put-case c =
+    let at-then1 = c .before .before .before .before .before in
+    omega (arith, room at-then1)
 
 part-put-case-start : tie.Need-part-put-case-start Inv-loop μ-loop
-part-put-case-start c = omega (arith, room (c .before .before .before .before .before))
+part-put-case-start c =
+    let at-then1 = c .before .before .before .before .before in
+    omega (arith, room at-then1)
 
 part-put-case-end : tie.Need-part-put-case-end Inv-loop μ-loop
 part-put-case-end c = search needs
@@ -104,35 +117,48 @@ put-case-requires : tie.Need-put-case-requires Inv-loop μ-loop
 put-case-requires c κs = search needs
 
 loop-less : tie.Need-loop-less Inv-loop μ-loop
-loop-less c = omega (arith, room (c .before .before .before .before .before .before .before .before .before))
+loop-less c =
+    let at-then1 = c .before .before .before .before .before .before .before .before .before in
+    omega (arith, room at-then1)
 
 loop-again : tie.Need-loop-again Inv-loop μ-loop
 loop-again c =
+    let loop = c .before .before .before .before .before .before .before .before .before .before .before .before .before .loop in
+    let field = c .before .before .before .before .before .before .before .field in
+    let if2 = c .before .before .before .before .before .before .if2 in
+    let if3 = c .before .before .before .before .before .if3 in
     let t = c .before .before .before .before .before .before .before .before .before in
     let text = c .before .before .before .before .before .before .before .before .before .before .before .before .before .before .before .before .before .args .text .now in
-    let e = cases-case text (here t) (rest t) (ne-eqb (getD (here t) 0 0) 2 (λ e. c .before .before .before .before .before .before .if2 .left (c .before .before .before .before .before .before .before .field .ensures ∙ e))) (eq-eqb (getD (here t) 0 0) 3 (sym (c .before .before .before .before .before .before .before .field .ensures) ∙ c .before .before .before .before .before .if3 .taken)) in
+    let e = cases-case text (here t) (rest t) (ne-eqb (getD (here t) 0 0) 2 (λ e. if2 .left (field .ensures ∙ e))) (eq-eqb (getD (here t) 0 0) 3 (sym (field .ensures) ∙ if3 .taken)) in
     let p = rw (records-behind (words t) (at t)) at (c .before .before .put-case .ensures) in
-    going-puts (casesShown text) (c .before .before .before .before .before .before .before .before .before .before .before .before .before .loop .inv) (stands-now t) (caseShown text (here t) (rest t)) e p (search needs)
+    going-puts (casesShown text) (loop .inv) (stands-now t) (caseShown text (here t) (rest t)) e p (search needs)
 
 loop-less-2 : tie.Need-loop-less-2 Inv-loop μ-loop
-loop-less-2 c = omega (arith, room (c .before .before .before .before))
+loop-less-2 c =
+    let at-then1 = c .before .before .before .before in
+    omega (arith, room at-then1)
 
 loop-again-2 : tie.Need-loop-again-2 Inv-loop μ-loop
 loop-again-2 c =
+    let loop = c .before .before .before .before .before .before .before .before .loop in
     let t = c .before .before .before .before in
     let text = c .before .before .before .before .before .before .before .before .before .before .before .before .args .text .now in
-    let e = cases-other text (here t) (rest t) (ne-eqb (getD (here t) 0 0) 2 (λ e. c .before .if2 .left (c .before .before .field .ensures ∙ e))) (ne-eqb (getD (here t) 0 0) 3 (λ e. c .if3 .left (c .before .before .field .ensures ∙ e))) in
-    going-pass (casesShown text) (c .before .before .before .before .before .before .before .before .loop .inv) (stands-now t) e
+    let e = cases-other text (here t) (rest t) (ne-eqb (getD (here t) 0 0) 2 (λ e. c .before .if2 .left (c .before .before .field .ensures ∙ e)))
+    (ne-eqb (getD (here t) 0 0) 3 (λ e. c .if3 .left (c .before .before .field .ensures ∙ e))) in
+    going-pass (casesShown text) (loop .inv) (stands-now t) e
 
 same-length-2 : tie.Need-same-length-2 Inv-loop μ-loop
-same-length-2 c = c .before .before .before .before .loop .inv .same
+same-length-2 c =
+    let loop = c .before .before .before .before .loop in
+    loop .inv .same
 
 returns-2 : tie.Need-returns-2 Inv-loop μ-loop
 returns-2 c =
+    let loop = c .before .before .before .before .loop in
     let free = c .before .before .before .is-open in
     let more = c .before .stands-here in
     let text = c .before .before .before .before .before .before .before .before .args .text .now in
-    going-stop (casesShown text) (c .before .before .before .before .loop .inv) (free .result) (more .result) (cases-over text) (c .if1 .left) (free .ensures) (more .ensures)
+    going-stop (casesShown text) (loop .inv) (free .result) (more .result) (cases-over text) (c .if1 .left) (free .ensures) (more .ensures)
 
 pub put-cases-spec : {M : Type 1} → statement M
 put-cases-spec =

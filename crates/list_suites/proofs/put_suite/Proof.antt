@@ -30,7 +30,14 @@ same-length : tie.Need-same-length
 same-length c = search needs
 
 returns : tie.Need-returns
-returns c = other (more (c .before .before .before .before .before .before .before .before .before .before .before .before .before .before .before .before .before .before .before .put .ensures) (more (c .before .before .before .before .before .before .before .before .before .before .before .before .before .before .before .put-name .ensures) (more (c .before .before .before .before .before .before .before .before .before .before .before .put-counts .ensures) (more (c .before .before .before .before .before .before .before .put-cases .ensures) (c .before .before .put2 .ensures))))) (suite-parts (c .before .before .before .before .before .before .before .before .before .before .before .before .before .before .before .before .before .before .before .before .before .before .before .before .before .before .args .text .now) (c .before .before .before .before .before .before .before .before .before .before .before .before .before .before .before .before .before .before .before .before .before .before .before .before .before .before .args .r .now) (recordsIn (c .before .before .before .before .before .before .before .before .before .before .before .before .before .before .before .before .before .before .before .before .before .before .before .before .before .before .args .below .now)))
+returns c =
+    let at-put-name = c .before .before .before .before .before .before .before .before .before .before .before .before .before .before .before in
+    let at-put = at-put-name .before .before .before .before in
+    let args = at-put .before .before .before .before .before .before .before .args in
+    let put-counts = c .before .before .before .before .before .before .before .before .before .before .before .put-counts in
+    let put-cases = c .before .before .before .before .before .before .before .put-cases in
+    other (more (at-put .put .ensures) (more (at-put-name .put-name .ensures) (more (put-counts .ensures) (more (put-cases .ensures) (c .before .before .put2 .ensures)))))
+    (suite-parts (args .text .now) (args .r .now) (recordsIn (args .below .now)))
 
 pub put-suite-spec : {M : Type 1} → statement M
 put-suite-spec =

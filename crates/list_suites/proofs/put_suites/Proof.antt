@@ -21,10 +21,14 @@ abbrev μ-loop : tie.MeasureT-loop
 μ-loop out₀ text words at₀ mark₀ out at mark = length words - at
 
 abbrev words : tie.Then1 Inv-loop μ-loop → List ℕ
-words c = c .before .before .before .before .before .before .before .before .args .words .now
+words c =
+    let args = c .before .before .before .before .before .before .before .before .args in
+    args .words .now
 
 abbrev at : tie.Then1 Inv-loop μ-loop → ℕ
-at c = c .before .before .before .before .loop .at
+at c =
+    let loop = c .before .before .before .before .loop in
+    loop .at
 
 -- the record at hand, and those behind it
 abbrev here : tie.Then1 Inv-loop μ-loop → List ℕ
@@ -79,13 +83,19 @@ field-requires : tie.Need-field-requires Inv-loop μ-loop
 field-requires c κs = search needs
 
 mul-put-suite : tie.Need-mul-put-suite Inv-loop μ-loop
-mul-put-suite c = omega (arith, room (c .before .before .before .before))
+mul-put-suite c =
+    let at-then1 = c .before .before .before .before in
+    omega (arith, room at-then1)
 
 sub-put-suite : tie.Need-sub-put-suite Inv-loop μ-loop
-sub-put-suite c = omega (arith, room (c .before .before .before .before))
+sub-put-suite c =
+    let at-then1 = c .before .before .before .before in
+    omega (arith, room at-then1)
 
 part-put-suite-start : tie.Need-part-put-suite-start Inv-loop μ-loop
-part-put-suite-start c = omega (arith, room (c .before .before .before .before))
+part-put-suite-start c =
+    let at-then1 = c .before .before .before .before in
+    omega (arith, room at-then1)
 
 part-put-suite-end : tie.Need-part-put-suite-end Inv-loop μ-loop
 part-put-suite-end c = search needs
@@ -94,34 +104,43 @@ put-suite-requires : tie.Need-put-suite-requires Inv-loop μ-loop
 put-suite-requires c κs = search needs
 
 loop-less : tie.Need-loop-less Inv-loop μ-loop
-loop-less c = omega (arith, room (c .before .before .before .before .before .before .before .before))
+loop-less c =
+    let at-then1 = c .before .before .before .before .before .before .before .before in
+    omega (arith, room at-then1)
 
 loop-again : tie.Need-loop-again Inv-loop μ-loop
 loop-again c =
+    let loop = c .before .before .before .before .before .before .before .before .before .before .before .before .loop in
+    let field = c .before .before .before .before .before .before .field in
+    let if2 = c .before .before .before .before .before .if2 in
     let t = c .before .before .before .before .before .before .before .before in
     let text = c .before .before .before .before .before .before .before .before .before .before .before .before .before .before .before .before .args .text .now in
-    let e = suites-suite text (here t) (rest t) (eq-eqb (getD (here t) 0 0) 2 (sym (c .before .before .before .before .before .before .field .ensures) ∙ c .before .before .before .before .before .if2 .taken)) in
+    let e = suites-suite text (here t) (rest t) (eq-eqb (getD (here t) 0 0) 2 (sym (field .ensures) ∙ if2 .taken)) in
     let p = rw (records-behind (words t) (at t)) at (c .before .before .put-suite .ensures) in
-    going-puts (suitesShown text) (c .before .before .before .before .before .before .before .before .before .before .before .before .loop .inv) (stands-now t) (suiteShown text (here t) (rest t)) e p (search needs)
+    going-puts (suitesShown text) (loop .inv) (stands-now t) (suiteShown text (here t) (rest t)) e p (search needs)
 
 loop-less-2 : tie.Need-loop-less-2 Inv-loop μ-loop
 loop-less-2 c = omega (arith, room (c .before .before .before))
 
 loop-again-2 : tie.Need-loop-again-2 Inv-loop μ-loop
 loop-again-2 c =
+    let loop = c .before .before .before .before .before .before .before .loop in
     let t = c .before .before .before in
     let text = c .before .before .before .before .before .before .before .before .before .before .before .args .text .now in
-    going-pass (suitesShown text) (c .before .before .before .before .before .before .before .loop .inv) (stands-now t) (suites-other text (here t) (rest t) (ne-eqb (getD (here t) 0 0) 2 (λ e. c .if2 .left (c .before .field .ensures ∙ e))))
+    going-pass (suitesShown text) (loop .inv) (stands-now t) (suites-other text (here t) (rest t) (ne-eqb (getD (here t) 0 0) 2 (λ e. c .if2 .left (c .before .field .ensures ∙ e))))
 
 same-length : tie.Need-same-length Inv-loop μ-loop
-same-length c = c .before .before .before .before .loop .inv .same
+same-length c =
+    let loop = c .before .before .before .before .loop in
+    loop .inv .same
 
 returns : tie.Need-returns Inv-loop μ-loop
 returns c =
+    let loop = c .before .before .before .before .loop in
     let free = c .before .before .before .is-open in
     let more = c .before .stands-here in
     let text = c .before .before .before .before .before .before .before .before .args .text .now in
-    going-stop (suitesShown text) (c .before .before .before .before .loop .inv) (free .result) (more .result) (suites-over text) (c .if1 .left) (free .ensures) (more .ensures)
+    going-stop (suitesShown text) (loop .inv) (free .result) (more .result) (suites-over text) (c .if1 .left) (free .ensures) (more .ensures)
 
 pub put-suites-spec : {M : Type 1} → statement M
 put-suites-spec =

@@ -18,7 +18,9 @@ abbrev μ-loop : tie.MeasureT-loop
 μ-loop words s₀ at₀ s at = length words - at
 
 abbrev words : tie.Then1 Inv-loop μ-loop → List ℕ
-words c = c .before .before .before .before .before .args .words .now
+words c =
+    let args = c .before .before .before .before .before .args in
+    args .words .now
 
 abbrev at : tie.Then1 Inv-loop μ-loop → ℕ
 at c = c .before .before .before .loop .at
@@ -77,19 +79,26 @@ ends-case-requires c κs = search needs
 
 returns : tie.Need-returns Inv-loop μ-loop
 returns c =
+    let loop = c .before .before .before .before .before .before .before .loop in
     let t = c .before .before .before .before in
-    summing-end (c .before .before .before .before .before .before .before .loop .inv) (stands-now t) (rw (c .before .before .field .ensures) at (sym (c .before .ends-case .ensures) ∙ c .if2 .taken))
+    summing-end (loop .inv) (stands-now t) (rw (c .before .before .field .ensures) at (sym (c .before .ends-case .ensures) ∙ c .if2 .taken))
 
 with-record-requires : tie.Need-with-record-requires Inv-loop μ-loop
-with-record-requires c κs = omega (arith, room (c .before .before .before .before), c .before .before .before .before .before .before .before .loop .inv .few)
+with-record-requires c κs =
+    let loop = c .before .before .before .before .before .before .before .loop in
+    let at-then1 = c .before .before .before .before in
+    omega (arith, room at-then1, loop .inv .few)
 
 loop-less : tie.Need-loop-less Inv-loop μ-loop
-loop-less c = omega (arith, room (c .before .before .before .before .before))
+loop-less c =
+    let at-then1 = c .before .before .before .before .before in
+    omega (arith, room at-then1)
 
 loop-again : tie.Need-loop-again Inv-loop μ-loop
 loop-again c =
+    let loop = c .before .before .before .before .before .before .before .before .loop in
     let t = c .before .before .before .before .before in
-    summing-more (c .before .before .before .before .before .before .before .before .loop .inv) (stands-now t) (rw (c .before .before .before .field .ensures) at (sym (c .before .before .ends-case .ensures) ∙ c .before .if2 .left)) (c .with-record .ensures)
+    summing-more (loop .inv) (stands-now t) (rw (c .before .before .before .field .ensures) at (sym (c .before .before .ends-case .ensures) ∙ c .before .if2 .left)) (c .with-record .ensures)
 
 returns-2 : tie.Need-returns-2 Inv-loop μ-loop
 returns-2 c = summing-done (c .before .before .before .loop .inv) (sym (c .before .stands-here .ensures) ∙ c .if1 .left)

@@ -13,7 +13,9 @@ has-bit-requires : tie.Need-has-bit-requires
 has-bit-requires c κs = search needs
 
 returns-2 : tie.Need-returns-2
-returns-2 c = rw (c .before .field .ensures, c .has-bit .ensures) (main-first (c .before .before .before .before .args .s) (c .before .before .before .before .args .r .now) (c .before .before .if1 .left))
+returns-2 c =
+    let args = c .before .before .before .before .args in
+    rw (c .before .field .ensures, c .has-bit .ensures) (main-first (args .s) (args .r .now) (c .before .before .if1 .left))
 
 pub with-main-spec : {M : Type 1} → statement M
 with-main-spec = tie.close (tie.spec returns field-requires has-bit-requires returns-2)

@@ -11,7 +11,9 @@ with-main-requires : tie.Need-with-main-requires
 with-main-requires c κs = search needs
 
 returns : tie.Need-returns
-returns c = c .with-main .ensures ∙ main-summed (c .before .before .before .before .args .s) (c .before .before .before .before .args .r .now) (rw (c .before .before .field .ensures) at (c .before .if1 .taken))
+returns c =
+    let args = c .before .before .before .before .args in
+    c .with-main .ensures ∙ main-summed (args .s) (args .r .now) (rw (c .before .before .field .ensures) at (c .before .if1 .taken))
 
 is-run-requires : tie.Need-is-run-requires
 is-run-requires c κs = search needs
@@ -21,14 +23,16 @@ with-run-requires c κs = search needs
 
 returns-2 : tie.Need-returns-2
 returns-2 c =
+    let args = c .before .before .before .before .before .before .args in
     let e = c .before .before .before .before .field .ensures in
     c .with-run .ensures
-    ∙ run-summed (c .before .before .before .before .before .before .args .s) (c .before .before .before .before .before .before .args .r .now) (rw e at (c .before .before .before .if1 .left)) (rw e at (sym (c .before .before .is-run .ensures) ∙ c .before .if2 .taken))
+    ∙ run-summed (args .s) (args .r .now) (rw e at (c .before .before .before .if1 .left)) (rw e at (sym (c .before .before .is-run .ensures) ∙ c .before .if2 .taken))
 
 returns-3 : tie.Need-returns-3
 returns-3 c =
+    let args = c .before .before .before .before .before .args in
     let e = c .before .before .before .field .ensures in
-    other-summed (c .before .before .before .before .before .args .s) (c .before .before .before .before .before .args .r .now) (rw e at (c .before .before .if1 .left)) (rw e at (sym (c .before .is-run .ensures) ∙ c .if2 .left))
+    other-summed (args .s) (args .r .now) (rw e at (c .before .before .if1 .left)) (rw e at (sym (c .before .is-run .ensures) ∙ c .if2 .left))
 
 pub with-record-spec : {M : Type 1} → statement M
 with-record-spec =

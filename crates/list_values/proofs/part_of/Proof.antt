@@ -26,12 +26,16 @@ least-requires-2 c κs = search needs
 
 slice-aggregate-result : tie.Need-slice-aggregate-result
 slice-aggregate-result c =
-    let text = c .before .before .before .before .before .args .text .now in
+    let args = c .before .before .before .before .before .args in
+    let text = args .text .now in
     let from = c .before .before .before .least .result in
-    sym (length-take-le _ _ (omega (arith, c .before .least2 .ensures, min-le-right (c .before .before .before .before .before .args .len) (length (take (length text - from) (drop from text))))))
+    sym (length-take-le _ _ (omega (arith, c .before .least2 .ensures, min-le-right (args .len) (length (take (length text - from) (drop from text))))))
 
 returns : tie.Need-returns
-returns c = part-cut (c .before .before .before .before .before .args .text .now) (c .before .before .before .before .before .args .start) (c .before .before .before .before .before .args .len) (c .before .before .before .least .result) (c .before .least2 .result) (c .before .before .before .least .ensures) (c .before .least2 .ensures)
+returns c =
+    let args = c .before .before .before .before .before .args in
+    part-cut (args .text .now) (args .start) (args .len) (c .before .before .before .least .result)
+    (c .before .least2 .result) (c .before .before .before .least .ensures) (c .before .least2 .ensures)
 
 pub part-of-spec : {M : Type 1} → statement M
 part-of-spec =

@@ -24,7 +24,14 @@ same-length : tie.Need-same-length
 same-length c = search needs
 
 returns : tie.Need-returns
-returns c = other (more (c .before .before .before .before .before .before .before .before .before .before .before .before .before .before .before .before .before .before .put-count .ensures) (more (c .before .before .before .before .before .before .before .before .before .before .before .before .before .before .put-count2 .ensures) (more (c .before .before .before .before .before .before .before .before .before .before .put-count3 .ensures) (more (c .before .before .before .before .before .before .put-count4 .ensures) (c .before .before .put-disabled .ensures))))) (counts-parts (counts (c .before .before .before .before .before .before .before .before .before .before .before .before .before .before .before .before .before .before .before .before .before .before .args .r .now)))
+returns c =
+    let at-put-count = c .before .before .before .before .before .before .before .before .before .before .before .before .before .before .before .before .before .before in
+    let args = at-put-count .before .before .before .before .args in
+    let put-count2 = c .before .before .before .before .before .before .before .before .before .before .before .before .before .before .put-count2 in
+    let put-count3 = c .before .before .before .before .before .before .before .before .before .before .put-count3 in
+    let put-count4 = c .before .before .before .before .before .before .put-count4 in
+    other (more (at-put-count .put-count .ensures) (more (put-count2 .ensures) (more (put-count3 .ensures) (more (put-count4 .ensures) (c .before .before .put-disabled .ensures)))))
+    (counts-parts (counts (args .r .now)))
 
 pub put-counts-spec : {M : Type 1} → statement M
 put-counts-spec =

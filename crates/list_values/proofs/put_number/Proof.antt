@@ -16,7 +16,9 @@ same-length : tie.Need-same-length
 same-length c = search needs
 
 returns : tie.Need-returns
-returns c = more (c .before .before .before .before .before .before .put .ensures) (c .before .before .put-decimal .ensures)
+returns c =
+    let put = c .before .before .before .before .before .before .put in
+    more (put .ensures) (c .before .before .put-decimal .ensures)
 
 pub put-number-spec : {M : Type 1} → statement M
 put-number-spec =

@@ -22,7 +22,10 @@ same-length : tie.Need-same-length
 same-length c = search needs
 
 returns : tie.Need-returns
-returns c = more (c .before .before .before .before .before .before .before .before .before .before .before .put .ensures) (more (c .before .before .before .before .before .before .before .put-escaped .ensures) (c .before .before .put2 .ensures))
+returns c =
+    let put = c .before .before .before .before .before .before .before .before .before .before .before .put in
+    let put-escaped = c .before .before .before .before .before .before .before .put-escaped in
+    more (put .ensures) (more (put-escaped .ensures) (c .before .before .put2 .ensures))
 
 pub put-quoted-spec : {M : Type 1} → statement M
 put-quoted-spec =

@@ -26,7 +26,12 @@ same-length : tie.Need-same-length
 same-length c = search needs
 
 returns : tie.Need-returns
-returns c = rw (sym (c .before .before .before .before .before .before .before .before .before .before .before .before .has-bit .ensures) ∙ c .before .before .before .before .before .before .before .before .before .before .before .if1 .taken) (more (c .before .before .before .before .before .before .before .before .put .ensures) (rw (c .before .before .before .before .field .ensures, c .before .before .before .field2 .ensures) at (c .before .before .put-time .ensures)))
+returns c =
+    let has-bit = c .before .before .before .before .before .before .before .before .before .before .before .before .has-bit in
+    let if1 = c .before .before .before .before .before .before .before .before .before .before .before .if1 in
+    let put = c .before .before .before .before .before .before .before .before .put in
+    let field = c .before .before .before .before .field in
+    rw (sym (has-bit .ensures) ∙ if1 .taken) (more (put .ensures) (rw (field .ensures, c .before .before .before .field2 .ensures) at (c .before .before .put-time .ensures)))
 
 slice-aggregate-put-2 : tie.Need-slice-aggregate-put-2
 slice-aggregate-put-2 c = search needs
@@ -38,7 +43,10 @@ same-length-2 : tie.Need-same-length-2
 same-length-2 c = search needs
 
 returns-2 : tie.Need-returns-2
-returns-2 c = rw (sym (c .before .before .before .before .before .before .has-bit .ensures) ∙ c .before .before .before .before .before .if1 .left) (c .before .before .put2 .ensures)
+returns-2 c =
+    let has-bit = c .before .before .before .before .before .before .has-bit in
+    let if1 = c .before .before .before .before .before .if1 in
+    rw (sym (has-bit .ensures) ∙ if1 .left) (c .before .before .put2 .ensures)
 
 pub put-time-spec : {M : Type 1} → statement M
 put-time-spec =

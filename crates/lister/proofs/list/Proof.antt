@@ -28,10 +28,12 @@ same-length c = search needs
 
 returns : tie.Need-returns
 returns c =
-    let words = c .before .before .before .before .before .before .before .before .before .before .args .records .now in
-    let text = c .before .before .before .before .before .before .before .before .before .before .args .text .now in
-    let n = length (c .before .before .before .before .before .before .before .before .before .before .args .out .now) in
-    refused-whole words text n (c .refuse .ensures) (no-listing words text n (sym (c .before .before .is-layout .ensures) ∙ not-true _ (c .before .if1 .taken)) (c .before .before .before .before .before .clear .ensures))
+    let args = c .before .before .before .before .before .before .before .before .before .before .args in
+    let clear = c .before .before .before .before .before .clear in
+    let words = args .records .now in
+    let text = args .text .now in
+    let n = length (args .out .now) in
+    refused-whole words text n (c .refuse .ensures) (no-listing words text n (sym (c .before .before .is-layout .ensures) ∙ not-true _ (c .before .if1 .taken)) (clear .ensures))
 
 least-requires : tie.Need-least-requires
 least-requires c κs = search needs
@@ -40,10 +42,15 @@ least-requires-2 : tie.Need-least-requires-2
 least-requires-2 c κs = search needs
 
 slice-aggregate-put-report : tie.Need-slice-aggregate-put-report
-slice-aggregate-put-report c = sym (length-take-le (c .before .before .least2 .result) (c .before .before .before .before .before .before .before .before .before .before .before .before .before .args .text .now) (omega (arith, c .before .before .least2 .ensures, min-le-left (length (c .before .before .before .before .before .before .before .before .before .before .before .before .before .args .text .now)) mostBytes)))
+slice-aggregate-put-report c =
+    let args = c .before .before .before .before .before .before .before .before .before .before .before .before .before .args in
+    sym (length-take-le (c .before .before .least2 .result) (args .text .now) (omega (arith, c .before .before .least2 .ensures, min-le-left (length (args .text .now)) mostBytes)))
 
 slice-aggregate-put-report-2 : tie.Need-slice-aggregate-put-report-2
-slice-aggregate-put-report-2 c = sym (length-take-le (c .before .before .before .before .least .result) (c .before .before .before .before .before .before .before .before .before .before .before .before .before .before .args .records .now) (omega (arith, c .before .before .before .before .least .ensures, min-le-left (length (c .before .before .before .before .before .before .before .before .before .before .before .before .before .before .args .records .now)) mostWords)))
+slice-aggregate-put-report-2 c =
+    let args = c .before .before .before .before .before .before .before .before .before .before .before .before .before .before .args in
+    let least = c .before .before .before .before .least in
+    sym (length-take-le (least .result) (args .records .now) (omega (arith, least .ensures, min-le-left (length (args .records .now)) mostWords)))
 
 put-report-requires : tie.Need-put-report-requires
 put-report-requires c κs = search needs
@@ -65,14 +72,23 @@ same-length-2 c = search needs
 
 returns-2 : tie.Need-returns-2
 returns-2 c =
-    let words = c .before .before .before .before .before .before .before .before .before .before .before .before .before .before .before .before .before .before .before .before .before .before .before .before .args .records .now in
-    let text = c .before .before .before .before .before .before .before .before .before .before .before .before .before .before .before .before .before .before .before .before .before .before .before .before .args .text .now in
-    let n = length (c .before .before .before .before .before .before .before .before .before .before .before .before .before .before .before .before .before .before .before .before .before .before .before .before .args .out .now) in
-    let y = sym (c .before .before .before .before .before .before .before .before .before .before .before .before .before .before .before .before .is-layout .ensures) ∙ not-false _ (c .before .before .before .before .before .before .before .before .before .before .before .before .before .before .before .if1 .left) in
-    let f = used-shown words text (c .before .before .before .before .before .before .before .before .before .before .before .before .before .before .least .result) (c .before .before .before .before .before .before .before .before .before .before .before .before .before .least2 .result) (c .before .before .before .before .before .before .before .before .before .before .before .before .before .before .least .ensures) (c .before .before .before .before .before .before .before .before .before .before .before .before .before .least2 .ensures) in
-    let p = rw (c .before .before .before .before .before .enum-told .given .1) at (other (c .before .before .before .before .before .before .before .before .before .put-report .ensures) f) in
-    let l : length (c .before .before .before .before .before .before .before .before .before .put-report .last .0) ≡ n = search needs in
-    refused-whole words text n (c .refuse2 .ensures) (short-listing words text n y (c .before .before .before .before .before .before .before .before .before .before .before .before .before .before .before .before .before .before .before .clear .ensures) p (c .before .before .before .clear2 .ensures ∙ ap zeros l))
+    let args = c .before .before .before .before .before .before .before .before .before .before .before .before
+    .before .before .before .before .before .before .before .before .before .before .before .before .args in
+    let clear = c .before .before .before .before .before .before .before .before .before .before .before .before .before .before .before .before .before .before .before .clear in
+    let is-layout = c .before .before .before .before .before .before .before .before .before .before .before .before .before .before .before .before .is-layout in
+    let if1 = c .before .before .before .before .before .before .before .before .before .before .before .before .before .before .before .if1 in
+    let least = c .before .before .before .before .before .before .before .before .before .before .before .before .before .before .least in
+    let least2 = c .before .before .before .before .before .before .before .before .before .before .before .before .before .least2 in
+    let put-report = c .before .before .before .before .before .before .before .before .before .put-report in
+    let enum-told-step = c .before .before .before .before .before .enum-told in
+    let words = args .records .now in
+    let text = args .text .now in
+    let n = length (args .out .now) in
+    let y = sym (is-layout .ensures) ∙ not-false _ (if1 .left) in
+    let f = used-shown words text (least .result) (least2 .result) (least .ensures) (least2 .ensures) in
+    let p = rw (enum-told-step .given .1) at (other (put-report .ensures) f) in
+    let l : length (put-report .last .0) ≡ n = search needs in
+    refused-whole words text n (c .refuse2 .ensures) (short-listing words text n y (clear .ensures) p (c .before .before .before .clear2 .ensures ∙ ap zeros l))
 
 no-refusal-requires : tie.Need-no-refusal-requires
 no-refusal-requires c κs = search needs
@@ -82,13 +98,20 @@ same-length-3 c = search needs
 
 returns-3 : tie.Need-returns-3
 returns-3 c =
-    let words = c .before .before .before .before .before .before .before .before .before .before .before .before .before .before .before .before .before .before .before .before .before .args .records .now in
-    let text = c .before .before .before .before .before .before .before .before .before .before .before .before .before .before .before .before .before .before .before .before .before .args .text .now in
-    let n = length (c .before .before .before .before .before .before .before .before .before .before .before .before .before .before .before .before .before .before .before .before .before .args .out .now) in
-    let y = sym (c .before .before .before .before .before .before .before .before .before .before .before .before .before .is-layout .ensures) ∙ not-false _ (c .before .before .before .before .before .before .before .before .before .before .before .before .if1 .left) in
-    let f = used-shown words text (c .before .before .before .before .before .before .before .before .before .before .before .least .result) (c .before .before .before .before .before .before .before .before .before .before .least2 .result) (c .before .before .before .before .before .before .before .before .before .before .before .least .ensures) (c .before .before .before .before .before .before .before .before .before .before .least2 .ensures) in
-    let p = rw (c .before .before .put .given .1) at (other (c .before .before .before .before .before .before .put-report .ensures) f) in
-    listed-whole words text n (c .no-refusal .ensures) (whole-listing words text n y _ (c .before .before .before .before .before .before .before .before .before .before .before .before .before .before .before .before .clear .ensures) p)
+    let at-clear = c .before .before .before .before .before .before .before .before .before .before .before .before .before .before .before .before in
+    let args = at-clear .before .before .before .before .before .args in
+    let is-layout = c .before .before .before .before .before .before .before .before .before .before .before .before .before .is-layout in
+    let if1 = c .before .before .before .before .before .before .before .before .before .before .before .before .if1 in
+    let least = c .before .before .before .before .before .before .before .before .before .before .before .least in
+    let least2 = c .before .before .before .before .before .before .before .before .before .before .least2 in
+    let put-report = c .before .before .before .before .before .before .put-report in
+    let words = args .records .now in
+    let text = args .text .now in
+    let n = length (args .out .now) in
+    let y = sym (is-layout .ensures) ∙ not-false _ (if1 .left) in
+    let f = used-shown words text (least .result) (least2 .result) (least .ensures) (least2 .ensures) in
+    let p = rw (c .before .before .put .given .1) at (other (put-report .ensures) f) in
+    listed-whole words text n (c .no-refusal .ensures) (whole-listing words text n y _ (at-clear .clear .ensures) p)
 
 pub list-spec : {M : Type 1} → statement M
 list-spec =

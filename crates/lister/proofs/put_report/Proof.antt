@@ -22,7 +22,9 @@ abbrev μ-loop : tie.MeasureT-loop
 μ-loop out₀ text words at₀ out at = length words - at
 
 abbrev words : tie.Then1 Inv-loop μ-loop → List ℕ
-words c = c .before .before .before .before .before .before .before .args .words .now
+words c =
+    let args = c .before .before .before .before .before .before .before .args in
+    args .words .now
 
 abbrev at : tie.Then1 Inv-loop μ-loop → ℕ
 at c = c .before .before .before .loop .at
@@ -77,13 +79,19 @@ field-requires : tie.Need-field-requires Inv-loop μ-loop
 field-requires c κs = search needs
 
 mul-put-whole : tie.Need-mul-put-whole Inv-loop μ-loop
-mul-put-whole c = omega (arith, room (c .before .before .before .before))
+mul-put-whole c =
+    let at-then1 = c .before .before .before .before in
+    omega (arith, room at-then1)
 
 sub-put-whole : tie.Need-sub-put-whole Inv-loop μ-loop
-sub-put-whole c = omega (arith, room (c .before .before .before .before))
+sub-put-whole c =
+    let at-then1 = c .before .before .before .before in
+    omega (arith, room at-then1)
 
 part-put-whole-start : tie.Need-part-put-whole-start Inv-loop μ-loop
-part-put-whole-start c = omega (arith, room (c .before .before .before .before))
+part-put-whole-start c =
+    let at-then1 = c .before .before .before .before in
+    omega (arith, room at-then1)
 
 part-put-whole-end : tie.Need-part-put-whole-end Inv-loop μ-loop
 part-put-whole-end c = search needs
@@ -92,25 +100,31 @@ put-whole-requires : tie.Need-put-whole-requires Inv-loop μ-loop
 put-whole-requires c κs = search needs
 
 same-length : tie.Need-same-length Inv-loop μ-loop
-same-length c = omega (arith, ap length (c .before .before .before .before .before .before .before .before .before .before .before .loop .inv .same))
+same-length c =
+    let loop = c .before .before .before .before .before .before .before .before .before .before .before .loop in
+    omega (arith, ap length (loop .inv .same))
 
 returns : tie.Need-returns Inv-loop μ-loop
 returns c =
+    let loop = c .before .before .before .before .before .before .before .before .before .before .before .loop in
+    let field = c .before .before .before .before .before .before .field in
+    let if2 = c .before .before .before .before .before .if2 in
     let t = c .before .before .before .before .before .before .before .before in
     let text = c .before .before .before .before .before .before .before .before .before .before .before .before .before .before .before .args .text .now in
-    let e = report-live text (here t) (rest t) (lt-ltb (getD (here t) 0 0) 16 (rw (c .before .before .before .before .before .before .field .ensures) at (c .before .before .before .before .before .if2 .taken))) in
+    let e = report-live text (here t) (rest t) (lt-ltb (getD (here t) 0 0) 16 (rw (field .ensures) at (if2 .taken))) in
     let p = rw (records-behind (words t) (at t)) at (c .before .before .put-whole .ensures) in
-    seeking-found (reportShown text) (c .before .before .before .before .before .before .before .before .before .before .before .loop .inv) (stands-now t) (Put 0) e p
+    seeking-found (reportShown text) (loop .inv) (stands-now t) (Put 0) e p
 
 loop-less : tie.Need-loop-less Inv-loop μ-loop
 loop-less c = omega (arith, room (c .before .before .before))
 
 loop-again : tie.Need-loop-again Inv-loop μ-loop
 loop-again c =
+    let loop = c .before .before .before .before .before .before .loop in
     let t = c .before .before .before in
     let text = c .before .before .before .before .before .before .before .before .before .before .args .text .now in
     let e = report-dead text (here t) (rest t) (le-ltb (getD (here t) 0 0) 16 (rw (c .before .field .ensures) at (c .if2 .left))) in
-    seeking-pass (reportShown text) (c .before .before .before .before .before .before .loop .inv) (stands-now t) e
+    seeking-pass (reportShown text) (loop .inv) (stands-now t) e
 
 same-length-2 : tie.Need-same-length-2 Inv-loop μ-loop
 same-length-2 c = ap length (c .before .before .before .loop .inv .same)

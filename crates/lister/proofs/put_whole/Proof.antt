@@ -30,7 +30,14 @@ same-length : tie.Need-same-length
 same-length c = search needs
 
 returns : tie.Need-returns
-returns c = other (more (c .before .before .before .before .before .before .before .before .before .before .before .before .before .before .before .before .before .before .before .put .ensures) (more (c .before .before .before .before .before .before .before .before .before .before .before .before .before .before .before .put-first .ensures) (more (c .before .before .before .before .before .before .before .before .before .before .before .put-counts .ensures) (more (c .before .before .before .before .before .before .before .put-suites .ensures) (c .before .before .put2 .ensures))))) (whole-parts (c .before .before .before .before .before .before .before .before .before .before .before .before .before .before .before .before .before .before .before .before .before .before .before .before .before .before .args .text .now) (c .before .before .before .before .before .before .before .before .before .before .before .before .before .before .before .before .before .before .before .before .before .before .before .before .before .before .args .r .now) (recordsIn (c .before .before .before .before .before .before .before .before .before .before .before .before .before .before .before .before .before .before .before .before .before .before .before .before .before .before .args .below .now)))
+returns c =
+    let at-put-first = c .before .before .before .before .before .before .before .before .before .before .before .before .before .before .before in
+    let at-put = at-put-first .before .before .before .before in
+    let args = at-put .before .before .before .before .before .before .before .args in
+    let put-counts = c .before .before .before .before .before .before .before .before .before .before .before .put-counts in
+    let put-suites = c .before .before .before .before .before .before .before .put-suites in
+    other (more (at-put .put .ensures) (more (at-put-first .put-first .ensures) (more (put-counts .ensures) (more (put-suites .ensures) (c .before .before .put2 .ensures)))))
+    (whole-parts (args .text .now) (args .r .now) (recordsIn (args .below .now)))
 
 pub put-whole-spec : {M : Type 1} → statement M
 put-whole-spec =

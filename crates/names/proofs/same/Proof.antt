@@ -24,7 +24,9 @@ shared-slice-read-if2-2 : tie.Need-shared-slice-read-if2-2 Inv-loop μ-loop
 shared-slice-read-if2-2 c = omega arith
 
 returns-2 : tie.Need-returns-2 Inv-loop μ-loop
-returns-2 c = comparing-unlike (c .before .before .before .before .loop .inv) (c .before .before .before .loop-test .taken) (c .if2 .taken)
+returns-2 c =
+    let loop = c .before .before .before .before .loop in
+    comparing-unlike (loop .inv) (c .before .before .before .loop-test .taken) (c .if2 .taken)
 
 add-i : tie.Need-add-i Inv-loop μ-loop
 add-i c = omega arith
@@ -33,7 +35,9 @@ loop-less : tie.Need-loop-less Inv-loop μ-loop
 loop-less c = omega arith
 
 loop-again : tie.Need-loop-again Inv-loop μ-loop
-loop-again c = comparing-more (c .before .before .before .before .loop .inv) (c .before .before .before .loop-test .taken) (c .if2 .left)
+loop-again c =
+    let loop = c .before .before .before .before .loop in
+    comparing-more (loop .inv) (c .before .before .before .loop-test .taken) (c .if2 .left)
 
 returns-3 : tie.Need-returns-3 Inv-loop μ-loop
 returns-3 c = comparing-done (c .before .loop .inv) (c .loop-test .left)

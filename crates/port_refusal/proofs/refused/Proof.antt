@@ -16,7 +16,9 @@ depth-of-requires : tie.Need-depth-of-requires
 depth-of-requires c κs = search needs
 
 returns : tie.Need-returns
-returns c = same (c .before .before .before .before .before .args .refusal .event) (c .before .before .before .before .before .args .refusal .attribute) (c .before .before .number-of .ensures) (c .before .code-of .ensures) (c .depth-of .ensures) (c .before .before .before .words-of .ensures)
+returns c =
+    let args = c .before .before .before .before .before .args in
+    same (args .refusal .event) (args .refusal .attribute) (c .before .before .number-of .ensures) (c .before .code-of .ensures) (c .depth-of .ensures) (c .before .before .before .words-of .ensures)
 
 pub refused-spec : {M : Type 1} → statement M
 refused-spec =

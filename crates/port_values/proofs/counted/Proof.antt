@@ -13,7 +13,10 @@ from-refusal-requires : tie.Need-from-refusal-requires
 from-refusal-requires c κs = search needs
 
 returns : tie.Need-returns
-returns c = ap (λ (n : KCounts). record { counts = n; refusal = c .from-refusal .result }) (c .before .port-counts .ensures) ∙ ap (λ (k : KRefusal). record { counts = portCounts (c .before .before .before .before .args .c .counts); refusal = k }) (c .from-refusal .ensures)
+returns c =
+    let args = c .before .before .before .before .args in
+    ap (λ (n : KCounts). record { counts = n; refusal = c .from-refusal .result }) (c .before .port-counts .ensures)
+    ∙ ap (λ (k : KRefusal). record { counts = portCounts (args .c .counts); refusal = k }) (c .from-refusal .ensures)
 
 pub counted-spec : {M : Type 1} → statement M
 counted-spec = tie.close (tie.spec port-counts-requires from-refusal-requires returns)

@@ -19,7 +19,9 @@ same-length-2 c = search needs
 
 returns : tie.Need-returns
 unfolding draftOf
-returns c = (c .built .ensures ∙ ap portBuilt (c .before .before .before .before .before .settle .ensures .0), c .before .before .before .before .before .settle .ensures .1)
+returns c =
+    let settle = c .before .before .before .before .before .settle in
+    (c .built .ensures ∙ ap portBuilt (settle .ensures .0), settle .ensures .1)
 
 pub not-built-spec : {M : Type 1} → statement M
 not-built-spec =

@@ -38,10 +38,13 @@ same-length-4 c = search needs
 
 returns : tie.Need-returns
 returns c =
-    let a = c .before .before .before .before .before .before .before .before .before .before .before .before .before .before .before .before .before .before .before .before .before .before .before .before .before .args in
+    let enum-told-step = c .before .before .before .before .before .before .enum-told in
+    let a = c .before .before .before .before .before .before .before .before .before .before .before .before .before
+    .before .before .before .before .before .before .before .before .before .before .before .before .args in
     let r = c .before .before .before .before .before .before .before .before .before .before .before .before .before .before .read in
     let k = length (a .out .now) in
-    let e = listing-accepted (a .events .now) (a .attributes .now) (a .source .now) (length (a .records .now)) (length (a .text .now)) (length (a .scratch .now)) k _ _ (read-accepted (r .result) _ (r .ensures .0) (c .before .before .before .before .before .before .enum-told .given .1)) (r .ensures .1 .0) (r .ensures .1 .1 .0) in
+    let e = listing-accepted (a .events .now) (a .attributes .now) (a .source .now) (length (a .records .now)) (length (a .text .now))
+    (length (a .scratch .now)) k _ _ (read-accepted (r .result) _ (r .ensures .0) (enum-told-step .given .1)) (r .ensures .1 .0) (r .ensures .1 .1 .0) in
     (c .before .before .put-listing .ensures .0 ∙ ap (laid (zeros k)) e, (c .before .before .put-listing .ensures .1 ∙ ap (λ (l : List ℕ). min k (length l)) e, r .ensures .1))
 
 same-length-5 : tie.Need-same-length-5
@@ -58,10 +61,12 @@ same-length-8 c = search needs
 
 returns-2 : tie.Need-returns-2
 returns-2 c =
-    let a = c .before .before .before .before .before .before .before .before .before .before .before .before .before .before .before .before .before .before .before .before .before .before .before .args in
+    let enum-told2 = c .before .before .before .before .enum-told2 in
+    let a = c .before .before .before .before .before .before .before .before .before .before .before .before
+    .before .before .before .before .before .before .before .before .before .before .before .args in
     let r = c .before .before .before .before .before .before .before .before .before .before .before .before .read in
     let k = length (a .out .now) in
-    let q = read-refused (r .result) _ (r .ensures .0) (c .before .before .before .before .enum-told2 .given .1) in
+    let q = read-refused (r .result) _ (r .ensures .0) (enum-told2 .given .1) in
     let e = listing-refused (a .events .now) (a .attributes .now) (a .source .now) (length (a .records .now)) (length (a .text .now)) (length (a .scratch .now)) k (q .0) (q .1) in
     (c .before .before .refuse .ensures .0 ∙ ap (laid (zeros k)) e, (c .before .before .refuse .ensures .1 ∙ ap (λ (l : List ℕ). min k (length l)) e, r .ensures .1))
 

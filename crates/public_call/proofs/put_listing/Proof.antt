@@ -30,9 +30,11 @@ same-length-2 c = search needs
 
 returns-2 : tie.Need-returns-2
 returns-2 c =
+    let enum-told2 = c .before .before .before .before .enum-told2 in
     let a = c .before .before .before .before .before .before .before .before .before .before .before .before .before .args in
     let i = c .before .before .before .before .before .before .before .before .list in
-    left-refused (length (a .out .now)) (i .last .1 .1 .0) _ _ _ (i .kept .1 .1 .0) (listing-refuses (a .records .now) (a .text .now) (length (a .out .now)) (i .result) (i .ensures .0) (c .before .before .before .before .enum-told2 .given .1)) (c .before .before .refuse .ensures .0) (c .before .before .refuse .ensures .1)
+    left-refused (length (a .out .now)) (i .last .1 .1 .0) _ _ _ (i .kept .1 .1 .0) (listing-refuses (a .records .now) (a .text .now) (length (a .out .now))
+    (i .result) (i .ensures .0) (enum-told2 .given .1)) (c .before .before .refuse .ensures .0) (c .before .before .refuse .ensures .1)
 
 pub put-listing-spec : {M : Type 1} → statement M
 put-listing-spec = tie.close (tie.spec list-requires enum-told enum-told-2 refuse-requires same-length returns same-length-2 returns-2)

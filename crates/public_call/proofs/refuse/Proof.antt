@@ -27,14 +27,22 @@ same-length c = search needs
 
 returns : tie.Need-returns
 unfolding refusedText
-returns c = put-whole (c .before .before .before .before .before .before .before .before .before .before .before .before .before .args .out .now) _ _ refusedText (c .before .before .before .before .before .before .before .before .before .before .clear .ensures) (c .before .before .before .before .before .copy-into .ensures .1) _ (sym (ap (storedAnswer cause.OutputFull) (c .before .put .given .1)) ∙ c .before .before .before .before .before .copy-into .ensures .0)
+returns c =
+    let args = c .before .before .before .before .before .before .before .before .before .before .before .before .before .args in
+    let clear = c .before .before .before .before .before .before .before .before .before .before .clear in
+    let copy-into = c .before .before .before .before .before .copy-into in
+    put-whole (args .out .now) _ _ refusedText (clear .ensures) (copy-into .ensures .1) _ (sym (ap (storedAnswer cause.OutputFull) (c .before .put .given .1)) ∙ copy-into .ensures .0)
 
 same-length-2 : tie.Need-same-length-2
 same-length-2 c = search needs
 
 returns-2 : tie.Need-returns-2
 unfolding refusedText
-returns-2 c = put-part (c .before .before .before .before .before .before .before .before .before .before .before .before .args .out .now) _ _ refusedText (c .before .before .before .before .before .before .before .before .before .clear .ensures) (c .before .before .before .before .copy-into .ensures .1) (sym (ap (storedAnswer cause.OutputFull) (c .enum-told .given .1)) ∙ c .before .before .before .before .copy-into .ensures .0)
+returns-2 c =
+    let args = c .before .before .before .before .before .before .before .before .before .before .before .before .args in
+    let clear = c .before .before .before .before .before .before .before .before .before .clear in
+    let copy-into = c .before .before .before .before .copy-into in
+    put-part (args .out .now) _ _ refusedText (clear .ensures) (copy-into .ensures .1) (sym (ap (storedAnswer cause.OutputFull) (c .enum-told .given .1)) ∙ copy-into .ensures .0)
 
 pub refuse-spec : {M : Type 1} → statement M
 refuse-spec =

@@ -32,13 +32,47 @@ returns : tie.Need-returns
 returns c = search needs
 
 slice-relend-prefix-read-cleared : tie.Need-slice-relend-prefix-read-cleared
-slice-relend-prefix-read-cleared c = many (c .before .before .before .before .before .before .args .range .end - c .before .before .before .before .before .before .args .range .first) (length (c .before .before .before .before .before .before .args .own .now)) ((c .before .before .before .before .before .before .args .range .end - c .before .before .before .before .before .before .args .range .first) * 34 + 32) (ltb (c .before .before .before .before .before .before .args .kind) 2 || ltb 3 (c .before .before .before .before .before .before .args .kind)) (c .if1 .left) .1
+slice-relend-prefix-read-cleared c =
+    let args = c .before .before .before .before .before .before .args in
+    many (args .range .end - args .range .first) (length (args .own .now)) ((args .range .end - args .range .first) * 34 + 32) (ltb (args .kind) 2 || ltb 3 (args .kind)) (c .if1 .left) .1
 
 slice-aggregate-read-cleared : tie.Need-slice-aggregate-read-cleared
-slice-aggregate-read-cleared c = sym (length-take-le ((c .before .before .before .before .before .before .before .args .range .end - c .before .before .before .before .before .before .before .args .range .first) * 34 + 32) (c .before .before .before .before .before .before .before .args .own .now) (many (c .before .before .before .before .before .before .before .args .range .end - c .before .before .before .before .before .before .before .args .range .first) (length (c .before .before .before .before .before .before .before .args .own .now)) ((c .before .before .before .before .before .before .before .args .range .end - c .before .before .before .before .before .before .before .args .range .first) * 34 + 32) (ltb (c .before .before .before .before .before .before .before .args .kind) 2 || ltb 3 (c .before .before .before .before .before .before .before .args .kind)) (c .before .if1 .left) .1))
+slice-aggregate-read-cleared c =
+    let args = c .before .before .before .before .before .before .before .args in
+    sym (length-take-le ((args .range .end - args .range .first) * 34 + 32) (args .own .now) (many (args .range .end - args .range .first)
+    (length (args .own .now)) ((args .range .end - args .range .first) * 34 + 32) (ltb (args .kind) 2 || ltb 3 (args .kind)) (c .before .if1 .left) .1))
 
 read-cleared-requires : tie.Need-read-cleared-requires
-read-cleared-requires c κs = let y = many (c .before .before .before .before .before .before .before .before .args .range .end - c .before .before .before .before .before .before .before .before .args .range .first) (length (c .before .before .before .before .before .before .before .before .args .own .now)) ((c .before .before .before .before .before .before .before .before .args .range .end - c .before .before .before .before .before .before .before .before .args .range .first) * 34 + 32) (ltb (c .before .before .before .before .before .before .before .before .args .kind) 2 || ltb 3 (c .before .before .before .before .before .before .before .before .args .kind)) (c .before .before .if1 .left) in let l = length-take-le ((c .before .before .before .before .before .before .before .before .args .range .end - c .before .before .before .before .before .before .before .before .args .range .first) * 34 + 32) (c .before .before .before .before .before .before .before .before .args .own .now) (y .1) in ((c .before .before .before .before .before .before .before .before .pre .0), (omega (arith, y .0), (omega (arith, l), ((c .before .before .before .before .before .before .before .before .pre .1 .0), ((c .before .before .before .before .before .before .before .before .pre .1 .1 .0), ((c .before .before .before .before .before .before .before .before .pre .1 .1 .1 .0), ((c .before .before .before .before .before .before .before .before .pre .1 .1 .1 .1 .0), (front-held (c .before .before .before .before .before .before .before .before .args .kind) (c .before .before .before .before .before .before .before .before .args .fill) (take (c .before .before .before .before .before .before .before .before .args .fill) (c .before .before .before .before .before .before .before .before .args .text .now)) (c .before .before .before .before .before .before .before .before .args .own .now) (c .before .before .before .before .before .before .before .before .args .text .now) (c .before .before .before .before .before .before .before .before .pre .1 .1 .1 .1 .1 .0) ((c .before .before .before .before .before .before .before .before .args .range .end - c .before .before .before .before .before .before .before .before .args .range .first) * 34 + 32) (omega arith) (y .1), (c .before .before .before .before .before .before .before .before .pre .1 .1 .1 .1 .1 .1)))))))))
+read-cleared-requires c κs =
+    let args = c .before .before .before .before .before .before .before .before .args in
+    let pre = c .before .before .before .before .before .before .before .before .pre in
+    let y = many (args .range .end - args .range .first) (length (args .own .now)) ((args .range .end - args .range .first) * 34 + 32) (ltb (args .kind) 2 || ltb 3 (args .kind))
+    (c .before .before .if1 .left) in let l = length-take-le ((args .range .end - args .range .first) * 34 + 32) (args .own .now) (y .1) in (
+      (pre .0),
+      (
+        omega (arith, y .0),
+        (
+          omega (arith, l),
+          (
+            (pre .1 .0),
+            (
+              (pre .1 .1 .0),
+              (
+                (pre .1 .1 .1 .0),
+                (
+                  (pre .1 .1 .1 .1 .0),
+                  (
+                    front-held (args .kind) (args .fill) (take (args .fill) (args .text .now)) (args .own .now) (args .text .now)
+                        (pre .1 .1 .1 .1 .1 .0) ((args .range .end - args .range .first) * 34 + 32) (omega arith) (y .1),
+                    (pre .1 .1 .1 .1 .1 .1),
+                  ),
+                ),
+              ),
+            ),
+          ),
+        ),
+      ),
+    )
 
 same-length-3 : tie.Need-same-length-3
 same-length-3 c = search needs
@@ -47,7 +81,16 @@ same-length-4 : tie.Need-same-length-4
 same-length-4 c = search needs
 
 returns-2 : tie.Need-returns-2
-returns-2 c = λ rooms p used ro. let y = many (c .before .before .before .before .before .before .before .before .before .before .before .before .before .args .range .end - c .before .before .before .before .before .before .before .before .before .before .before .before .before .args .range .first) (length (c .before .before .before .before .before .before .before .before .before .before .before .before .before .args .own .now)) ((c .before .before .before .before .before .before .before .before .before .before .before .before .before .args .range .end - c .before .before .before .before .before .before .before .before .before .before .before .before .before .args .range .first) * 34 + 32) (ltb (c .before .before .before .before .before .before .before .before .before .before .before .before .before .args .kind) 2 || ltb 3 (c .before .before .before .before .before .before .before .before .before .before .before .before .before .args .kind)) (c .before .before .before .before .before .before .before .if1 .left) in let l = length-take-le ((c .before .before .before .before .before .before .before .before .before .before .before .before .before .args .range .end - c .before .before .before .before .before .before .before .before .before .before .before .before .before .args .range .first) * 34 + 32) (c .before .before .before .before .before .before .before .before .before .before .before .before .before .args .own .now) (y .1) in behind (length (c .before .before .before .before .before .before .before .before .before .before .before .before .before .args .own .now) - ((c .before .before .before .before .before .before .before .before .before .before .before .before .before .args .range .end - c .before .before .before .before .before .before .before .before .before .before .before .before .before .args .range .first) * 34 + 32)) (rest-zero (c .before .before .before .before .before .before .before .before .before .before .before .before .before .args .kind) (c .before .before .before .before .before .before .before .before .before .before .before .before .before .args .fill) (take (c .before .before .before .before .before .before .before .before .before .before .before .before .before .args .fill) (c .before .before .before .before .before .before .before .before .before .before .before .before .before .args .text .now)) (c .before .before .before .before .before .before .before .before .before .before .before .before .before .args .own .now) (c .before .before .before .before .before .before .before .before .before .before .before .before .before .args .text .now) (c .before .before .before .before .before .before .before .before .before .before .before .before .before .pre .1 .1 .1 .1 .1 .0) ((c .before .before .before .before .before .before .before .before .before .before .before .before .before .args .range .end - c .before .before .before .before .before .before .before .before .before .before .before .before .before .args .range .first) * 34 + 32) (omega arith) (y .1)) (c .before .before .before .before .read-cleared .ensures rooms p used (length (c .before .before .before .before .before .before .before .before .before .before .before .before .before .args .own .now)) (omega (arith, l, y .1)) ro)
+returns-2 c =
+    let args = c .before .before .before .before .before .before .before .before .before .before .before .before .before .args in
+    let pre = c .before .before .before .before .before .before .before .before .before .before .before .before .before .pre in
+    let if1 = c .before .before .before .before .before .before .before .if1 in
+    let read-cleared = c .before .before .before .before .read-cleared in
+    λ rooms p used ro. let y =
+    many (args .range .end - args .range .first) (length (args .own .now)) ((args .range .end - args .range .first) * 34 + 32) (ltb (args .kind) 2 || ltb 3 (args .kind)) (if1 .left) in
+    let l = length-take-le ((args .range .end - args .range .first) * 34 + 32) (args .own .now) (y .1) in behind (length (args .own .now) - ((args .range .end - args .range .first) * 34 + 32))
+    (rest-zero (args .kind) (args .fill) (take (args .fill) (args .text .now)) (args .own .now) (args .text .now) (pre .1 .1 .1 .1 .1 .0)
+    ((args .range .end - args .range .first) * 34 + 32) (omega arith) (y .1)) (read-cleared .ensures rooms p used (length (args .own .now)) (omega (arith, l, y .1)) ro)
 
 pub read-all-spec : {M : Type 1} → statement M
 read-all-spec =

@@ -17,7 +17,41 @@ add-k : tie.Need-add-k
 add-k c = search needs
 
 read-chained-requires : tie.Need-read-chained-requires
-read-chained-requires c κs = ((c .before .before .before .before .before .before .before .pre .0), (omega arith, (omega (arith, (c .before .before .before .before .before .before .before .pre .1 .1 .0)), (omega (arith, (c .before .before .before .before .before .before .before .pre .1 .0)), (rest-zero (c .before .before .before .before .before .before .before .args .kind) (c .before .before .before .before .before .before .before .args .fill) (take (c .before .before .before .before .before .before .before .args .fill) (c .before .before .before .before .before .before .before .args .text .now)) (c .before .before .before .before .before .before .before .args .own .now) (c .before .before .before .before .before .before .before .args .text .now) (c .before .before .before .before .before .before .before .pre .1 .1 .1 .1 .1 .1 .1 .0) ((c .before .before .before .before .before .before .before .args .range .end - c .before .before .before .before .before .before .before .args .range .first) * 32 + 32) (omega arith) (omega (arith, (c .before .before .before .before .before .before .before .pre .1 .1 .0))), ((c .before .before .before .before .before .before .before .pre .1 .1 .1 .0), ((c .before .before .before .before .before .before .before .pre .1 .1 .1 .1 .0), ((c .before .before .before .before .before .before .before .pre .1 .1 .1 .1 .1 .0), ((c .before .before .before .before .before .before .before .pre .1 .1 .1 .1 .1 .1 .0), (front-held (c .before .before .before .before .before .before .before .args .kind) (c .before .before .before .before .before .before .before .args .fill) (take (c .before .before .before .before .before .before .before .args .fill) (c .before .before .before .before .before .before .before .args .text .now)) (c .before .before .before .before .before .before .before .args .own .now) (c .before .before .before .before .before .before .before .args .text .now) (c .before .before .before .before .before .before .before .pre .1 .1 .1 .1 .1 .1 .1 .0) ((c .before .before .before .before .before .before .before .args .range .end - c .before .before .before .before .before .before .before .args .range .first) * 32 + 32) (omega arith) (omega (arith, (c .before .before .before .before .before .before .before .pre .1 .1 .0))), (c .before .before .before .before .before .before .before .pre .1 .1 .1 .1 .1 .1 .1 .1)))))))))))
+read-chained-requires c κs =
+    let args = c .before .before .before .before .before .before .before .args in
+    let pre = c .before .before .before .before .before .before .before .pre in (
+      (pre .0),
+      (
+        omega arith,
+        (
+          omega (arith, (pre .1 .1 .0)),
+          (
+            omega (arith, (pre .1 .0)),
+            (
+              rest-zero (args .kind) (args .fill) (take (args .fill) (args .text .now)) (args .own .now) (args .text .now)
+                  (pre .1 .1 .1 .1 .1 .1 .1 .0) ((args .range .end - args .range .first) * 32 + 32) (omega arith) (omega (arith, (pre .1 .1 .0))),
+              (
+                (pre .1 .1 .1 .0),
+                (
+                  (pre .1 .1 .1 .1 .0),
+                  (
+                    (pre .1 .1 .1 .1 .1 .0),
+                    (
+                      (pre .1 .1 .1 .1 .1 .1 .0),
+                      (
+                        front-held (args .kind) (args .fill) (take (args .fill) (args .text .now)) (args .own .now) (args .text .now)
+                            (pre .1 .1 .1 .1 .1 .1 .1 .0) ((args .range .end - args .range .first) * 32 + 32) (omega arith) (omega (arith, (pre .1 .1 .0))),
+                        (pre .1 .1 .1 .1 .1 .1 .1 .1),
+                      ),
+                    ),
+                  ),
+                ),
+              ),
+            ),
+          ),
+        ),
+      ),
+    )
 
 mul-clear-words : tie.Need-mul-clear-words
 mul-clear-words c = search needs
@@ -41,7 +75,13 @@ same-length-2 : tie.Need-same-length-2
 same-length-2 c = search needs
 
 returns : tie.Need-returns
-returns c = λ rooms p used whole w ro. cleared ((c .before .before .before .before .before .before .before .before .before .before .before .before .before .before .before .before .args .range .end - c .before .before .before .before .before .before .before .before .before .before .before .before .before .before .before .before .args .range .first) * 32 + 32) (length (take (length (c .before .before .before .before .before .before .before .before .read-chained .last .1 .1 .1 .1 .1 .1 .1 .1 .0) - ((c .before .before .before .before .before .before .before .before .before .before .before .before .before .before .before .before .args .range .end - c .before .before .before .before .before .before .before .before .before .before .before .before .before .before .before .before .args .range .first) * 32 + 32)) (drop ((c .before .before .before .before .before .before .before .before .before .before .before .before .before .before .before .before .args .range .end - c .before .before .before .before .before .before .before .before .before .before .before .before .before .before .before .before .args .range .first) * 32 + 32) (c .before .before .before .before .before .before .before .before .read-chained .last .1 .1 .1 .1 .1 .1 .1 .1 .0)))) (c .before .before .before .before .before .before .before .before .read-chained .last .1 .1 .1 .1 .1 .1 .1 .1 .0) (rest-back (c .before .before .before .before .before .before .before .before .read-chained .last .1 .1 .1 .1 .1 .1 .1 .1 .0) ((c .before .before .before .before .before .before .before .before .before .before .before .before .before .before .before .before .args .range .end - c .before .before .before .before .before .before .before .before .before .before .before .before .before .before .before .before .args .range .first) * 32 + 32) _) (c .before .before .clear-words .ensures) (c .before .before .before .before .before .before .before .before .read-chained .ensures rooms p used whole w ro)
+returns c =
+    let args = c .before .before .before .before .before .before .before .before .before .before .before .before .before .before .before .before .args in
+    let read-chained = c .before .before .before .before .before .before .before .before .read-chained in
+    λ rooms p used whole w ro. cleared ((args .range .end - args .range .first) * 32 + 32) (length (take (length (read-chained .last .1 .1 .1 .1 .1 .1 .1 .1 .0)
+    - ((args .range .end - args .range .first) * 32 + 32)) (drop ((args .range .end - args .range .first) * 32 + 32) (read-chained .last .1 .1 .1 .1 .1 .1 .1 .1 .0))))
+    (read-chained .last .1 .1 .1 .1 .1 .1 .1 .1 .0) (rest-back (read-chained .last .1 .1 .1 .1 .1 .1 .1 .1 .0) ((args .range .end - args .range .first) * 32 + 32) _)
+    (c .before .before .clear-words .ensures) (read-chained .ensures rooms p used whole w ro)
 
 pub read-cleared-spec : {M : Type 1} → statement M
 read-cleared-spec =

@@ -18,7 +18,9 @@ returns : tie.Need-returns
 returns c = ap (λ (f : Gave). gaveStep f (c .before .before .before .args .j)) (sym (c .before .found .given .1))
 
 returns-2 : tie.Need-returns-2
-returns-2 c = c .refused-at .ensures ∙ ap (λ (f : Gave). gaveStep f (c .before .before .before .before .args .j)) (sym (c .before .before .found2 .given .1))
+returns-2 c =
+    let args = c .before .before .before .before .args in
+    c .refused-at .ensures ∙ ap (λ (f : Gave). gaveStep f (args .j)) (sym (c .before .before .found2 .given .1))
 
 pub gave-spec : {M : Type 1} → statement M
 gave-spec =

@@ -66,21 +66,40 @@ same-length-2 : tie.Need-same-length-2
 same-length-2 c = search needs
 
 returns : tie.Need-returns
-returns c = λ g rooms p used hd ro k.
-    let s = c .before .before .before .before .before .before .before .before .before .before .before .before .before .before .before .before .before .before .before .before .before .before .before .before .before .before .args .source .now in
-    let ek = part-told s (c .before .before .before .before .before .before .before .before .before .before .before .before .before .before .before .before .before .bytes-of .ensures) (c .before .before .before .before .before .before .before .before .before .before .before .before .before .before .before .before .before .before .before .before .wide .ensures) (c .before .before .before .before .before .before .before .before .before .before .before .before .before .before .before .before .before .before .wide2 .ensures) in
-    let ev = part-told s (c .before .before .before .before .before .before .before .before .before .before .before .before .bytes-of2 .ensures) (c .before .before .before .before .before .before .before .before .before .before .before .before .before .before .before .wide3 .ensures) (c .before .before .before .before .before .before .before .before .before .before .before .before .before .wide4 .ensures) in
-    let x = attributeIn (c .before .before .before .before .before .before .before .before .before .before .before .before .before .before .before .before .before .before .before .before .before .before .before .before .before .before .args .words .now) s in
-    extra-step (c .before .before .before .before .before .before .before .before .before .before .before .before .before .before .before .before .before .before .before .before .before .before .before .before .before .before .args .kind) (c .before .before .before .before .before .before .before .before .before .before .before .before .before .before .before .before .before .before .before .before .before .before .before .before .before .before .args .j) x g rooms p used (c .before .before .before .before .before .before .before .before .before .before .before .key-of .ensures ∙ ap keyOf (sym ek)) (c .before .before .before .before .before .before .before .before .before .before .role-of .ensures) (c .before .before .before .before .before .read-extra .result) (c .before .before .before .before .before .before .before .before .enum-told .given .1) (c .before .before .before .before .before .read-extra .ensures x g rooms (numbered p (c .before .before .before .before .before .before .before .before .before .before .before .before .before .before .before .before .before .before .before .before .before .before .before .before .before .before .args .j)) used ek ev hd ro k) (c .gave .ensures)
+returns c =
+    let at-wide2 = c .before .before .before .before .before .before .before .before .before .before .before .before .before .before .before .before .before .before in
+    let at-wide = at-wide2 .before .before in
+    let args = at-wide .before .before .before .before .before .before .args in
+    let bytes-of = c .before .before .before .before .before .before .before .before .before .before .before .before .before .before .before .before .before .bytes-of in
+    let wide3 = c .before .before .before .before .before .before .before .before .before .before .before .before .before .before .before .wide3 in
+    let wide4 = c .before .before .before .before .before .before .before .before .before .before .before .before .before .wide4 in
+    let bytes-of2 = c .before .before .before .before .before .before .before .before .before .before .before .before .bytes-of2 in
+    let key-of = c .before .before .before .before .before .before .before .before .before .before .before .key-of in
+    let role-of = c .before .before .before .before .before .before .before .before .before .before .role-of in
+    let enum-told-step = c .before .before .before .before .before .before .before .before .enum-told in
+    let read-extra = c .before .before .before .before .before .read-extra in
+    λ g rooms p used hd ro k.
+    let s = args .source .now in
+    let ek = part-told s (bytes-of .ensures) (at-wide .wide .ensures) (at-wide2 .wide2 .ensures) in
+    let ev = part-told s (bytes-of2 .ensures) (wide3 .ensures) (wide4 .ensures) in
+    let x = attributeIn (args .words .now) s in
+    extra-step (args .kind) (args .j) x g rooms p used (key-of .ensures ∙ ap keyOf (sym ek)) (role-of .ensures) (read-extra .result)
+    (enum-told-step .given .1) (read-extra .ensures x g rooms (numbered p (args .j)) used ek ev hd ro k) (c .gave .ensures)
 
 read-value-requires : tie.Need-read-value-requires
-read-value-requires c κs = let q = c .before .before .before .before .before .before .before .before .before .before .before .before .before .before .before .before .before .before .before .pre .1 .1 .1 in (q .0, (q .1 .0, subst roleFits (sym (c .before .before .before .role-of .ensures)) (role-fits (c .before .before .before .before .before .before .before .before .before .before .before .before .before .before .before .before .before .before .before .args .kind) (c .before .before .before .before .key-of .result))))
+read-value-requires c κs =
+    let at-key-of = c .before .before .before .before in
+    let start = at-key-of .before .before .before .before .before .before .before .before .before .before .before .before .before .before .before in
+    let q = start .pre .1 .1 .1 in (q .0, (q .1 .0, subst roleFits (sym (c .before .before .before .role-of .ensures)) (role-fits (start .args .kind) (at-key-of .key-of .result))))
 
 taken-requires : tie.Need-taken-requires
 taken-requires c κs =
+    let pre = c .before .before .before .before .before .before .before .before .before .before .before .before
+    .before .before .before .before .before .before .before .before .before .before .before .before .pre in
+    let bytes-of = c .before .before .before .before .before .before .before .before .before .before .before .before .before .before .before .bytes-of in
     let e = c .before .before .before .before .before .before .before .before .before .key-of .ensures in
-    let h = key-small (c .before .before .before .before .before .before .before .before .before .before .before .before .before .before .before .bytes-of .result .now) in
-    (omega arith, c .before .before .before .before .before .before .before .before .before .before .before .before .before .before .before .before .before .before .before .before .before .before .before .before .pre .1 .0)
+    let h = key-small (bytes-of .result .now) in
+    (omega arith, pre .1 .0)
 
 same-length-3 : tie.Need-same-length-3
 same-length-3 c = search needs
@@ -89,13 +108,26 @@ same-length-4 : tie.Need-same-length-4
 same-length-4 c = search needs
 
 returns-2 : tie.Need-returns-2
-returns-2 c = λ g rooms p used hd ro k.
-    let s = c .before .before .before .before .before .before .before .before .before .before .before .before .before .before .before .before .before .before .before .before .before .before .before .before .before .args .source .now in
-    let ek = part-told s (c .before .before .before .before .before .before .before .before .before .before .before .before .before .before .before .before .bytes-of .ensures) (c .before .before .before .before .before .before .before .before .before .before .before .before .before .before .before .before .before .before .before .wide .ensures) (c .before .before .before .before .before .before .before .before .before .before .before .before .before .before .before .before .before .wide2 .ensures) in
-    let ev = part-told s (c .before .before .before .before .before .before .before .before .before .before .before .bytes-of2 .ensures) (c .before .before .before .before .before .before .before .before .before .before .before .before .before .before .wide3 .ensures) (c .before .before .before .before .before .before .before .before .before .before .before .before .wide4 .ensures) in
-    let x = attributeIn (c .before .before .before .before .before .before .before .before .before .before .before .before .before .before .before .before .before .before .before .before .before .before .before .before .before .args .words .now) s in
-    let ne : c .before .before .before .before .before .before .before .before .before .role-of .result ≡ role.Extra → ⊥ = λ q. other-role (c .before .before .before .before .before .before .before .before .match .keys2) (ap (tagOf the-type) q) in
-    value-step (c .before .before .before .before .before .before .before .before .before .before .before .before .before .before .before .before .before .before .before .before .before .before .before .before .before .args .kind) (c .before .before .before .before .before .before .before .before .before .before .before .before .before .before .before .before .before .before .before .before .before .before .before .before .before .args .j) x g rooms p used (c .before .before .before .before .before .before .before .before .before .before .key-of .ensures ∙ ap keyOf (sym ek)) (c .before .before .before .before .before .before .before .before .before .role-of .ensures) (c .before .before .before .before .before .before .before .before .before .before .before .before .before .before .before .before .before .before .before .before .before .before .before .before .before .args .given) (c .before .before .before .before .before .read-value .result) ne (c .before .before .before .before .before .read-value .ensures x g rooms (numbered p (c .before .before .before .before .before .before .before .before .before .before .before .before .before .before .before .before .before .before .before .before .before .before .before .before .before .args .j)) used (c .before .before .before .before .before .before .before .before .before .before .before .before .before .before .before .before .before .before .before .before .before .before .before .before .before .args .kind) (c .before .before .before .before .before .before .before .before .before .before .key-of .result) (c .before .before .before .before .before .before .before .before .before .before .before .before .before .before .before .before .before .before .before .before .before .before .before .before .before .args .given .extras) ne ev hd ro) (c .taken .ensures)
+returns-2 c =
+    let at-wide2 = c .before .before .before .before .before .before .before .before .before .before .before .before .before .before .before .before .before in
+    let at-wide = at-wide2 .before .before in
+    let args = at-wide .before .before .before .before .before .before .args in
+    let bytes-of = c .before .before .before .before .before .before .before .before .before .before .before .before .before .before .before .before .bytes-of in
+    let wide3 = c .before .before .before .before .before .before .before .before .before .before .before .before .before .before .wide3 in
+    let wide4 = c .before .before .before .before .before .before .before .before .before .before .before .before .wide4 in
+    let bytes-of2 = c .before .before .before .before .before .before .before .before .before .before .before .bytes-of2 in
+    let key-of = c .before .before .before .before .before .before .before .before .before .before .key-of in
+    let role-of = c .before .before .before .before .before .before .before .before .before .role-of in
+    let match = c .before .before .before .before .before .before .before .before .match in
+    let read-value = c .before .before .before .before .before .read-value in
+    λ g rooms p used hd ro k.
+    let s = args .source .now in
+    let ek = part-told s (bytes-of .ensures) (at-wide .wide .ensures) (at-wide2 .wide2 .ensures) in
+    let ev = part-told s (bytes-of2 .ensures) (wide3 .ensures) (wide4 .ensures) in
+    let x = attributeIn (args .words .now) s in
+    let ne : role-of .result ≡ role.Extra → ⊥ = λ q. other-role (match .keys2) (ap (tagOf the-type) q) in
+    value-step (args .kind) (args .j) x g rooms p used (key-of .ensures ∙ ap keyOf (sym ek)) (role-of .ensures) (args .given) (read-value .result) ne
+    (read-value .ensures x g rooms (numbered p (args .j)) used (args .kind) (key-of .result) (args .given .extras) ne ev hd ro) (c .taken .ensures)
 
 pub read-attribute-spec : {M : Type 1} → statement M
 read-attribute-spec =

@@ -28,7 +28,10 @@ refused-at-requires : tie.Need-refused-at-requires
 refused-at-requires c κs = search needs
 
 returns : tie.Need-returns
-returns c = λ g rooms p used hd ro k hi. step-faulty (c .before .before .before .before .before .before .before .before .args .attributes .now) (c .before .before .before .before .before .before .before .before .args .source .now) (c .before .before .before .before .before .before .before .before .args .j) p (keysOf (attributesFrom (c .before .before .before .before .before .before .before .before .args .attributes .now) (c .before .before .before .before .before .before .before .before .args .source .now) (c .before .before .before .before .before .before .before .before .args .j - c .before .before .before .before .before .before .before .before .args .range .first) (c .before .before .before .before .before .before .before .before .args .range .first))) _ (c .before .if1 .taken) (c .refused-at .ensures)
+returns c =
+    let args = c .before .before .before .before .before .before .before .before .args in
+    λ g rooms p used hd ro k hi. step-faulty (args .attributes .now) (args .source .now) (args .j) p
+    (keysOf (attributesFrom (args .attributes .now) (args .source .now) (args .j - args .range .first) (args .range .first))) _ (c .before .if1 .taken) (c .refused-at .ensures)
 
 is-repeated-requires : tie.Need-is-repeated-requires
 is-repeated-requires c κs = search needs
@@ -37,7 +40,11 @@ refused-at-requires-2 : tie.Need-refused-at-requires-2
 refused-at-requires-2 c κs = search needs
 
 returns-2 : tie.Need-returns-2
-returns-2 c = λ g rooms p used hd ro k hi. step-repeated (c .before .before .before .before .before .before .before .before .before .before .args .attributes .now) (c .before .before .before .before .before .before .before .before .before .before .args .source .now) (c .before .before .before .before .before .before .before .before .before .before .args .j) p (keysOf (attributesFrom (c .before .before .before .before .before .before .before .before .before .before .args .attributes .now) (c .before .before .before .before .before .before .before .before .before .before .args .source .now) (c .before .before .before .before .before .before .before .before .before .before .args .j - c .before .before .before .before .before .before .before .before .before .before .args .range .first) (c .before .before .before .before .before .before .before .before .before .before .args .range .first))) (c .before .before .before .if1 .left) (c .before .before .is-repeated .ensures) k _ (c .before .if2 .taken) (c .refused-at2 .ensures)
+returns-2 c =
+    let args = c .before .before .before .before .before .before .before .before .before .before .args in
+    λ g rooms p used hd ro k hi.
+    step-repeated (args .attributes .now) (args .source .now) (args .j) p (keysOf (attributesFrom (args .attributes .now) (args .source .now) (args .j - args .range .first) (args .range .first)))
+    (c .before .before .before .if1 .left) (c .before .before .is-repeated .ensures) k _ (c .before .if2 .taken) (c .refused-at2 .ensures)
 
 read-attribute-requires : tie.Need-read-attribute-requires
 read-attribute-requires c κs = search needs
@@ -49,7 +56,15 @@ same-length-2 : tie.Need-same-length-2
 same-length-2 c = search needs
 
 returns-3 : tie.Need-returns-3
-returns-3 c = λ g rooms p used hd ro k hi. step-on (c .before .before .before .before .before .before .before .before .before .before .before .before .before .before .before .before .args .attributes .now) (c .before .before .before .before .before .before .before .before .before .before .before .before .before .before .before .before .args .source .now) (c .before .before .before .before .before .before .before .before .before .before .before .before .before .before .before .before .args .j) p (keysOf (attributesFrom (c .before .before .before .before .before .before .before .before .before .before .before .before .before .before .before .before .args .attributes .now) (c .before .before .before .before .before .before .before .before .before .before .before .before .before .before .before .before .args .source .now) (c .before .before .before .before .before .before .before .before .before .before .before .before .before .before .before .before .args .j - c .before .before .before .before .before .before .before .before .before .before .before .before .before .before .before .before .args .range .first) (c .before .before .before .before .before .before .before .before .before .before .before .before .before .before .before .before .args .range .first))) (c .before .before .before .before .before .before .before .before .before .if1 .left) (c .before .before .before .before .before .before .before .before .is-repeated .ensures) k rooms used (c .before .before .before .before .before .before .before .before .before .before .before .before .before .before .before .before .args .kind) g (c .before .before .before .before .before .before .before .if2 .left) (c .before .before .before .before .read-attribute .ensures g rooms p used hd ro (hint-lent (c .before .before .before .before .before .before .before .before .before .before .before .before .before .before .before .before .args .attributes .now) (c .before .before .before .before .before .before .before .before .before .before .before .before .before .before .before .before .args .source .now) (c .before .before .before .before .before .before .before .before .before .before .before .before .before .before .before .before .args .j) g hi))
+returns-3 c =
+    let args = c .before .before .before .before .before .before .before .before .before .before .before .before .before .before .before .before .args in
+    let if1 = c .before .before .before .before .before .before .before .before .before .if1 in
+    let is-repeated = c .before .before .before .before .before .before .before .before .is-repeated in
+    let if2 = c .before .before .before .before .before .before .before .if2 in
+    let read-attribute = c .before .before .before .before .read-attribute in
+    λ g rooms p used hd ro k hi. step-on (args .attributes .now) (args .source .now) (args .j) p
+    (keysOf (attributesFrom (args .attributes .now) (args .source .now) (args .j - args .range .first) (args .range .first))) (if1 .left) (is-repeated .ensures)
+    k rooms used (args .kind) g (if2 .left) (read-attribute .ensures g rooms p used hd ro (hint-lent (args .attributes .now) (args .source .now) (args .j) g hi))
 
 pub step-attribute-spec : {M : Type 1} → statement M
 step-attribute-spec =

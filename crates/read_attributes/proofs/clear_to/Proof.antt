@@ -8,7 +8,11 @@ is-within-requires : tie.Need-is-within-requires
 is-within-requires c κs = search needs
 
 returns : tie.Need-returns
-returns c = (free-within (c .before .before .before .before .before .args .attributes .now) (c .before .before .before .before .before .args .source .now) (c .before .before .before .before .before .args .known) (c .before .before .before .before .before .args .range) (c .before .before .before .before .before .pre .1 .1 .1) (sym (c .before .is-within .ensures) ∙ c .if1 .taken), c .before .before .before .before .before .pre .1 .1 .0)
+returns c =
+    let start = c .before .before .before .before .before in (
+      free-within (start .args .attributes .now) (start .args .source .now) (start .args .known) (start .args .range) (start .pre .1 .1 .1) (sym (c .before .is-within .ensures) ∙ c .if1 .taken),
+      start .pre .1 .1 .0,
+    )
 
 free-to-requires : tie.Need-free-to-requires
 free-to-requires c κs = search needs

@@ -13,10 +13,14 @@ has-bit-requires-2 : tie.Need-has-bit-requires-2
 has-bit-requires-2 c κs = search needs
 
 returns-2 : tie.Need-returns-2
-returns-2 c = missing-second (c .before .before .before .before .before .args .kind) (c .before .before .before .before .before .args .own .now) (c .before .before .before .has-bit .ensures) (c .before .has-bit2 .ensures) (c .before .before .if1 .left) (c .if2 .taken)
+returns-2 c =
+    let args = c .before .before .before .before .before .args in
+    missing-second (args .kind) (args .own .now) (c .before .before .before .has-bit .ensures) (c .before .has-bit2 .ensures) (c .before .before .if1 .left) (c .if2 .taken)
 
 returns-3 : tie.Need-returns-3
-returns-3 c = missing-none (c .before .before .before .before .before .args .kind) (c .before .before .before .before .before .args .own .now) (c .before .before .before .has-bit .ensures) (c .before .has-bit2 .ensures) (c .before .before .if1 .left) (c .if2 .left)
+returns-3 c =
+    let args = c .before .before .before .before .before .args in
+    missing-none (args .kind) (args .own .now) (c .before .before .before .has-bit .ensures) (c .before .has-bit2 .ensures) (c .before .before .if1 .left) (c .if2 .left)
 
 pub missing-of-spec : {M : Type 1} → statement M
 missing-of-spec =

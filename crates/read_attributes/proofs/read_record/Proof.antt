@@ -9,7 +9,29 @@ put-field-requires : tie.Need-put-field-requires
 put-field-requires c κs = search needs
 
 read-all-requires : tie.Need-read-all-requires
-read-all-requires c κs = let p = c .before .before .before .before .before .before .before .before .before .before .pre in (p .0, (p .1 .1 .1 .0, (p .1 .1 .1 .1 .0, (p .1 .1 .1 .1 .1 .0, (p .1 .1 .1 .1 .1 .1 .1 .0, (begun (c .before .before .before .before .before .before .before .before .before .before .args .kind) (c .before .before .before .before .before .before .before .before .before .before .args .fill) (c .before .before .before .before .before .before .before .before .before .before .args .own .now) (c .before .before .before .before .before .before .before .before .before .before .args .text .now) (p .1 .1 .1 .1 .1 .1 .1 .1 .0) (p .1 .0) (p .1 .1 .1 .1 .1 .1 .0) (p .1 .1 .1 .1 .1 .1 .1 .1 .1 .0) (c .before .before .before .before .put-field .ensures), p .1 .1 .0))))))
+read-all-requires c κs =
+    let start = c .before .before .before .before .before .before .before .before .before .before in
+    let put-field = c .before .before .before .before .put-field in
+    let p = start .pre in (
+      p .0,
+      (
+        p .1 .1 .1 .0,
+        (
+          p .1 .1 .1 .1 .0,
+          (
+            p .1 .1 .1 .1 .1 .0,
+            (
+              p .1 .1 .1 .1 .1 .1 .1 .0,
+              (
+                begun (start .args .kind) (start .args .fill) (start .args .own .now) (start .args .text .now)
+                    (p .1 .1 .1 .1 .1 .1 .1 .1 .0) (p .1 .0) (p .1 .1 .1 .1 .1 .1 .0) (p .1 .1 .1 .1 .1 .1 .1 .1 .1 .0) (put-field .ensures),
+                p .1 .1 .0,
+              ),
+            ),
+          ),
+        ),
+      ),
+    )
 
 enum-known-read : tie.Need-enum-known-read
 enum-known-read c = search needs
@@ -24,7 +46,12 @@ same-length-2 : tie.Need-same-length-2
 same-length-2 c = search needs
 
 returns : tie.Need-returns
-returns c = λ rooms p before w ro. record-halted (c .before .before .before .before .before .before .before .before .before .before .before .before .before .before .before .before .before .before .args .kind) (c .before .before .before .before .before .before .before .before .before .before .before .before .before .before .before .before .before .before .args .attributes .now) (c .before .before .before .before .before .before .before .before .before .before .before .before .before .before .before .before .before .before .args .source .now) (c .before .before .before .before .before .before .before .before .before .before .before .before .before .before .before .before .before .before .args .range) (take (c .before .before .before .before .before .before .before .before .before .before .before .before .before .before .before .before .before .before .args .fill) (c .before .before .before .before .before .before .before .before .before .before .before .before .before .before .before .before .before .before .args .text .now)) (c .before .before .before .before .before .before .before .before .before .before .before .before .before .before .before .before .before .before .args .own .now) (c .before .before .before .before .before .before .before .before .before .before .before .before .before .before .before .before .before .before .args .text .now) (c .before .before .before .before .before .before .before .before .before .before .before .before .put-field .ensures) (c .before .before .before .before .before .before .before .before .before .before .before .before .before .before .before .before .before .before .pre .1 .0) (c .before .before .before .before .before .before .before .read-all .ensures) rooms p before w ro (c .before .read2 .given .1)
+returns c =
+    let start = c .before .before .before .before .before .before .before .before .before .before .before .before .before .before .before .before .before .before in
+    let put-field = c .before .before .before .before .before .before .before .before .before .before .before .before .put-field in
+    let read-all = c .before .before .before .before .before .before .before .read-all in
+    λ rooms p before w ro. record-halted (start .args .kind) (start .args .attributes .now) (start .args .source .now) (start .args .range) (take (start .args .fill) (start .args .text .now))
+    (start .args .own .now) (start .args .text .now) (put-field .ensures) (start .pre .1 .0) (read-all .ensures) rooms p before w ro (c .before .read2 .given .1)
 
 missing-of-requires : tie.Need-missing-of-requires
 missing-of-requires c κs = search needs
@@ -39,13 +66,31 @@ same-length-4 : tie.Need-same-length-4
 same-length-4 c = search needs
 
 returns-2 : tie.Need-returns-2
-returns-2 c = λ rooms p before w ro. record-lacking (c .before .before .before .before .before .before .before .before .before .before .before .before .before .before .before .before .before .before .before .before .before .before .args .kind) (c .before .before .before .before .before .before .before .before .before .before .before .before .before .before .before .before .before .before .before .before .before .before .args .attributes .now) (c .before .before .before .before .before .before .before .before .before .before .before .before .before .before .before .before .before .before .before .before .before .before .args .source .now) (c .before .before .before .before .before .before .before .before .before .before .before .before .before .before .before .before .before .before .before .before .before .before .args .range) (take (c .before .before .before .before .before .before .before .before .before .before .before .before .before .before .before .before .before .before .before .before .before .before .args .fill) (c .before .before .before .before .before .before .before .before .before .before .before .before .before .before .before .before .before .before .before .before .before .before .args .text .now)) (c .before .before .before .before .before .before .before .before .before .before .before .before .before .before .before .before .before .before .before .before .before .before .args .own .now) (c .before .before .before .before .before .before .before .before .before .before .before .before .before .before .before .before .before .before .before .before .before .before .args .text .now) (c .before .before .before .before .before .before .before .before .before .before .before .before .before .before .before .before .put-field .ensures) (c .before .before .before .before .before .before .before .before .before .before .before .before .before .before .before .before .before .before .before .before .before .before .pre .1 .0) (c .before .before .before .before .before .before .before .before .before .before .before .read-all .ensures) rooms p before w ro (c .before .before .before .before .before .read .given .1) (c .before .before .missing-of .ensures) (c .before .if1 .taken) (c .refused .ensures)
+returns-2 c =
+    let at-put-field = c .before .before .before .before .before .before .before .before .before .before .before .before .before .before .before .before in
+    let start = at-put-field .before .before .before .before .before .before in
+    let read-all = c .before .before .before .before .before .before .before .before .before .before .before .read-all in
+    let read = c .before .before .before .before .before .read in
+    λ rooms p before w ro. record-lacking (start .args .kind) (start .args .attributes .now) (start .args .source .now) (start .args .range)
+    (take (start .args .fill) (start .args .text .now)) (start .args .own .now) (start .args .text .now) (at-put-field .put-field .ensures) (start .pre .1 .0)
+    (read-all .ensures) rooms p before w ro (read .given .1) (c .before .before .missing-of .ensures) (c .before .if1 .taken) (c .refused .ensures)
 
 known-of-requires : tie.Need-known-of-requires
 known-of-requires c κs = search needs
 
 add-t28 : tie.Need-add-t28
-add-t28 c = let h = record-extras (c .before .before .before .before .before .before .before .before .before .before .before .before .before .before .before .before .before .before .before .before .before .before .before .args .kind) (c .before .before .before .before .before .before .before .before .before .before .before .before .before .before .before .before .before .before .before .before .before .before .before .args .attributes .now) (c .before .before .before .before .before .before .before .before .before .before .before .before .before .before .before .before .before .before .before .before .before .before .before .args .source .now) (c .before .before .before .before .before .before .before .before .before .before .before .before .before .before .before .before .before .before .before .before .before .before .before .args .range) (take (c .before .before .before .before .before .before .before .before .before .before .before .before .before .before .before .before .before .before .before .before .before .before .before .args .fill) (c .before .before .before .before .before .before .before .before .before .before .before .before .before .before .before .before .before .before .before .before .before .before .before .args .text .now)) (c .before .before .before .before .before .before .before .before .before .before .before .before .before .before .before .before .before .before .before .before .before .before .before .args .own .now) (c .before .before .before .before .before .before .before .before .before .before .before .before .before .before .before .before .before .before .before .before .before .before .before .args .text .now) (c .before .before .before .before .before .before .before .before .before .before .before .before .before .before .before .before .before .put-field .ensures) (c .before .before .before .before .before .before .before .before .before .before .before .before .before .before .before .before .before .before .before .before .before .before .before .pre .1 .0) (c .before .before .before .before .before .before .before .before .before .before .before .before .read-all .ensures) (c .before .before .before .before .before .before .read .given .1) in let k = c .before .before .before .before .before .before .before .before .before .before .before .before .read-all .kept .1 .1 .1 .1 .1 .1 .0 in let l = c .before .before .before .before .before .before .before .before .before .before .before .before .before .before .before .before .before .put-field .kept .0 in let g = c .before .before .before .before .before .before .before .before .before .before .before .before .before .before .before .before .before .before .before .before .before .before .before .good .1 .1 .1 .1 .1 .1 .1 .0 in record { fits = omega arith }
+add-t28 c =
+    let args = c .before .before .before .before .before .before .before .before .before .before .before .before
+    .before .before .before .before .before .before .before .before .before .before .before .args in
+    let pre = c .before .before .before .before .before .before .before .before .before .before .before .before
+    .before .before .before .before .before .before .before .before .before .before .before .pre in
+    let put-field = c .before .before .before .before .before .before .before .before .before .before .before .before .before .before .before .before .before .put-field in
+    let read-all = c .before .before .before .before .before .before .before .before .before .before .before .before .read-all in
+    let read = c .before .before .before .before .before .before .read in
+    let h =
+    record-extras (args .kind) (args .attributes .now) (args .source .now) (args .range) (take (args .fill) (args .text .now)) (args .own .now) (args .text .now) (put-field .ensures) (pre .1 .0)
+    (read-all .ensures) (read .given .1) in let k = read-all .kept .1 .1 .1 .1 .1 .1 .0 in let l = put-field .kept .0 in let g = c .before .before .before .before .before .before .before .before
+    .before .before .before .before .before .before .before .before .before .before .before .before .before .before .before .good .1 .1 .1 .1 .1 .1 .1 .0 in record { fits = omega arith }
 
 same-length-5 : tie.Need-same-length-5
 same-length-5 c = search needs
@@ -54,7 +99,15 @@ same-length-6 : tie.Need-same-length-6
 same-length-6 c = search needs
 
 returns-3 : tie.Need-returns-3
-returns-3 c = λ rooms p before w ro. record-grown (c .before .before .before .before .before .before .before .before .before .before .before .before .before .before .before .before .before .before .before .before .before .before .before .args .kind) (c .before .before .before .before .before .before .before .before .before .before .before .before .before .before .before .before .before .before .before .before .before .before .before .args .attributes .now) (c .before .before .before .before .before .before .before .before .before .before .before .before .before .before .before .before .before .before .before .before .before .before .before .args .source .now) (c .before .before .before .before .before .before .before .before .before .before .before .before .before .before .before .before .before .before .before .before .before .before .before .args .range) (take (c .before .before .before .before .before .before .before .before .before .before .before .before .before .before .before .before .before .before .before .before .before .before .before .args .fill) (c .before .before .before .before .before .before .before .before .before .before .before .before .before .before .before .before .before .before .before .before .before .before .before .args .text .now)) (c .before .before .before .before .before .before .before .before .before .before .before .before .before .before .before .before .before .before .before .before .before .before .before .args .own .now) (c .before .before .before .before .before .before .before .before .before .before .before .before .before .before .before .before .before .before .before .before .before .before .before .args .text .now) (c .before .before .before .before .before .before .before .before .before .before .before .before .before .before .before .before .before .put-field .ensures) (c .before .before .before .before .before .before .before .before .before .before .before .before .before .before .before .before .before .before .before .before .before .before .before .pre .1 .0) (c .before .before .before .before .before .before .before .before .before .before .before .before .read-all .ensures) rooms p before w ro (c .before .before .before .before .before .before .read .given .1) (c .before .before .before .missing-of .ensures) (c .before .before .if1 .left) (c .before .before .before .before .before .before .before .before .before .before .before .before .before .before .before .before .before .before .before .before .before .before .before .pre .1 .1 .1 .0) (c .before .before .before .before .before .before .before .before .before .before .before .before .before .before .before .before .before .before .before .before .before .before .before .args .known) (c .before .before .before .before .before .before .before .before .before .before .before .before .before .before .before .before .before .before .before .before .before .before .before .pre .1 .1 .1 .1 .1 .1 .1 .1 .1 .1) (c .before .known-of .ensures)
+returns-3 c =
+    let at-put-field = c .before .before .before .before .before .before .before .before .before .before .before .before .before .before .before .before .before in
+    let start = at-put-field .before .before .before .before .before .before in
+    let read-all = c .before .before .before .before .before .before .before .before .before .before .before .before .read-all in
+    let read = c .before .before .before .before .before .before .read in
+    λ rooms p before w ro.
+    record-grown (start .args .kind) (start .args .attributes .now) (start .args .source .now) (start .args .range) (take (start .args .fill) (start .args .text .now)) (start .args .own .now)
+    (start .args .text .now) (at-put-field .put-field .ensures) (start .pre .1 .0) (read-all .ensures) rooms p before w ro (read .given .1) (c .before .before .before .missing-of .ensures)
+    (c .before .before .if1 .left) (start .pre .1 .1 .1 .0) (start .args .known) (start .pre .1 .1 .1 .1 .1 .1 .1 .1 .1 .1) (c .before .known-of .ensures)
 
 pub read-record-spec : {M : Type 1} → statement M
 read-record-spec =

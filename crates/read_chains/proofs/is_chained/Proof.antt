@@ -13,52 +13,91 @@ abbrev μ-loop : tie.MeasureT-loop
 μ-loop attributes source first j m b key work s₀ s = s
 
 mul-wide : tie.Need-mul-wide Inv-loop μ-loop
-mul-wide c = omega (arith, head-fits (c .before .before .before .before .pre .1 .1) (c .before .before .before .before .args .key .now) (c .before .before .before .before .pre .1 .0), c .before .before .before .before .good)
+mul-wide c =
+    let args = c .before .before .before .before .args in
+    let good = c .before .before .before .before .good in
+    let pre = c .before .before .before .before .pre in
+    omega (arith, head-fits (pre .1 .1) (args .key .now) (pre .1 .0), good)
 
 shared-slice-read-wide : tie.Need-shared-slice-read-wide Inv-loop μ-loop
-shared-slice-read-wide c = head-fits (c .before .before .before .before .before .pre .1 .1) (c .before .before .before .before .before .args .key .now) (c .before .before .before .before .before .pre .1 .0)
+shared-slice-read-wide c =
+    let start = c .before .before .before .before .before in
+    head-fits (start .pre .1 .1) (start .args .key .now) (start .pre .1 .0)
 
 wide-requires : tie.Need-wide-requires Inv-loop μ-loop
 wide-requires c κs = search needs
 
 loop-holds : tie.Need-loop-holds Inv-loop μ-loop
-loop-holds c = sought-start (c .before .before .before .before .before .before .pre .1 .1) (c .before .before .before .before .before .before .pre .1 .0) refl (c .wide .ensures)
+loop-holds c =
+    let pre = c .before .before .before .before .before .before .pre in
+    sought-start (pre .1 .1) (pre .1 .0) refl (c .wide .ensures)
 
 sub-i : tie.Need-sub-i Inv-loop μ-loop
 sub-i c = omega arith
 
 add-key-at : tie.Need-add-key-at Inv-loop μ-loop
-add-key-at c = omega (arith, sought-low (c .before .before .before .before .before .before .before .before .pre .1 .1) (c .before .loop .inv) (c .loop-test .taken), c .before .before .before .before .before .before .before .before .pre .0, c .before .before .before .before .before .before .before .before .good)
+add-key-at c =
+    let good = c .before .before .before .before .before .before .before .before .good in
+    let pre = c .before .before .before .before .before .before .before .before .pre in
+    omega (arith, sought-low (pre .1 .1) (c .before .loop .inv) (c .loop-test .taken), pre .0, good)
 
 key-at-requires : tie.Need-key-at-requires Inv-loop μ-loop
-key-at-requires c κs = omega (arith, sought-low (c .before .before .before .before .before .before .before .before .pre .1 .1) (c .before .loop .inv) (c .loop-test .taken), c .before .before .before .before .before .before .before .before .pre .0)
+key-at-requires c κs =
+    let pre = c .before .before .before .before .before .before .before .before .pre in
+    omega (arith, sought-low (pre .1 .1) (c .before .loop .inv) (c .loop-test .taken), pre .0)
 
 same-requires : tie.Need-same-requires Inv-loop μ-loop
 same-requires c κs = search needs
 
 returns : tie.Need-returns Inv-loop μ-loop
-returns c = sought-hit (c .before .before .before .before .before .before .before .before .before .before .before .pre .1 .1) (c .before .before .before .before .loop .inv) (c .before .before .before .loop-test .taken) (c .before .before .key-at .ensures) (c .before .same .ensures) (c .if1 .taken)
+returns c =
+    let pre = c .before .before .before .before .before .before .before .before .before .before .before .pre in
+    let loop = c .before .before .before .before .loop in
+    sought-hit (pre .1 .1) (loop .inv) (c .before .before .before .loop-test .taken) (c .before .before .key-at .ensures) (c .before .same .ensures) (c .if1 .taken)
 
 add-wide : tie.Need-add-wide Inv-loop μ-loop
-add-wide c = omega (arith, sought-low (c .before .before .before .before .before .before .before .before .before .before .before .pre .1 .1) (c .before .before .before .before .loop .inv) (c .before .before .before .loop-test .taken), c .before .before .before .before .before .before .before .before .before .before .before .pre .1 .1 .room, c .before .before .before .before .before .before .before .before .before .before .before .good)
+add-wide c =
+    let good = c .before .before .before .before .before .before .before .before .before .before .before .good in
+    let pre = c .before .before .before .before .before .before .before .before .before .before .before .pre in
+    let loop = c .before .before .before .before .loop in
+    omega (arith, sought-low (pre .1 .1) (loop .inv) (c .before .before .before .loop-test .taken), pre .1 .1 .room, good)
 
 mul-wide-2 : tie.Need-mul-wide-2 Inv-loop μ-loop
-mul-wide-2 c = omega (arith, sought-low (c .before .before .before .before .before .before .before .before .before .before .before .pre .1 .1) (c .before .before .before .before .loop .inv) (c .before .before .before .loop-test .taken), c .before .before .before .before .before .before .before .before .before .before .before .pre .1 .1 .room, c .before .before .before .before .before .before .before .before .before .before .before .good, c .before .before .before .loop-test .taken)
+mul-wide-2 c =
+    let good = c .before .before .before .before .before .before .before .before .before .before .before .good in
+    let pre = c .before .before .before .before .before .before .before .before .before .before .before .pre in
+    let loop = c .before .before .before .before .loop in
+    omega (arith, sought-low (pre .1 .1) (loop .inv) (c .before .before .before .loop-test .taken), pre .1 .1 .room, good, c .before .before .before .loop-test .taken)
 
 shared-slice-read-wide-2 : tie.Need-shared-slice-read-wide-2 Inv-loop μ-loop
-shared-slice-read-wide-2 c = omega (arith, sought-low (c .before .before .before .before .before .before .before .before .before .before .before .before .pre .1 .1) (c .before .before .before .before .before .loop .inv) (c .before .before .before .before .loop-test .taken), c .before .before .before .before .before .before .before .before .before .before .before .before .pre .1 .1 .room, c .before .before .before .before .loop-test .taken)
+shared-slice-read-wide-2 c =
+    let pre = c .before .before .before .before .before .before .before .before .before .before .before .before .pre in
+    let loop = c .before .before .before .before .before .loop in
+    let loop-test = c .before .before .before .before .loop-test in
+    omega (arith, sought-low (pre .1 .1) (loop .inv) (loop-test .taken), pre .1 .1 .room, loop-test .taken)
 
 wide-requires-2 : tie.Need-wide-requires-2 Inv-loop μ-loop
 wide-requires-2 c κs = search needs
 
 loop-less : tie.Need-loop-less Inv-loop μ-loop
-loop-less c = let h = walking-less (c .before .before .before .before .before .before .before .before .before .before .before .before .before .pre .1 .1) (c .before .before .before .before .before .before .loop .inv .walk) (c .before .before .before .before .before .loop-test .taken) refl (c .wide2 .ensures) in omega arith
+loop-less c =
+    let pre = c .before .before .before .before .before .before .before .before .before .before .before .before .before .pre in
+    let loop = c .before .before .before .before .before .before .loop in
+    let loop-test = c .before .before .before .before .before .loop-test in
+    let h = walking-less (pre .1 .1) (loop .inv .walk) (loop-test .taken) refl (c .wide2 .ensures) in omega arith
 
 loop-again : tie.Need-loop-again Inv-loop μ-loop
-loop-again c = sought-more (c .before .before .before .before .before .before .before .before .before .before .before .before .before .pre .1 .1) (c .before .before .before .before .before .before .loop .inv) (c .before .before .before .before .before .loop-test .taken) (c .before .before .before .before .key-at .ensures) (c .before .before .before .same .ensures) (c .before .before .if1 .left) refl (c .wide2 .ensures)
+loop-again c =
+    let pre = c .before .before .before .before .before .before .before .before .before .before .before .before .before .pre in
+    let loop = c .before .before .before .before .before .before .loop in
+    let loop-test = c .before .before .before .before .before .loop-test in
+    let key-at = c .before .before .before .before .key-at in
+    sought-more (pre .1 .1) (loop .inv) (loop-test .taken) (key-at .ensures) (c .before .before .before .same .ensures) (c .before .before .if1 .left) refl (c .wide2 .ensures)
 
 returns-2 : tie.Need-returns-2 Inv-loop μ-loop
-returns-2 c = sought-done (c .before .before .before .before .before .before .before .before .pre .1 .1) (c .before .loop .inv) (c .loop-test .left)
+returns-2 c =
+    let pre = c .before .before .before .before .before .before .before .before .pre in
+    sought-done (pre .1 .1) (c .before .loop .inv) (c .loop-test .left)
 
 pub is-chained-spec : {M : Type 1} → statement M
 is-chained-spec =

@@ -23,7 +23,11 @@ enum-known-kept : tie.Need-enum-known-kept
 enum-known-kept c = search needs
 
 add-t11 : tie.Need-add-t11
-add-t11 c = let h = text-fits (c .before .before .before .before .before .before .before .before .before .args .text .now) (c .before .before .before .before .before .before .before .before .before .args .fill) (c .before .before .before .before .before .before .before .before .before .args .value .now) (c .before .before .before .before .before .before .before .before .before .pre .1) (sym (ap (keptAnswer cause.TextFull) (c .before .kept .given .1)) ∙ c .before .before .before .before .before .store-value .ensures .0) in omega arith
+add-t11 c =
+    let args = c .before .before .before .before .before .before .before .before .before .args in
+    let pre = c .before .before .before .before .before .before .before .before .before .pre in
+    let store-value = c .before .before .before .before .before .store-value in
+    let h = text-fits (args .text .now) (args .fill) (args .value .now) (pre .1) (sym (ap (keptAnswer cause.TextFull) (c .before .kept .given .1)) ∙ store-value .ensures .0) in omega arith
 
 enum-told : tie.Need-enum-told
 enum-told c = search needs
@@ -41,31 +45,51 @@ same-length : tie.Need-same-length
 same-length c = search needs
 
 returns : tie.Need-returns
-returns c = lay-put (c .before .before .before .before .before .before .before .before .before .args .text .now) (c .before .before .before .before .before .before .before .before .before .args .fill) (c .before .before .before .before .before .before .before .before .before .args .value .now) (c .before .before .before .before .before .before .before .before .before .pre .0) (c .before .before .before .before .before .store-value .ensures .1) (sym (ap (keptAnswer cause.TextFull) (c .before .kept .given .1)) ∙ c .before .before .before .before .before .store-value .ensures .0)
+returns c =
+    let start = c .before .before .before .before .before .before .before .before .before in
+    let store-value = c .before .before .before .before .before .store-value in
+    lay-put (start .args .text .now) (start .args .fill) (start .args .value .now) (start .pre .0) (store-value .ensures .1)
+    (sym (ap (keptAnswer cause.TextFull) (c .before .kept .given .1)) ∙ store-value .ensures .0)
 
 same-length-2 : tie.Need-same-length-2
 same-length-2 c = search needs
 
 returns-2 : tie.Need-returns-2
-returns-2 c = lay-full (c .before .before .before .before .before .before .before .before .args .text .now) (c .before .before .before .before .before .before .before .before .args .fill) (c .before .before .before .before .before .before .before .before .args .value .now) (c .before .before .before .before .before .before .before .before .pre .0) (c .before .before .before .before .store-value .ensures .1) (sym (ap (keptAnswer cause.TextFull) (c .enum-told .given .1)) ∙ c .before .before .before .before .store-value .ensures .0)
+returns-2 c =
+    let start = c .before .before .before .before .before .before .before .before in
+    let store-value = c .before .before .before .before .store-value in
+    lay-full (start .args .text .now) (start .args .fill) (start .args .value .now) (start .pre .0)
+    (store-value .ensures .1) (sym (ap (keptAnswer cause.TextFull) (c .enum-told .given .1)) ∙ store-value .ensures .0)
 
 same-length-3 : tie.Need-same-length-3
 same-length-3 c = search needs
 
 returns-3 : tie.Need-returns-3
-returns-3 c = lay-full (c .before .before .before .before .before .before .before .before .args .text .now) (c .before .before .before .before .before .before .before .before .args .fill) (c .before .before .before .before .before .before .before .before .args .value .now) (c .before .before .before .before .before .before .before .before .pre .0) (c .before .before .before .before .store-value .ensures .1) (sym (ap (keptAnswer cause.TextFull) (c .enum-told2 .given .1)) ∙ c .before .before .before .before .store-value .ensures .0)
+returns-3 c =
+    let start = c .before .before .before .before .before .before .before .before in
+    let store-value = c .before .before .before .before .store-value in
+    lay-full (start .args .text .now) (start .args .fill) (start .args .value .now) (start .pre .0)
+    (store-value .ensures .1) (sym (ap (keptAnswer cause.TextFull) (c .enum-told2 .given .1)) ∙ store-value .ensures .0)
 
 same-length-4 : tie.Need-same-length-4
 same-length-4 c = search needs
 
 returns-4 : tie.Need-returns-4
-returns-4 c = lay-full (c .before .before .before .before .before .before .before .before .args .text .now) (c .before .before .before .before .before .before .before .before .args .fill) (c .before .before .before .before .before .before .before .before .args .value .now) (c .before .before .before .before .before .before .before .before .pre .0) (c .before .before .before .before .store-value .ensures .1) (sym (ap (keptAnswer cause.TextFull) (c .enum-told3 .given .1)) ∙ c .before .before .before .before .store-value .ensures .0)
+returns-4 c =
+    let start = c .before .before .before .before .before .before .before .before in
+    let store-value = c .before .before .before .before .store-value in
+    lay-full (start .args .text .now) (start .args .fill) (start .args .value .now) (start .pre .0)
+    (store-value .ensures .1) (sym (ap (keptAnswer cause.TextFull) (c .enum-told3 .given .1)) ∙ store-value .ensures .0)
 
 same-length-5 : tie.Need-same-length-5
 same-length-5 c = search needs
 
 returns-5 : tie.Need-returns-5
-returns-5 c = lay-full (c .before .before .before .before .before .before .before .before .args .text .now) (c .before .before .before .before .before .before .before .before .args .fill) (c .before .before .before .before .before .before .before .before .args .value .now) (c .before .before .before .before .before .before .before .before .pre .0) (c .before .before .before .before .store-value .ensures .1) (sym (ap (keptAnswer cause.TextFull) (c .enum-told4 .given .1)) ∙ c .before .before .before .before .store-value .ensures .0)
+returns-5 c =
+    let start = c .before .before .before .before .before .before .before .before in
+    let store-value = c .before .before .before .before .store-value in
+    lay-full (start .args .text .now) (start .args .fill) (start .args .value .now) (start .pre .0)
+    (store-value .ensures .1) (sym (ap (keptAnswer cause.TextFull) (c .enum-told4 .given .1)) ∙ store-value .ensures .0)
 
 pub lay-spec : {M : Type 1} → statement M
 lay-spec =

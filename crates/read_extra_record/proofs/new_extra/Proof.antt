@@ -20,7 +20,9 @@ add-if1 : tie.Need-add-if1
 add-if1 c = search needs
 
 returns : tie.Need-returns
-returns c = λ g rooms p used hd ro. new-spent hd ro p (c .before .before .before .before .before .before .args .kind) (valueText (c .before .before .before .before .before .before .args .key .now)) (valueText (c .before .before .before .before .before .before .args .value .now)) (omega arith)
+returns c =
+    let args = c .before .before .before .before .before .before .args in
+    λ g rooms p used hd ro. new-spent hd ro p (args .kind) (valueText (args .key .now)) (valueText (args .value .now)) (omega arith)
 
 lay-requires : tie.Need-lay-requires
 lay-requires c κs = search needs
@@ -35,10 +37,21 @@ same-length : tie.Need-same-length
 same-length c = search needs
 
 returns-2 : tie.Need-returns-2
-returns-2 c = λ g rooms p used hd ro. key-full hd ro p (c .before .before .before .before .before .before .before .before .before .before .before .before .args .kind) (valueText (c .before .before .before .before .before .before .before .before .before .before .before .before .args .key .now)) (valueText (c .before .before .before .before .before .before .before .before .before .before .before .before .args .value .now)) (omega arith) (sym (ap laidAnswer (c .enum-told .given .1)) ∙ c .before .before .before .before .lay .ensures .0)
+returns-2 c =
+    let args = c .before .before .before .before .before .before .before .before .before .before .before .before .args in
+    let lay = c .before .before .before .before .lay in
+    λ g rooms p used hd ro. key-full hd ro p (args .kind) (valueText (args .key .now)) (valueText (args .value .now)) (omega arith) (sym (ap laidAnswer (c .enum-told .given .1)) ∙ lay .ensures .0)
 
 lay-requires-2 : tie.Need-lay-requires-2
-lay-requires-2 c κs = (c .before .before .before .before .before .before .before .before .before .before .before .before .before .before .pre .1 .1 .0, (let h = end-put (c .before .before .before .before .before .before .before .before .before .before .before .before .before .before .args .given .fill) (length (c .before .before .before .before .before .before .before .before .before .before .before .before .before .before .args .text .now) - c .before .before .before .before .before .before .before .before .before .before .before .before .before .before .args .given .fill) (valueText (c .before .before .before .before .before .before .before .before .before .before .before .before .before .before .args .key .now)) (sym (ap laidAnswer (c .before .before .keyed .given .1)) ∙ c .before .before .before .before .before .before .lay .ensures .0) in let a = h .0 in let b = h .1 in let s = laid-size (c .before .before .before .before .before .before .before .before .before .before .before .before .before .before .args .text .now) (valueText (c .before .before .before .before .before .before .before .before .before .before .before .before .before .before .args .key .now)) (c .before .before .before .before .before .before .before .before .before .before .before .before .before .before .args .given .fill) (c .before .before .before .before .before .before .before .before .before .before .before .before .before .before .pre .1 .1 .1 .0) (c .before .before .before .before .before .before .lay .ensures .1) in let q = c .before .before .before .before .before .before .before .before .before .before .before .before .before .before .pre .1 .1 .1 .0 in omega arith))
+lay-requires-2 c κs =
+    let args = c .before .before .before .before .before .before .before .before .before .before .before .before .before .before .args in
+    let pre = c .before .before .before .before .before .before .before .before .before .before .before .before .before .before .pre in
+    let lay = c .before .before .before .before .before .before .lay in (
+      pre .1 .1 .0,
+      (let h = end-put (args .given .fill) (length (args .text .now) - args .given .fill) (valueText (args .key .now)) (sym (ap laidAnswer (c .before .before .keyed .given .1)) ∙ lay .ensures .0) in
+          let a = h .0 in let b = h .1 in let s = laid-size (args .text .now) (valueText (args .key .now)) (args .given .fill) (pre .1 .1 .1 .0) (lay .ensures .1) in
+          let q = pre .1 .1 .1 .0 in omega arith),
+    )
 
 enum-known-laid : tie.Need-enum-known-laid
 enum-known-laid c = search needs
@@ -50,7 +63,13 @@ same-length-2 : tie.Need-same-length-2
 same-length-2 c = search needs
 
 returns-3 : tie.Need-returns-3
-returns-3 c = λ g rooms p used hd ro. value-full hd ro p (c .before .before .before .before .before .before .before .before .before .before .before .before .before .before .before .before .before .before .before .args .kind) (valueText (c .before .before .before .before .before .before .before .before .before .before .before .before .before .before .before .before .before .before .before .args .key .now)) (valueText (c .before .before .before .before .before .before .before .before .before .before .before .before .before .before .before .before .before .before .before .args .value .now)) (omega arith) (sym (ap laidAnswer (c .before .before .before .before .before .before .before .keyed .given .1)) ∙ c .before .before .before .before .before .before .before .before .before .before .before .lay .ensures .0) (c .before .before .before .before .before .before .before .before .before .before .before .lay .ensures .1) (sym (ap laidAnswer (c .enum-told2 .given .1)) ∙ c .before .before .before .before .lay2 .ensures .0)
+returns-3 c =
+    let args = c .before .before .before .before .before .before .before .before .before .before .before .before .before .before .before .before .before .before .before .args in
+    let lay = c .before .before .before .before .before .before .before .before .before .before .before .lay in
+    let keyed = c .before .before .before .before .before .before .before .keyed in
+    let lay2 = c .before .before .before .before .lay2 in
+    λ g rooms p used hd ro. value-full hd ro p (args .kind) (valueText (args .key .now)) (valueText (args .value .now)) (omega arith)
+    (sym (ap laidAnswer (keyed .given .1)) ∙ lay .ensures .0) (lay .ensures .1) (sym (ap laidAnswer (c .enum-told2 .given .1)) ∙ lay2 .ensures .0)
 
 mul-put-extra-words : tie.Need-mul-put-extra-words
 mul-put-extra-words c = search needs
@@ -68,10 +87,21 @@ add-put-extra-words : tie.Need-add-put-extra-words
 add-put-extra-words c = search needs
 
 put-extra-words-requires : tie.Need-put-extra-words-requires
-put-extra-words-requires c κs = let h = end-put (c .before .before .before .before .before .before .before .before .before .before .before .before .before .before .before .before .before .before .before .before .before .args .given .fill) (length (c .before .before .before .before .before .before .before .before .before .before .before .before .before .before .before .before .before .before .before .before .before .args .text .now) - c .before .before .before .before .before .before .before .before .before .before .before .before .before .before .before .before .before .before .before .before .before .args .given .fill) (valueText (c .before .before .before .before .before .before .before .before .before .before .before .before .before .before .before .before .before .before .before .before .before .args .key .now)) (sym (ap laidAnswer (c .before .before .before .before .before .before .before .before .before .keyed .given .1)) ∙ c .before .before .before .before .before .before .before .before .before .before .before .before .before .lay .ensures .0) in let a = h .0 in let b = h .1 in let s = laid-size (c .before .before .before .before .before .before .before .before .before .before .before .before .before .before .before .before .before .before .before .before .before .args .text .now) (valueText (c .before .before .before .before .before .before .before .before .before .before .before .before .before .before .before .before .before .before .before .before .before .args .key .now)) (c .before .before .before .before .before .before .before .before .before .before .before .before .before .before .before .before .before .before .before .before .before .args .given .fill) (c .before .before .before .before .before .before .before .before .before .before .before .before .before .before .before .before .before .before .before .before .before .pre .1 .1 .1 .0) (c .before .before .before .before .before .before .before .before .before .before .before .before .before .lay .ensures .1) in let h₂ = end-put (c .before .before .before .before .before .before .before .before .before .keyed .given .0 .0) (length (c .before .before .before .before .before .before .before .before .before .before .before .before .before .lay .last .1 .1 .0) - c .before .before .before .before .before .before .before .before .before .keyed .given .0 .0) (valueText (c .before .before .before .before .before .before .before .before .before .before .before .before .before .before .before .before .before .before .before .before .before .args .value .now)) (sym (ap laidAnswer (c .before .before .laid .given .1)) ∙ c .before .before .before .before .before .before .lay2 .ensures .0) in let a₂ = h₂ .0 in let b₂ = h₂ .1 in let q = c .before .before .before .before .before .before .before .before .before .before .before .before .before .before .before .before .before .before .before .before .before .pre .1 .1 .1 .0 in let q₂ = c .before .before .before .before .before .before .before .before .before .before .before .before .before .before .before .before .before .before .before .before .before .pre .1 .1 .1 .1 .0 in (omega arith, (omega arith, omega arith))
+put-extra-words-requires c κs =
+    let args = c .before .before .before .before .before .before .before .before .before .before .before .before .before .before .before .before .before .before .before .before .before .args in
+    let pre = c .before .before .before .before .before .before .before .before .before .before .before .before .before .before .before .before .before .before .before .before .before .pre in
+    let lay = c .before .before .before .before .before .before .before .before .before .before .before .before .before .lay in
+    let keyed = c .before .before .before .before .before .before .before .before .before .keyed in
+    let lay2 = c .before .before .before .before .before .before .lay2 in
+    let h = end-put (args .given .fill) (length (args .text .now) - args .given .fill) (valueText (args .key .now)) (sym (ap laidAnswer (keyed .given .1)) ∙ lay .ensures .0) in let a = h .0 in
+    let b = h .1 in let s = laid-size (args .text .now) (valueText (args .key .now)) (args .given .fill) (pre .1 .1 .1 .0) (lay .ensures .1) in let h₂ = end-put (keyed .given .0 .0)
+    (length (lay .last .1 .1 .0) - keyed .given .0 .0) (valueText (args .value .now)) (sym (ap laidAnswer (c .before .before .laid .given .1)) ∙ lay2 .ensures .0) in
+    let a₂ = h₂ .0 in let b₂ = h₂ .1 in let q = pre .1 .1 .1 .0 in let q₂ = pre .1 .1 .1 .1 .0 in (omega arith, (omega arith, omega arith))
 
 add-t13 : tie.Need-add-t13
-add-t13 c = let q = c .before .before .before .before .before .before .before .before .before .before .before .before .before .before .before .before .before .before .before .before .before .before .before .before .before .good .1 .1 .1 .1 .0 .0 in let r = c .before .before .before .before .before .before .before .before .before .before .before .before .before .before .before .before .before .before .before .before .before .before .before .before .before .pre .1 .1 .1 .1 .1 in omega arith
+add-t13 c = let q = c .before .before .before .before .before .before .before .before .before .before .before .before .before .before .before .before .before .before
+    .before .before .before .before .before .before .before .good .1 .1 .1 .1 .0 .0 in let r = c .before .before .before .before .before .before .before .before .before
+    .before .before .before .before .before .before .before .before .before .before .before .before .before .before .before .before .pre .1 .1 .1 .1 .1 in omega arith
 
 same-length-3 : tie.Need-same-length-3
 same-length-3 c = search needs
@@ -80,7 +110,15 @@ same-length-4 : tie.Need-same-length-4
 same-length-4 c = search needs
 
 returns-4 : tie.Need-returns-4
-returns-4 c = λ g rooms p used hd ro. new-put hd ro p (c .before .before .before .before .before .before .before .before .before .before .before .before .before .before .before .before .before .before .before .before .before .before .before .before .before .args .kind) (valueText (c .before .before .before .before .before .before .before .before .before .before .before .before .before .before .before .before .before .before .before .before .before .before .before .before .before .args .key .now)) (valueText (c .before .before .before .before .before .before .before .before .before .before .before .before .before .before .before .before .before .before .before .before .before .before .before .before .before .args .value .now)) (omega arith) (sym (ap laidAnswer (c .before .before .before .before .before .before .before .before .before .before .before .before .before .keyed .given .1)) ∙ c .before .before .before .before .before .before .before .before .before .before .before .before .before .before .before .before .before .lay .ensures .0) (c .before .before .before .before .before .before .before .before .before .before .before .before .before .before .before .before .before .lay .ensures .1) (sym (ap laidAnswer (c .before .before .before .before .before .before .laid .given .1)) ∙ c .before .before .before .before .before .before .before .before .before .before .lay2 .ensures .0) (c .before .before .before .before .before .before .before .before .before .before .lay2 .ensures .1) (c .before .before .before .put-extra-words .ensures)
+returns-4 c =
+    let args = c .before .before .before .before .before .before .before .before .before .before .before .before .before
+    .before .before .before .before .before .before .before .before .before .before .before .before .args in
+    let lay = c .before .before .before .before .before .before .before .before .before .before .before .before .before .before .before .before .before .lay in
+    let keyed = c .before .before .before .before .before .before .before .before .before .before .before .before .before .keyed in
+    let lay2 = c .before .before .before .before .before .before .before .before .before .before .lay2 in
+    let laid = c .before .before .before .before .before .before .laid in
+    λ g rooms p used hd ro. new-put hd ro p (args .kind) (valueText (args .key .now)) (valueText (args .value .now)) (omega arith) (sym (ap laidAnswer (keyed .given .1)) ∙ lay .ensures .0)
+    (lay .ensures .1) (sym (ap laidAnswer (laid .given .1)) ∙ lay2 .ensures .0) (lay2 .ensures .1) (c .before .before .before .put-extra-words .ensures)
 
 pub new-extra-spec : {M : Type 1} → statement M
 new-extra-spec =

@@ -23,7 +23,10 @@ same-length : tie.Need-same-length
 same-length c = search needs
 
 returns : tie.Need-returns
-returns c = λ g rooms p used hd ro. old-full hd ro (valueText (c .before .before .before .before .before .before .before .before .before .args .value .now)) p (c .before .before .before .before .before .before .before .before .before .args .i) (sym (ap laidAnswer (c .enum-told .given .1)) ∙ c .before .before .before .before .lay .ensures .0)
+returns c =
+    let args = c .before .before .before .before .before .before .before .before .before .args in
+    let lay = c .before .before .before .before .lay in
+    λ g rooms p used hd ro. old-full hd ro (valueText (args .value .now)) p (args .i) (sym (ap laidAnswer (c .enum-told .given .1)) ∙ lay .ensures .0)
 
 mul-at : tie.Need-mul-at
 mul-at c = search needs
@@ -47,10 +50,18 @@ cast-put-pair : tie.Need-cast-put-pair
 cast-put-pair c = search needs
 
 sub-put-pair-2 : tie.Need-sub-put-pair-2
-sub-put-pair-2 c = let h = end-put (c .before .before .before .before .before .before .before .before .before .before .before .args .given .fill) (length (c .before .before .before .before .before .before .before .before .before .before .before .args .text .now) - c .before .before .before .before .before .before .before .before .before .before .before .args .given .fill) (valueText (c .before .before .before .before .before .before .before .before .before .before .before .args .value .now)) (sym (ap laidAnswer (c .before .before .laid .given .1)) ∙ c .before .before .before .before .before .before .lay .ensures .0) .1 in omega arith
+sub-put-pair-2 c =
+    let args = c .before .before .before .before .before .before .before .before .before .before .before .args in
+    let lay = c .before .before .before .before .before .before .lay in
+    let h = end-put (args .given .fill) (length (args .text .now) - args .given .fill) (valueText (args .value .now)) (sym (ap laidAnswer (c .before .before .laid .given .1)) ∙ lay .ensures .0) .1 in
+    omega arith
 
 cast-put-pair-2 : tie.Need-cast-put-pair-2
-cast-put-pair-2 c = let h = end-put (c .before .before .before .before .before .before .before .before .before .before .before .args .given .fill) (length (c .before .before .before .before .before .before .before .before .before .before .before .args .text .now) - c .before .before .before .before .before .before .before .before .before .before .before .args .given .fill) (valueText (c .before .before .before .before .before .before .before .before .before .before .before .args .value .now)) (sym (ap laidAnswer (c .before .before .laid .given .1)) ∙ c .before .before .before .before .before .before .lay .ensures .0) in let a = h .0 in let b = h .1 in let q = c .before .before .before .before .before .before .before .before .before .before .before .pre in omega arith
+cast-put-pair-2 c =
+    let args = c .before .before .before .before .before .before .before .before .before .before .before .args in
+    let lay = c .before .before .before .before .before .before .lay in
+    let h = end-put (args .given .fill) (length (args .text .now) - args .given .fill) (valueText (args .value .now)) (sym (ap laidAnswer (c .before .before .laid .given .1)) ∙ lay .ensures .0) in
+    let a = h .0 in let b = h .1 in let q = c .before .before .before .before .before .before .before .before .before .before .before .pre in omega arith
 
 put-pair-requires : tie.Need-put-pair-requires
 put-pair-requires c κs = search needs
@@ -62,7 +73,12 @@ same-length-3 : tie.Need-same-length-3
 same-length-3 c = search needs
 
 returns-2 : tie.Need-returns-2
-returns-2 c = λ g rooms p used hd ro. old-put hd ro (valueText (c .before .before .before .before .before .before .before .before .before .before .before .before .before .before .args .value .now)) p (c .before .before .before .before .before .before .before .before .before .before .before .before .before .before .args .i) (c .before .before .before .before .before .before .before .before .before .before .before .before .before .before .pre .1 .0) (sym (ap laidAnswer (c .before .before .before .before .before .laid .given .1)) ∙ c .before .before .before .before .before .before .before .before .before .lay .ensures .0) (c .before .before .before .before .before .before .before .before .before .lay .ensures .1) (c .before .before .put-pair .ensures)
+returns-2 c =
+    let start = c .before .before .before .before .before .before .before .before .before .before .before .before .before .before in
+    let lay = c .before .before .before .before .before .before .before .before .before .lay in
+    let laid = c .before .before .before .before .before .laid in
+    λ g rooms p used hd ro. old-put hd ro (valueText (start .args .value .now)) p (start .args .i) (start .pre .1 .0)
+    (sym (ap laidAnswer (laid .given .1)) ∙ lay .ensures .0) (lay .ensures .1) (c .before .before .put-pair .ensures)
 
 pub old-extra-spec : {M : Type 1} → statement M
 old-extra-spec =

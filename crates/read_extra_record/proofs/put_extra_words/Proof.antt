@@ -36,8 +36,11 @@ same-length : tie.Need-same-length
 same-length c = search needs
 
 returns : tie.Need-returns
-returns c = let a = c .before .before .before .before .before .before .before .before .before .before .before .before .before .args in
-    c .before .before .put-text2 .ensures ∙ ap (putText 4 1 (a .middle) (a .end - a .middle)) (c .before .before .before .before .before .before .put-text .ensures ∙ ap (putText 2 0 (a .start) (a .middle - a .start)) (c .before .before .before .before .before .before .before .before .before .before .put-field .ensures))
+returns c =
+    let put-field = c .before .before .before .before .before .before .before .before .before .before .put-field in
+    let put-text = c .before .before .before .before .before .before .put-text in
+    let a = c .before .before .before .before .before .before .before .before .before .before .before .before .before .args in
+    c .before .before .put-text2 .ensures ∙ ap (putText 4 1 (a .middle) (a .end - a .middle)) (put-text .ensures ∙ ap (putText 2 0 (a .start) (a .middle - a .start)) (put-field .ensures))
 
 pub put-extra-words-spec : {M : Type 1} → statement M
 put-extra-words-spec =

@@ -28,9 +28,14 @@ is-stored-requires : tie.Need-is-stored-requires
 is-stored-requires c κs = search needs
 
 returns : tie.Need-returns
-returns c = let s = c .before .before .before .before .before .before .before .before .before .args .text .now in
-    let w = c .before .before .before .before .before .before .before .before .before .args .words .now in
-    c .is-stored .ensures ∙ ap (λ (l : List ℕ). sameBytes l (valueText (c .before .before .before .before .before .before .before .before .before .args .key .now))) (c .before .bytes-of .ensures ∙ ap (λ (n : ℕ). part s n (c .before .before .wide2 .result)) (c .before .before .before .before .wide .ensures ∙ c .before .before .before .before .before .field .ensures) ∙ ap (part s (getD w 2 0)) (c .before .before .wide2 .ensures ∙ c .before .before .before .field2 .ensures))
+returns c =
+    let args = c .before .before .before .before .before .before .before .before .before .args in
+    let field = c .before .before .before .before .before .field in
+    let wide = c .before .before .before .before .wide in
+    let s = args .text .now in
+    let w = args .words .now in
+    c .is-stored .ensures ∙ ap (λ (l : List ℕ). sameBytes l (valueText (args .key .now))) (c .before .bytes-of .ensures ∙ ap (λ (n : ℕ). part s n (c .before .before .wide2 .result))
+    (wide .ensures ∙ field .ensures) ∙ ap (part s (getD w 2 0)) (c .before .before .wide2 .ensures ∙ c .before .before .before .field2 .ensures))
 
 pub is-key-spec : {M : Type 1} → statement M
 is-key-spec =

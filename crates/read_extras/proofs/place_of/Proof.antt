@@ -40,7 +40,9 @@ is-key-requires : tie.Need-is-key-requires Inv-loop μ-loop
 is-key-requires c κs = c .before .before .before .cleaned-length .ensures
 
 returns : tie.Need-returns Inv-loop μ-loop
-returns c = placing-hit (c .before .before .before .before .loop .inv) (c .before .is-key .ensures) (omega arith) (c .if1 .taken)
+returns c =
+    let loop = c .before .before .before .before .loop in
+    placing-hit (loop .inv) (c .before .is-key .ensures) (omega arith) (c .if1 .taken)
 
 add-i : tie.Need-add-i Inv-loop μ-loop
 add-i c = omega arith
@@ -49,7 +51,9 @@ loop-less : tie.Need-loop-less Inv-loop μ-loop
 loop-less c = omega arith
 
 loop-again : tie.Need-loop-again Inv-loop μ-loop
-loop-again c = placing-more (c .before .before .before .before .loop .inv) (c .before .is-key .ensures) (omega arith) (c .if1 .left)
+loop-again c =
+    let loop = c .before .before .before .before .loop in
+    placing-more (loop .inv) (c .before .is-key .ensures) (omega arith) (c .if1 .left)
 
 returns-2 : tie.Need-returns-2 Inv-loop μ-loop
 returns-2 c = placing-done (c .before .loop .inv) (omega arith)

@@ -18,7 +18,12 @@ same-length-2 : tie.Need-same-length-2
 same-length-2 c = search needs
 
 returns : tie.Need-returns
-returns c = λ g rooms p used hd ro k. choose-old hd rooms p used (c .before .before .before .before .before .before .before .before .before .before .before .before .before .before .before .args .kind) (valueText (c .before .before .before .before .before .before .before .before .before .before .before .before .before .before .before .args .key .now)) (valueText (c .before .before .before .before .before .before .before .before .before .before .before .before .before .before .before .args .value .now)) (c .before .before .before .before .before .before .before .before .place-for .ensures (hint-held hd (valueText (c .before .before .before .before .before .before .before .before .before .before .before .before .before .before .before .args .key .now)) k)) (omega arith) (c .before .before .before .before .old-extra .ensures g rooms p used hd ro)
+returns c =
+    let args = c .before .before .before .before .before .before .before .before .before .before .before .before .before .before .before .args in
+    let place-for = c .before .before .before .before .before .before .before .before .place-for in
+    let old-extra = c .before .before .before .before .old-extra in
+    λ g rooms p used hd ro k. choose-old hd rooms p used (args .kind) (valueText (args .key .now)) (valueText (args .value .now))
+    (place-for .ensures (hint-held hd (valueText (args .key .now)) k)) (omega arith) (old-extra .ensures g rooms p used hd ro)
 
 new-extra-requires : tie.Need-new-extra-requires
 new-extra-requires c κs = search needs
@@ -30,7 +35,12 @@ same-length-4 : tie.Need-same-length-4
 same-length-4 c = search needs
 
 returns-2 : tie.Need-returns-2
-returns-2 c = λ g rooms p used hd ro k. choose-new hd rooms p used (c .before .before .before .before .before .before .before .before .before .before .before .before .before .before .before .args .kind) (valueText (c .before .before .before .before .before .before .before .before .before .before .before .before .before .before .before .args .key .now)) (valueText (c .before .before .before .before .before .before .before .before .before .before .before .before .before .before .before .args .value .now)) (c .before .before .before .before .before .before .before .before .place-for .ensures (hint-held hd (valueText (c .before .before .before .before .before .before .before .before .before .before .before .before .before .before .before .args .key .now)) k)) (omega arith) (c .before .before .before .before .new-extra .ensures g rooms p used hd ro)
+returns-2 c =
+    let args = c .before .before .before .before .before .before .before .before .before .before .before .before .before .before .before .args in
+    let place-for = c .before .before .before .before .before .before .before .before .place-for in
+    let new-extra = c .before .before .before .before .new-extra in
+    λ g rooms p used hd ro k. choose-new hd rooms p used (args .kind) (valueText (args .key .now)) (valueText (args .value .now))
+    (place-for .ensures (hint-held hd (valueText (args .key .now)) k)) (omega arith) (new-extra .ensures g rooms p used hd ro)
 
 pub put-extra-spec : {M : Type 1} → statement M
 put-extra-spec =

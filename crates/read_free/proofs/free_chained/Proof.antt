@@ -21,22 +21,39 @@ loop-holds : tie.Need-loop-holds Inv-loop μ-loop
 loop-holds c = going-start _ _ _ _ _ _ (c .before .before .before .pre .0) (c .before .before .before .pre .1 .1 .1 .0) refl (c .before .before .before .pre .1 .1 .1 .1)
 
 enter-requires : tie.Need-enter-requires Inv-loop μ-loop
-enter-requires c κs = (c .before .before .loop .inv .begun, (omega (arith, c .before .before .before .before .before .before .pre .1 .0), (omega (arith, c .before .before .before .before .before .before .pre .1 .1 .0), (going-room (c .before .before .loop .inv) (c .before .loop-test .taken), c .before .before .loop .inv .chains))))
+enter-requires c κs =
+    let pre = c .before .before .before .before .before .before .pre in (
+      c .before .before .loop .inv .begun,
+      (omega (arith, pre .1 .0), (omega (arith, pre .1 .1 .0), (going-room (c .before .before .loop .inv) (c .before .loop-test .taken), c .before .before .loop .inv .chains))),
+    )
 
 same-length : tie.Need-same-length Inv-loop μ-loop
-same-length c = c .before .before .before .enter .kept .1 .1 .1 .1 .1 .0 ∙ c .before .before .before .before .before .before .loop .inv .kept
+same-length c =
+    let loop = c .before .before .before .before .before .before .loop in
+    c .before .before .before .enter .kept .1 .1 .1 .1 .1 .0 ∙ loop .inv .kept
 
 returns : tie.Need-returns Inv-loop μ-loop
-returns c = c .before .before .before .before .before .before .loop .inv .none
+returns c =
+    let loop = c .before .before .before .before .before .before .loop in
+    loop .inv .none
 
 add-j : tie.Need-add-j Inv-loop μ-loop
-add-j c = omega (arith, c .before .before .before .before .before .before .before .before .before .before .pre .1 .0, c .before .before .before .before .before .before .before .before .before .before .good, c .before .before .before .before .before .loop-test .taken)
+add-j c =
+    let good = c .before .before .before .before .before .before .before .before .before .before .good in
+    let pre = c .before .before .before .before .before .before .before .before .before .before .pre in
+    let loop-test = c .before .before .before .before .before .loop-test in
+    omega (arith, pre .1 .0, good, loop-test .taken)
 
 loop-less : tie.Need-loop-less Inv-loop μ-loop
-loop-less c = omega (arith, c .before .before .before .before .before .loop-test .taken)
+loop-less c =
+    let loop-test = c .before .before .before .before .before .loop-test in
+    omega (arith, loop-test .taken)
 
 loop-again : tie.Need-loop-again Inv-loop μ-loop
-loop-again c = going-more (c .before .before .before .before .before .before .loop .inv) (c .before .before .before .before .before .loop-test .taken) (c .before .before .before .enter .kept .1 .1 .1 .1 .1 .0) (c .before .before .before .enter .ensures) (c .if1 .left)
+loop-again c =
+    let loop = c .before .before .before .before .before .before .loop in
+    let loop-test = c .before .before .before .before .before .loop-test in
+    going-more (loop .inv) (loop-test .taken) (c .before .before .before .enter .kept .1 .1 .1 .1 .1 .0) (c .before .before .before .enter .ensures) (c .if1 .left)
 
 same-length-2 : tie.Need-same-length-2 Inv-loop μ-loop
 same-length-2 c = c .before .loop .inv .kept

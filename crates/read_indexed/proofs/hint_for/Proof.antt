@@ -16,7 +16,9 @@ key-at-requires : tie.Need-key-at-requires
 key-at-requires c κs = search needs
 
 slice-aggregate-place-in : tie.Need-slice-aggregate-place-in
-slice-aggregate-place-in c = sym (length-take-le (c .before .before .before .before .before .before .args .k) (c .before .before .before .before .before .before .args .own .now) (c .before .before .before .before .before .before .pre .1 .1 .0))
+slice-aggregate-place-in c =
+    let start = c .before .before .before .before .before .before in
+    sym (length-take-le (start .args .k) (start .args .own .now) (start .pre .1 .1 .0))
 
 mul-place-in : tie.Need-mul-place-in
 mul-place-in c = search needs
@@ -31,10 +33,17 @@ part-place-in-end : tie.Need-part-place-in-end
 part-place-in-end c = search needs
 
 place-in-requires : tie.Need-place-in-requires
-place-in-requires c κs = (c .before .before .before .before .before .before .before .pre .1 .0, subst (λ (l : List ℕ). Chained (stands (take (c .before .before .before .before .before .before .before .args .k) (c .before .before .before .before .before .before .before .args .own .now)) (c .before .before .before .before .before .before .before .args .text .now) (c .before .before .before .before .before .before .before .args .m)) (c .before .before .before .before .before .before .before .args .extras) (c .before .before .before .before .before .before .before .args .m) l) (sym (rest-part (c .before .before .before .before .before .before .before .args .own .now) (c .before .before .before .before .before .before .before .args .k))) (c .before .before .before .before .before .before .before .pre .1 .1 .1))
+place-in-requires c κs =
+    let start = c .before .before .before .before .before .before .before in (
+      start .pre .1 .0,
+      subst (λ (l : List ℕ). Chained (stands (take (start .args .k) (start .args .own .now)) (start .args .text .now) (start .args .m)) (start .args .extras) (start .args .m) l)
+          (sym (rest-part (start .args .own .now) (start .args .k))) (start .pre .1 .1 .1),
+    )
 
 returns : tie.Need-returns
-returns c = c .place-in .ensures ∙ ap (λ (l : List ℕ). placeAt (take (c .before .before .before .before .before .before .before .before .args .k) (c .before .before .before .before .before .before .before .before .args .own .now)) (c .before .before .before .before .before .before .before .before .args .text .now) (valueText l) (c .before .before .before .before .before .before .before .before .args .extras) 0) (c .before .before .before .key-at .ensures)
+returns c =
+    let args = c .before .before .before .before .before .before .before .before .args in
+    c .place-in .ensures ∙ ap (λ (l : List ℕ). placeAt (take (args .k) (args .own .now)) (args .text .now) (valueText l) (args .extras) 0) (c .before .before .before .key-at .ensures)
 
 pub hint-for-spec : {M : Type 1} → statement M
 hint-for-spec =

@@ -39,7 +39,10 @@ loop-less : tie.Need-loop-less Inv-loop μ-loop
 loop-less c = search needs
 
 loop-again : tie.Need-loop-again Inv-loop μ-loop
-loop-again c = killing-more (c .before .before .before .before .before .loop .inv) (omega arith) (c .before .before .before .before .before .before .before .pre .1) (c .before .before .kill-record .ensures)
+loop-again c =
+    let pre = c .before .before .before .before .before .before .before .pre in
+    let loop = c .before .before .before .before .before .loop in
+    killing-more (loop .inv) (omega arith) (pre .1) (c .before .before .kill-record .ensures)
 
 same-length : tie.Need-same-length Inv-loop μ-loop
 same-length c = search needs

@@ -17,13 +17,18 @@ same-length : tie.Need-same-length
 same-length c = search needs
 
 returns : tie.Need-returns
-returns c = kill-put (c .before .before .before .before .before .before .before .before .args .words .now) (c .before .before .before .before .before .field .ensures) (omega arith) (c .before .before .put-field .ensures)
+returns c =
+    let args = c .before .before .before .before .before .before .before .before .args in
+    let field = c .before .before .before .before .before .field in
+    kill-put (args .words .now) (field .ensures) (omega arith) (c .before .before .put-field .ensures)
 
 same-length-2 : tie.Need-same-length-2
 same-length-2 c = search needs
 
 returns-2 : tie.Need-returns-2
-returns-2 c = kill-not (c .before .before .before .before .args .words .now) (c .before .field .ensures) (omega arith)
+returns-2 c =
+    let args = c .before .before .before .before .args in
+    kill-not (args .words .now) (c .before .field .ensures) (omega arith)
 
 pub kill-record-spec : {M : Type 1} → statement M
 kill-record-spec =

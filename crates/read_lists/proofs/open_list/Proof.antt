@@ -8,10 +8,14 @@ list-of-requires : tie.Need-list-of-requires
 list-of-requires c κs = search needs
 
 add-kill : tie.Need-add-kill
-add-kill c = let h = old-end (c .before .before .list-of .ensures) (c .before .before .before .before .pre) in omega arith
+add-kill c =
+    let pre = c .before .before .before .before .pre in
+    let h = old-end (c .before .before .list-of .ensures) pre in omega arith
 
 kill-requires : tie.Need-kill-requires
-kill-requires c κs = (omega arith, old-end (c .before .before .list-of .ensures) (c .before .before .before .before .pre))
+kill-requires c κs =
+    let pre = c .before .before .before .before .pre in
+    (omega arith, old-end (c .before .before .list-of .ensures) pre)
 
 with-list-requires : tie.Need-with-list-requires
 with-list-requires c κs = search needs
@@ -20,7 +24,10 @@ same-length : tie.Need-same-length
 same-length c = search needs
 
 returns : tie.Need-returns
-returns c = (c .with-list .ensures, old-kill (c .before .before .before .before .before .before .list-of .ensures) (c .before .before .before .before .before .before .before .before .args .records .now) (c .before .before .before .kill .ensures))
+returns c =
+    let args = c .before .before .before .before .before .before .before .before .args in
+    let list-of = c .before .before .before .before .before .before .list-of in
+    (c .with-list .ensures, old-kill (list-of .ensures) (args .records .now) (c .before .before .before .kill .ensures))
 
 pub open-list-spec : {M : Type 1} → statement M
 open-list-spec =

@@ -8,7 +8,30 @@ use Rattle.read_opening.proofs.open_case.Statement.{statement}
 use Rattle.read_opening.proofs.open_case.Tie as tie
 
 add-element-requires : tie.Need-add-element-requires
-add-element-requires c κs = (lit≤ tt, (lit≤ tt, (c .before .before .before .before .before .before .pre .0, (c .before .before .before .before .before .before .pre .1 .0, (c .before .before .before .before .before .before .pre .1 .1 .0, (c .before .before .before .before .before .before .pre .1 .1 .1 .0, record { scratch = c .before .before .before .before .before .before .pre .1 .1 .1 .1 .scratch; said = c .before .before .before .before .before .before .pre .1 .1 .1 .1 .said; holds = holds-lists (withList case (c .before .before .before .before .before .before .args .content) noList) refl (c .before .before .before .before .before .before .pre .1 .1 .1 .1 .holds) }))))))
+add-element-requires c κs =
+    let start = c .before .before .before .before .before .before in (
+      lit≤ tt,
+      (
+        lit≤ tt,
+        (
+          start .pre .0,
+          (
+            start .pre .1 .0,
+            (
+              start .pre .1 .1 .0,
+              (
+                start .pre .1 .1 .1 .0,
+                record {
+                  scratch = start .pre .1 .1 .1 .1 .scratch;
+                  said = start .pre .1 .1 .1 .1 .said;
+                  holds = holds-lists (withList case (start .args .content) noList) refl (start .pre .1 .1 .1 .1 .holds);
+                },
+              ),
+            ),
+          ),
+        ),
+      ),
+    )
 
 same-length : tie.Need-same-length
 same-length c = search needs
@@ -17,7 +40,10 @@ same-length-2 : tie.Need-same-length-2
 same-length-2 c = search needs
 
 returns : tie.Need-returns
-returns c = λ rooms p s scratch m pa hd sz li e. comes-on (c .before .before .before .before .add-element .ensures rooms p s scratch pa (holds-lists (withList case (c .before .before .before .before .before .before .before .before .before .before .before .args .content) noList) refl hd) sz) (case-lists m (c .before .before .before .before .before .before .before .before .before .before .before .args .content) s li e)
+returns c =
+    let args = c .before .before .before .before .before .before .before .before .before .before .before .args in
+    let add-element = c .before .before .before .before .add-element in
+    λ rooms p s scratch m pa hd sz li e. comes-on (add-element .ensures rooms p s scratch pa (holds-lists (withList case (args .content) noList) refl hd) sz) (case-lists m (args .content) s li e)
 
 pub open-case-spec : {M : Type 1} → statement M
 open-case-spec = tie.close (tie.spec add-element-requires same-length same-length-2 returns)

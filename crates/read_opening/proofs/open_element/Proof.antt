@@ -24,7 +24,12 @@ same-length-2 : tie.Need-same-length-2
 same-length-2 c = search needs
 
 returns : tie.Need-returns
-returns c = λ rooms p s scratch k m e pa op hd li sz. opened-report p (c .before .before .before .before .before .before .before .before .before .before .before .before .args .content) s k m e rooms (c .before .before .before .before .before .before .before .before .before .before .before .before .args .range .first) (attributesFrom (c .before .before .before .before .before .before .before .before .before .before .before .before .args .attributes .now) (c .before .before .before .before .before .before .before .before .before .before .before .before .args .source .now) (c .before .before .before .before .before .before .before .before .before .before .before .before .args .range .end - c .before .before .before .before .before .before .before .before .before .before .before .before .args .range .first) (c .before .before .before .before .before .before .before .before .before .before .before .before .args .range .first)) (c .before .before .before .before .before .before .before .match .keys1) op li (λ n g. c .before .before .before .before .open-report .ensures rooms p s scratch n pa hd sz g)
+returns c =
+    let args = c .before .before .before .before .before .before .before .before .before .before .before .before .args in
+    let match = c .before .before .before .before .before .before .before .match in
+    let open-report = c .before .before .before .before .open-report in
+    λ rooms p s scratch k m e pa op hd li sz. opened-report p (args .content) s k m e rooms (args .range .first) (attributesFrom (args .attributes .now)
+    (args .source .now) (args .range .end - args .range .first) (args .range .first)) (match .keys1) op li (λ n g. open-report .ensures rooms p s scratch n pa hd sz g)
 
 same-length-3 : tie.Need-same-length-3
 same-length-3 c = search needs
@@ -33,7 +38,12 @@ same-length-4 : tie.Need-same-length-4
 same-length-4 c = search needs
 
 returns-2 : tie.Need-returns-2
-returns-2 c = λ rooms p s scratch k m e pa op hd li sz. opened-suite p (c .before .before .before .before .before .before .before .before .before .before .before .before .args .content) s k m e rooms (c .before .before .before .before .before .before .before .before .before .before .before .before .args .range .first) (attributesFrom (c .before .before .before .before .before .before .before .before .before .before .before .before .args .attributes .now) (c .before .before .before .before .before .before .before .before .before .before .before .before .args .source .now) (c .before .before .before .before .before .before .before .before .before .before .before .before .args .range .end - c .before .before .before .before .before .before .before .before .before .before .before .before .args .range .first) (c .before .before .before .before .before .before .before .before .before .before .before .before .args .range .first)) (c .before .before .before .before .before .before .before .match .keys2) op li (λ n g q. c .before .before .before .before .open-suite .ensures rooms p s scratch n pa hd sz g q)
+returns-2 c =
+    let args = c .before .before .before .before .before .before .before .before .before .before .before .before .args in
+    let match = c .before .before .before .before .before .before .before .match in
+    let open-suite = c .before .before .before .before .open-suite in
+    λ rooms p s scratch k m e pa op hd li sz. opened-suite p (args .content) s k m e rooms (args .range .first) (attributesFrom (args .attributes .now) (args .source .now)
+    (args .range .end - args .range .first) (args .range .first)) (match .keys2) op li (λ n g q. open-suite .ensures rooms p s scratch n pa hd sz g q)
 
 same-length-5 : tie.Need-same-length-5
 same-length-5 c = search needs
@@ -42,7 +52,12 @@ same-length-6 : tie.Need-same-length-6
 same-length-6 c = search needs
 
 returns-3 : tie.Need-returns-3
-returns-3 c = λ rooms p s scratch k m e pa op hd li sz. opened-case p (c .before .before .before .before .before .before .before .before .before .before .before .before .args .content) s k m e rooms (c .before .before .before .before .before .before .before .before .before .before .before .before .args .range .first) (attributesFrom (c .before .before .before .before .before .before .before .before .before .before .before .before .args .attributes .now) (c .before .before .before .before .before .before .before .before .before .before .before .before .args .source .now) (c .before .before .before .before .before .before .before .before .before .before .before .before .args .range .end - c .before .before .before .before .before .before .before .before .before .before .before .before .args .range .first) (c .before .before .before .before .before .before .before .before .before .before .before .before .args .range .first)) (c .before .before .before .before .before .before .before .match .keys3) op li (λ n x q. c .before .before .before .before .open-case .ensures rooms p s scratch n pa hd sz x q)
+returns-3 c =
+    let args = c .before .before .before .before .before .before .before .before .before .before .before .before .args in
+    let match = c .before .before .before .before .before .before .before .match in
+    let open-case = c .before .before .before .before .open-case in
+    λ rooms p s scratch k m e pa op hd li sz. opened-case p (args .content) s k m e rooms (args .range .first) (attributesFrom (args .attributes .now) (args .source .now)
+    (args .range .end - args .range .first) (args .range .first)) (match .keys3) op li (λ n x q. open-case .ensures rooms p s scratch n pa hd sz x q)
 
 same-length-7 : tie.Need-same-length-7
 same-length-7 c = search needs
@@ -51,7 +66,12 @@ same-length-8 : tie.Need-same-length-8
 same-length-8 c = search needs
 
 returns-4 : tie.Need-returns-4
-returns-4 c = λ rooms p s scratch k m e pa op hd li sz. opened-status p (c .before .before .before .before .before .before .before .before .before .before .before .before .args .content) s k m e rooms (c .before .before .before .before .before .before .before .before .before .before .before .before .args .range .first) (attributesFrom (c .before .before .before .before .before .before .before .before .before .before .before .before .args .attributes .now) (c .before .before .before .before .before .before .before .before .before .before .before .before .args .source .now) (c .before .before .before .before .before .before .before .before .before .before .before .before .args .range .end - c .before .before .before .before .before .before .before .before .before .before .before .before .args .range .first) (c .before .before .before .before .before .before .before .before .before .before .before .before .args .range .first)) (c .before .before .before .before .before .before .before .before .before .before .before .before .args .kind) (c .before .before .before .before .before .before .before .match .rest .0 .0 .1) (c .before .before .before .before .before .before .before .match .rest .0 .1) (c .before .before .before .before .before .before .before .match .rest .1) op li (c .before .before .before .before .add-element .ensures rooms p s scratch pa hd sz)
+returns-4 c =
+    let args = c .before .before .before .before .before .before .before .before .before .before .before .before .args in
+    let match = c .before .before .before .before .before .before .before .match in
+    let add-element = c .before .before .before .before .add-element in
+    λ rooms p s scratch k m e pa op hd li sz. opened-status p (args .content) s k m e rooms (args .range .first) (attributesFrom (args .attributes .now) (args .source .now)
+    (args .range .end - args .range .first) (args .range .first)) (args .kind) (match .rest .0 .0 .1) (match .rest .0 .1) (match .rest .1) op li (add-element .ensures rooms p s scratch pa hd sz)
 
 pub open-element-spec : {M : Type 1} → statement M
 open-element-spec =

@@ -7,10 +7,36 @@ use Rattle.read_opening.proofs.open_report.Statement.{statement}
 use Rattle.read_opening.proofs.open_report.Tie as tie
 
 kill-requires : tie.Need-kill-requires
-kill-requires c κs = (c .before .before .before .before .before .pre .1 .1 .1 .1 .holds .report, fits-words (c .before .before .before .before .before .pre .1 .1 .1 .1 .holds))
+kill-requires c κs =
+    let pre = c .before .before .before .before .before .pre in
+    (pre .1 .1 .1 .1 .holds .report, fits-words (pre .1 .1 .1 .1 .holds))
 
 add-element-requires : tie.Need-add-element-requires
-add-element-requires c κs = (lit≤ tt, (lit≤ tt, (c .before .before .before .before .before .before .before .before .before .before .pre .0, (c .before .before .before .before .before .before .before .before .before .before .pre .1 .0, (c .before .before .before .before .before .before .before .before .before .before .pre .1 .1 .0, (c .before .before .before .before .before .before .before .before .before .before .pre .1 .1 .1 .0, record { scratch = c .before .before .before .before .before .before .before .before .before .before .pre .1 .1 .1 .1 .scratch; said = withRecords (c .before .before .before .before .before .before .before .before .before .before .pre .1 .1 .1 .1 .said) (killAll (c .before .before .before .before .before .before .before .before .before .before .pre .1 .1 .1 .1 .said .records)); holds = all-killed (c .before .before .before .before .before .before .before .before .before .before .pre .1 .1 .1 .1 .holds) (c .before .before .before .before .kill .ensures) }))))))
+add-element-requires c κs =
+    let pre = c .before .before .before .before .before .before .before .before .before .before .pre in
+    let kill = c .before .before .before .before .kill in (
+      lit≤ tt,
+      (
+        lit≤ tt,
+        (
+          pre .0,
+          (
+            pre .1 .0,
+            (
+              pre .1 .1 .0,
+              (
+                pre .1 .1 .1 .0,
+                record {
+                  scratch = pre .1 .1 .1 .1 .scratch;
+                  said = withRecords (pre .1 .1 .1 .1 .said) (killAll (pre .1 .1 .1 .1 .said .records));
+                  holds = all-killed (pre .1 .1 .1 .1 .holds) (kill .ensures);
+                },
+              ),
+            ),
+          ),
+        ),
+      ),
+    )
 
 same-length : tie.Need-same-length
 same-length c = search needs
@@ -19,7 +45,12 @@ same-length-2 : tie.Need-same-length-2
 same-length-2 c = search needs
 
 returns : tie.Need-returns
-returns c = λ rooms p s scratch m pa hd sz g. comes-on (c .before .before .before .before .add-element .ensures rooms p (withRecords s (killAll (s .records))) scratch pa (all-killed hd (c .before .before .before .before .before .before .before .before .before .kill .ensures)) (rw (killed-same hd (c .before .before .before .before .before .before .before .before .before .kill .ensures)) sz)) (report-lists m (c .before .before .before .before .before .before .before .before .before .before .before .before .before .before .before .args .content) s g)
+returns c =
+    let args = c .before .before .before .before .before .before .before .before .before .before .before .before .before .before .before .args in
+    let kill = c .before .before .before .before .before .before .before .before .before .kill in
+    let add-element = c .before .before .before .before .add-element in
+    λ rooms p s scratch m pa hd sz g. comes-on (add-element .ensures rooms p (withRecords s (killAll (s .records))) scratch
+    pa (all-killed hd (kill .ensures)) (rw (killed-same hd (kill .ensures)) sz)) (report-lists m (args .content) s g)
 
 pub open-report-spec : {M : Type 1} → statement M
 open-report-spec =

@@ -20,7 +20,12 @@ property-kind-requires : tie.Need-property-kind-requires
 property-kind-requires c κs = search needs
 
 add-element-requires : tie.Need-add-element-requires
-add-element-requires c κs = ((let b = kind-bounds (levelOf (c .before .before .before .before .before .before .before .before .before .args .level)) in let e = c .before .before .property-kind .ensures in omega arith), ((let b = kind-bounds (levelOf (c .before .before .before .before .before .before .before .before .before .args .level)) in let e = c .before .before .property-kind .ensures in omega arith), c .before .before .before .before .before .before .before .before .before .pre .1))
+add-element-requires c κs =
+    let args = c .before .before .before .before .before .before .before .before .before .args in
+    let pre = c .before .before .before .before .before .before .before .before .before .pre in (
+      (let b = kind-bounds (levelOf (args .level)) in let e = c .before .before .property-kind .ensures in omega arith),
+      ((let b = kind-bounds (levelOf (args .level)) in let e = c .before .before .property-kind .ensures in omega arith), pre .1),
+    )
 
 enum-known-added : tie.Need-enum-known-added
 enum-known-added c = search needs
@@ -38,7 +43,14 @@ same-length-2 : tie.Need-same-length-2
 same-length-2 c = search needs
 
 returns : tie.Need-returns
-returns c = λ rooms p s scratch m pa hd li sz. property-comes hd m p (levelOf (c .before .before .before .before .before .before .before .before .before .before .before .before .before .before .before .before .before .before .args .level)) rooms (c .before .before .before .before .before .before .before .before .before .before .before .before .before .before .before .before .before .before .args .range .first) (attributesFrom (c .before .before .before .before .before .before .before .before .before .before .before .before .before .before .before .before .before .before .args .attributes .now) (c .before .before .before .before .before .before .before .before .before .before .before .before .before .before .before .before .before .before .args .source .now) (c .before .before .before .before .before .before .before .before .before .before .before .before .before .before .before .before .before .before .args .range .end - c .before .before .before .before .before .before .before .before .before .before .before .before .before .before .before .before .before .before .args .range .first) (c .before .before .before .before .before .before .before .before .before .before .before .before .before .before .before .before .before .before .args .range .first)) (c .before .before .before .before .before .before .before .before .before .before .before .property-kind .ensures) li (c .before .before .before .before .before .before .before .before .before .before .before .before .before .list-of .ensures) (c .before .before .before .before .before .before .before .before .add-element .ensures rooms p s scratch pa hd sz) (rw (c .before .before .added .given .1) (ap To (c .with-list .ensures)))
+returns c =
+    let args = c .before .before .before .before .before .before .before .before .before .before .before .before .before .before .before .before .before .before .args in
+    let list-of = c .before .before .before .before .before .before .before .before .before .before .before .before .before .list-of in
+    let property-kind = c .before .before .before .before .before .before .before .before .before .before .before .property-kind in
+    let add-element = c .before .before .before .before .before .before .before .before .add-element in
+    λ rooms p s scratch m pa hd li sz. property-comes hd m p (levelOf (args .level)) rooms (args .range .first)
+    (attributesFrom (args .attributes .now) (args .source .now) (args .range .end - args .range .first) (args .range .first)) (property-kind .ensures)
+    li (list-of .ensures) (add-element .ensures rooms p s scratch pa hd sz) (rw (c .before .before .added .given .1) (ap To (c .with-list .ensures)))
 
 same-length-3 : tie.Need-same-length-3
 same-length-3 c = search needs
@@ -47,7 +59,13 @@ same-length-4 : tie.Need-same-length-4
 same-length-4 c = search needs
 
 returns-2 : tie.Need-returns-2
-returns-2 c = λ rooms p s scratch m pa hd li sz. property-comes hd m p (levelOf (c .before .before .before .before .before .before .before .before .before .before .before .before .before .before .before .before .before .args .level)) rooms (c .before .before .before .before .before .before .before .before .before .before .before .before .before .before .before .before .before .args .range .first) (attributesFrom (c .before .before .before .before .before .before .before .before .before .before .before .before .before .before .before .before .before .args .attributes .now) (c .before .before .before .before .before .before .before .before .before .before .before .before .before .before .before .before .before .args .source .now) (c .before .before .before .before .before .before .before .before .before .before .before .before .before .before .before .before .before .args .range .end - c .before .before .before .before .before .before .before .before .before .before .before .before .before .before .before .before .before .args .range .first) (c .before .before .before .before .before .before .before .before .before .before .before .before .before .before .before .before .before .args .range .first)) (c .before .before .before .before .before .before .before .before .before .before .property-kind .ensures) li (c .before .before .before .before .before .before .before .before .before .before .before .before .list-of .ensures) (c .before .before .before .before .before .before .before .add-element .ensures rooms p s scratch pa hd sz) (rw (c .before .added2 .given .1) refl)
+returns-2 c =
+    let args = c .before .before .before .before .before .before .before .before .before .before .before .before .before .before .before .before .before .args in
+    let list-of = c .before .before .before .before .before .before .before .before .before .before .before .before .list-of in
+    let property-kind = c .before .before .before .before .before .before .before .before .before .before .property-kind in
+    let add-element = c .before .before .before .before .before .before .before .add-element in
+    λ rooms p s scratch m pa hd li sz. property-comes hd m p (levelOf (args .level)) rooms (args .range .first) (attributesFrom (args .attributes .now) (args .source .now) (args .range .end
+    - args .range .first) (args .range .first)) (property-kind .ensures) li (list-of .ensures) (add-element .ensures rooms p s scratch pa hd sz) (rw (c .before .added2 .given .1) refl)
 
 pub read-property-spec : {M : Type 1} → statement M
 read-property-spec =

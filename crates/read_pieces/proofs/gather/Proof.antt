@@ -30,7 +30,12 @@ enum-known-piece : tie.Need-enum-known-piece
 enum-known-piece c = search needs
 
 joined-requires : tie.Need-joined-requires
-joined-requires c κs = let h = piece-fits (c .before .before .before .before .before .before .before .before .before .before .args .scratch .now) (c .before .before .before .before .before .before .before .before .before .before .args .content .description + c .before .before .before .before .before .before .before .before .before .before .args .content .gathered) (c .before .piece .given .0 .0) (pieceKind (c .before .before .before .before .before .before .before .before .before .before .args .kind)) (pieceBytes (c .before .before .before .before .before .before .before .before .before .before .args .kind) (c .before .before .before .before .before .before .before .before .before .before .args .bytes .now)) (c .before .before .before .before .before .before .before .before .before .before .pre) (sym (ap (keptAnswer cause.ScratchFull) (c .before .piece .given .1)) ∙ c .before .before .before .before .before .gather-piece .ensures .0) in omega arith
+joined-requires c κs =
+    let args = c .before .before .before .before .before .before .before .before .before .before .args in
+    let pre = c .before .before .before .before .before .before .before .before .before .before .pre in
+    let gather-piece = c .before .before .before .before .before .gather-piece in
+    let h = piece-fits (args .scratch .now) (args .content .description + args .content .gathered) (c .before .piece .given .0 .0) (pieceKind (args .kind))
+    (pieceBytes (args .kind) (args .bytes .now)) pre (sym (ap (keptAnswer cause.ScratchFull) (c .before .piece .given .1)) ∙ gather-piece .ensures .0) in omega arith
 
 enum-told : tie.Need-enum-told
 enum-told c = search needs
@@ -60,31 +65,51 @@ same-length : tie.Need-same-length
 same-length c = search needs
 
 returns : tie.Need-returns
-returns c = λ rooms p s l o m words text attributes source pa hd li sz. piece-put hd sz p pa (c .before .before .before .before .before .before .before .before .before .before .before .args .mode) l o m li (pieceKind (c .before .before .before .before .before .before .before .before .before .before .before .args .kind)) (pieceBytes (c .before .before .before .before .before .before .before .before .before .before .before .args .kind) (c .before .before .before .before .before .before .before .before .before .before .before .args .bytes .now)) (sym (ap (keptAnswer cause.ScratchFull) (c .before .before .piece .given .1)) ∙ c .before .before .before .before .before .before .gather-piece .ensures .0) (c .before .before .before .before .before .before .gather-piece .ensures .1) (ap To (c .joined .ensures))
+returns c =
+    let args = c .before .before .before .before .before .before .before .before .before .before .before .args in
+    let gather-piece = c .before .before .before .before .before .before .gather-piece in
+    λ rooms p s l o m words text attributes source pa hd li sz. piece-put hd sz p pa (args .mode) l o m li (pieceKind (args .kind)) (pieceBytes (args .kind) (args .bytes .now))
+    (sym (ap (keptAnswer cause.ScratchFull) (c .before .before .piece .given .1)) ∙ gather-piece .ensures .0) (gather-piece .ensures .1) (ap To (c .joined .ensures))
 
 same-length-2 : tie.Need-same-length-2
 same-length-2 c = search needs
 
 returns-2 : tie.Need-returns-2
-returns-2 c = λ rooms p s l o m words text attributes source pa hd li sz. piece-not hd sz p pa (c .before .before .before .before .before .before .before .before .before .before .args .mode) l o m li (pieceKind (c .before .before .before .before .before .before .before .before .before .before .args .kind)) (pieceBytes (c .before .before .before .before .before .before .before .before .before .before .args .kind) (c .before .before .before .before .before .before .before .before .before .before .args .bytes .now)) ScratchFull (sym (ap (keptAnswer cause.ScratchFull) (c .before .enum-told .given .1)) ∙ c .before .before .before .before .before .gather-piece .ensures .0) (c .refused .ensures)
+returns-2 c =
+    let args = c .before .before .before .before .before .before .before .before .before .before .args in
+    let gather-piece = c .before .before .before .before .before .gather-piece in
+    λ rooms p s l o m words text attributes source pa hd li sz. piece-not hd sz p pa (args .mode) l o m li (pieceKind (args .kind)) (pieceBytes (args .kind) (args .bytes .now))
+    ScratchFull (sym (ap (keptAnswer cause.ScratchFull) (c .before .enum-told .given .1)) ∙ gather-piece .ensures .0) (c .refused .ensures)
 
 same-length-3 : tie.Need-same-length-3
 same-length-3 c = search needs
 
 returns-3 : tie.Need-returns-3
-returns-3 c = λ rooms p s l o m words text attributes source pa hd li sz. piece-not hd sz p pa (c .before .before .before .before .before .before .before .before .before .before .args .mode) l o m li (pieceKind (c .before .before .before .before .before .before .before .before .before .before .args .kind)) (pieceBytes (c .before .before .before .before .before .before .before .before .before .before .args .kind) (c .before .before .before .before .before .before .before .before .before .before .args .bytes .now)) NotUtf8 (sym (ap (keptAnswer cause.ScratchFull) (c .before .enum-told2 .given .1)) ∙ c .before .before .before .before .before .gather-piece .ensures .0) (c .refused2 .ensures)
+returns-3 c =
+    let args = c .before .before .before .before .before .before .before .before .before .before .args in
+    let gather-piece = c .before .before .before .before .before .gather-piece in
+    λ rooms p s l o m words text attributes source pa hd li sz. piece-not hd sz p pa (args .mode) l o m li (pieceKind (args .kind)) (pieceBytes (args .kind) (args .bytes .now))
+    NotUtf8 (sym (ap (keptAnswer cause.ScratchFull) (c .before .enum-told2 .given .1)) ∙ gather-piece .ensures .0) (c .refused2 .ensures)
 
 same-length-4 : tie.Need-same-length-4
 same-length-4 c = search needs
 
 returns-4 : tie.Need-returns-4
-returns-4 c = λ rooms p s l o m words text attributes source pa hd li sz. piece-not hd sz p pa (c .before .before .before .before .before .before .before .before .before .before .args .mode) l o m li (pieceKind (c .before .before .before .before .before .before .before .before .before .before .args .kind)) (pieceBytes (c .before .before .before .before .before .before .before .before .before .before .args .kind) (c .before .before .before .before .before .before .before .before .before .before .args .bytes .now)) BadReference (sym (ap (keptAnswer cause.ScratchFull) (c .before .enum-told3 .given .1)) ∙ c .before .before .before .before .before .gather-piece .ensures .0) (c .refused3 .ensures)
+returns-4 c =
+    let args = c .before .before .before .before .before .before .before .before .before .before .args in
+    let gather-piece = c .before .before .before .before .before .gather-piece in
+    λ rooms p s l o m words text attributes source pa hd li sz. piece-not hd sz p pa (args .mode) l o m li (pieceKind (args .kind)) (pieceBytes (args .kind) (args .bytes .now))
+    BadReference (sym (ap (keptAnswer cause.ScratchFull) (c .before .enum-told3 .given .1)) ∙ gather-piece .ensures .0) (c .refused3 .ensures)
 
 same-length-5 : tie.Need-same-length-5
 same-length-5 c = search needs
 
 returns-5 : tie.Need-returns-5
-returns-5 c = λ rooms p s l o m words text attributes source pa hd li sz. piece-not hd sz p pa (c .before .before .before .before .before .before .before .before .before .before .args .mode) l o m li (pieceKind (c .before .before .before .before .before .before .before .before .before .before .args .kind)) (pieceBytes (c .before .before .before .before .before .before .before .before .before .before .args .kind) (c .before .before .before .before .before .before .before .before .before .before .args .bytes .now)) UnknownEntity (sym (ap (keptAnswer cause.ScratchFull) (c .before .enum-told4 .given .1)) ∙ c .before .before .before .before .before .gather-piece .ensures .0) (c .refused4 .ensures)
+returns-5 c =
+    let args = c .before .before .before .before .before .before .before .before .before .before .args in
+    let gather-piece = c .before .before .before .before .before .gather-piece in
+    λ rooms p s l o m words text attributes source pa hd li sz. piece-not hd sz p pa (args .mode) l o m li (pieceKind (args .kind)) (pieceBytes (args .kind) (args .bytes .now))
+    UnknownEntity (sym (ap (keptAnswer cause.ScratchFull) (c .before .enum-told4 .given .1)) ∙ gather-piece .ensures .0) (c .refused4 .ensures)
 
 pub gather-spec : {M : Type 1} → statement M
 gather-spec =

@@ -20,28 +20,41 @@ same-length : tie.Need-same-length
 same-length c = search needs
 
 returns : tie.Need-returns
-returns c = rw (c .before .before .before .before .match .keys1) (c .before .before .gather-text .ensures)
+returns c =
+    let match = c .before .before .before .before .match in
+    rw (match .keys1) (c .before .before .gather-text .ensures)
 
 same-length-2 : tie.Need-same-length-2
 same-length-2 c = search needs
 
 returns-2 : tie.Need-returns-2
-returns-2 c = rw (c .before .before .before .before .match .keys2) (c .before .before .gather-cdata .ensures)
+returns-2 c =
+    let match = c .before .before .before .before .match in
+    rw (match .keys2) (c .before .before .gather-cdata .ensures)
 
 same-length-3 : tie.Need-same-length-3
 same-length-3 c = search needs
 
 returns-3 : tie.Need-returns-3
-returns-3 c = rw (c .before .before .before .before .match .keys3) (c .before .before .gather-reference .ensures)
+returns-3 c =
+    let match = c .before .before .before .before .match in
+    rw (match .keys3) (c .before .before .gather-reference .ensures)
 
 same-length-4 : tie.Need-same-length-4
 same-length-4 c = search needs
 
 returns-4 : tie.Need-returns-4
-returns-4 c = rw (c .before .before .before .before .match .keys4) (c .before .before .gather-indent .ensures)
+returns-4 c =
+    let match = c .before .before .before .before .match in
+    rw (match .keys4) (c .before .before .gather-indent .ensures)
 
 returns-5 : tie.Need-returns-5
-returns-5 c = rw (ne-eqb (c .before .before .before .args .kind) 3 (c .match .rest .0 .0 .0 .1), ne-eqb (c .before .before .before .args .kind) 4 (c .match .rest .0 .0 .1), ne-eqb (c .before .before .before .args .kind) 5 (c .match .rest .0 .1), ne-eqb (c .before .before .before .args .kind) 9 (c .match .rest .1)) (refl, refl)
+returns-5 c = rw (
+  ne-eqb (c .before .before .before .args .kind) 3 (c .match .rest .0 .0 .0 .1),
+  ne-eqb (c .before .before .before .args .kind) 4 (c .match .rest .0 .0 .1),
+  ne-eqb (c .before .before .before .args .kind) 5 (c .match .rest .0 .1),
+  ne-eqb (c .before .before .before .args .kind) 9 (c .match .rest .1),
+) (refl, refl)
 
 pub gather-piece-spec : {M : Type 1} → statement M
 gather-piece-spec =

@@ -11,7 +11,9 @@ bucket-requires : tie.Need-bucket-requires
 bucket-requires c κs = search needs
 
 returns : tie.Need-returns
-returns c = c .bucket .ensures ∙ ap (bucketOf (c .before .before .before .before .args .m)) (c .before .stored-key .ensures)
+returns c =
+    let args = c .before .before .before .before .args in
+    c .bucket .ensures ∙ ap (bucketOf (args .m)) (c .before .stored-key .ensures)
 
 pub extra-bucket-spec : {M : Type 1} → statement M
 extra-bucket-spec = tie.close (tie.spec stored-key-requires bucket-requires returns)

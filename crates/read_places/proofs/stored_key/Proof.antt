@@ -31,7 +31,11 @@ bytes-of-requires : tie.Need-bytes-of-requires
 bytes-of-requires c κs = search needs
 
 returns : tie.Need-returns
-returns c = key-words (c .before .before .before .before .before .before .before .args .own .now) (c .before .before .before .before .before .before .before .args .text .now) (c .before .before .before .before .before .before .before .args .i) (c .bytes-of .ensures) (c .before .before .before .wide .ensures) (c .before .before .before .before .word-of .ensures) (c .before .wide2 .ensures) (c .before .before .word-of2 .ensures)
+returns c =
+    let args = c .before .before .before .before .before .before .before .args in
+    let word-of = c .before .before .before .before .word-of in
+    key-words (args .own .now) (args .text .now) (args .i) (c .bytes-of .ensures) (c .before .before .before .wide .ensures)
+    (word-of .ensures) (c .before .wide2 .ensures) (c .before .before .word-of2 .ensures)
 
 pub stored-key-spec : {M : Type 1} → statement M
 stored-key-spec =

@@ -27,9 +27,13 @@ same-requires : tie.Need-same-requires
 same-requires c κs = search needs
 
 returns : tie.Need-returns
-returns c = let s = c .before .before .before .before .before .before .before .before .before .args .source .now in
-    let k = c .before .before .before .before .before .before .before .before .before .args .key .now in
-    c .same .ensures ∙ ap (λ (l : List ℕ). sameBytes l k) (c .before .bytes-of .ensures ∙ ap (λ (n : ℕ). part s n (c .before .before .wide2 .result)) (c .before .before .before .before .wide .ensures) ∙ ap (part s (getD (c .before .before .before .before .before .before .before .before .before .args .words .now) 1 0)) (c .before .before .wide2 .ensures))
+returns c =
+    let args = c .before .before .before .before .before .before .before .before .before .args in
+    let wide = c .before .before .before .before .wide in
+    let s = args .source .now in
+    let k = args .key .now in
+    c .same .ensures ∙ ap (λ (l : List ℕ). sameBytes l k)
+    (c .before .bytes-of .ensures ∙ ap (λ (n : ℕ). part s n (c .before .before .wide2 .result)) (wide .ensures) ∙ ap (part s (getD (args .words .now) 1 0)) (c .before .before .wide2 .ensures))
 
 pub has-key-spec : {M : Type 1} → statement M
 has-key-spec =

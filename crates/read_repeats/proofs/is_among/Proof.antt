@@ -30,10 +30,15 @@ part-has-key-end : tie.Need-part-has-key-end Inv-loop μ-loop
 part-has-key-end c = search needs
 
 has-key-requires : tie.Need-has-key-requires Inv-loop μ-loop
-has-key-requires c κs = lent-size (c .before .before .before .before .before .before .args .attributes .now) (c .before .before .loop .i) (c .before .before .before .before .before .before .args .j) (omega arith) (c .before .before .before .before .before .before .pre)
+has-key-requires c κs =
+    let args = c .before .before .before .before .before .before .args in
+    let pre = c .before .before .before .before .before .before .pre in
+    lent-size (args .attributes .now) (c .before .before .loop .i) (args .j) (omega arith) pre
 
 returns : tie.Need-returns Inv-loop μ-loop
-returns c = seeking-hit (c .before .before .before .before .loop .inv) (c .before .has-key .ensures) (omega arith) (c .if1 .taken)
+returns c =
+    let loop = c .before .before .before .before .loop in
+    seeking-hit (loop .inv) (c .before .has-key .ensures) (omega arith) (c .if1 .taken)
 
 add-i : tie.Need-add-i Inv-loop μ-loop
 add-i c = omega arith
@@ -42,7 +47,9 @@ loop-less : tie.Need-loop-less Inv-loop μ-loop
 loop-less c = omega arith
 
 loop-again : tie.Need-loop-again Inv-loop μ-loop
-loop-again c = seeking-more (c .before .before .before .before .loop .inv) (c .before .has-key .ensures) (omega arith) (c .if1 .left)
+loop-again c =
+    let loop = c .before .before .before .before .loop in
+    seeking-more (loop .inv) (c .before .has-key .ensures) (omega arith) (c .if1 .left)
 
 returns-2 : tie.Need-returns-2 Inv-loop μ-loop
 returns-2 c = seeking-done (c .before .loop .inv) (omega arith)

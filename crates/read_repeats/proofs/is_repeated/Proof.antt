@@ -29,8 +29,12 @@ is-among-requires c κs = search needs
 
 returns-2 : tie.Need-returns-2
 returns-2 c =
-    let s = c .before .before .before .before .before .before .before .before .before .before .args .source .now in
-    searched (c .before .before .before .before .before .before .before .before .before .before .args .free) (keysOf (attributesFrom (c .before .before .before .before .before .before .before .before .before .before .args .attributes .now) s (c .before .before .before .before .before .before .before .before .before .before .args .j - c .before .before .before .before .before .before .before .before .before .before .args .first) (c .before .before .before .before .before .before .before .before .before .before .args .first))) (c .before .before .before .before .before .before .if1 .left) (c .is-among .ensures) (part-told s (c .before .bytes-of .ensures) (c .before .before .before .before .wide .ensures) (c .before .before .wide2 .ensures))
+    let args = c .before .before .before .before .before .before .before .before .before .before .args in
+    let if1 = c .before .before .before .before .before .before .if1 in
+    let wide = c .before .before .before .before .wide in
+    let s = args .source .now in
+    searched (args .free) (keysOf (attributesFrom (args .attributes .now) s (args .j - args .first) (args .first))) (if1 .left)
+    (c .is-among .ensures) (part-told s (c .before .bytes-of .ensures) (wide .ensures) (c .before .before .wide2 .ensures))
 
 pub is-repeated-spec : {M : Type 1} → statement M
 is-repeated-spec =

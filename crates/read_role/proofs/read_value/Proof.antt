@@ -52,37 +52,62 @@ same-length-2 : tie.Need-same-length-2
 same-length-2 c = search needs
 
 returns : tie.Need-returns
-returns c = λ x g rooms p used kind key extras ne ev hd ro. text-role hd rooms p used kind key x ev (c .before .before .before .before .before .before .before .before .before .before .before .before .before .pre .1 .1) (c .before .before .before .before .read-text .result) _ _ ro (c .before .before .before .before .before .before .before .before .role .given .1) (c .before .before .before .before .read-text .ensures .0) (c .before .before .before .before .read-text .ensures .1 .0) (c .before .before .before .before .read-text .ensures .1 .1)
+returns c =
+    let pre = c .before .before .before .before .before .before .before .before .before .before .before .before .before .pre in
+    let role = c .before .before .before .before .before .before .before .before .role in
+    let read-text = c .before .before .before .before .read-text in
+    λ x g rooms p used kind key extras ne ev hd ro.
+    text-role hd rooms p used kind key x ev (pre .1 .1) (read-text .result) _ _ ro (role .given .1) (read-text .ensures .0) (read-text .ensures .1 .0) (read-text .ensures .1 .1)
 
 same-length-3 : tie.Need-same-length-3
 same-length-3 c = search needs
 
 returns-2 : tie.Need-returns-2
-returns-2 c = λ x g rooms p used kind key extras ne ev hd ro. count-role hd rooms p used kind key x ev (c .before .before .before .before .before .before .before .before .before .before .pre .1 .1) (c .before .before .read-count .result) _ (c .before .before .before .before .before .role2 .given .1) (c .before .before .read-count .ensures .0) (c .before .before .read-count .ensures .1)
+returns-2 c =
+    let pre = c .before .before .before .before .before .before .before .before .before .before .pre in
+    let role2 = c .before .before .before .before .before .role2 in
+    λ x g rooms p used kind key extras ne ev hd ro. count-role hd rooms p used kind key x ev (pre .1 .1) (c .before .before .read-count .result)
+    _ (role2 .given .1) (c .before .before .read-count .ensures .0) (c .before .before .read-count .ensures .1)
 
 same-length-4 : tie.Need-same-length-4
 same-length-4 c = search needs
 
 returns-3 : tie.Need-returns-3
-returns-3 c = λ x g rooms p used kind key extras ne ev hd ro. number-role hd rooms p used kind key x ev (c .before .before .before .before .before .before .before .before .before .before .pre .1 .1) (c .before .before .read-number .result) _ _ (c .before .before .before .before .before .role3 .given .1) (c .before .before .read-number .ensures .0) (c .before .before .read-number .ensures .1)
+returns-3 c =
+    let pre = c .before .before .before .before .before .before .before .before .before .before .pre in
+    let role3 = c .before .before .before .before .before .role3 in
+    λ x g rooms p used kind key extras ne ev hd ro. number-role hd rooms p used kind key x ev (pre .1 .1) (c .before .before .read-number .result)
+    _ _ (role3 .given .1) (c .before .before .read-number .ensures .0) (c .before .before .read-number .ensures .1)
 
 same-length-5 : tie.Need-same-length-5
 same-length-5 c = search needs
 
 returns-4 : tie.Need-returns-4
-returns-4 c = λ x g rooms p used kind key extras ne ev hd ro. uuid-role hd rooms p used kind key x ev (c .before .before .before .before .before .before .before .before .before .pre .1 .1) (c .before .before .read-uuid .result) (c .before .before .before .before .enum-told .given .1) (c .before .before .read-uuid .ensures .0) (c .before .before .read-uuid .ensures .1)
+returns-4 c =
+    let pre = c .before .before .before .before .before .before .before .before .before .pre in
+    let enum-told-step = c .before .before .before .before .enum-told in
+    λ x g rooms p used kind key extras ne ev hd ro. uuid-role hd rooms p used kind key x ev (pre .1 .1) (c .before .before .read-uuid .result)
+    (enum-told-step .given .1) (c .before .before .read-uuid .ensures .0) (c .before .before .read-uuid .ensures .1)
 
 same-length-6 : tie.Need-same-length-6
 same-length-6 c = search needs
 
 returns-5 : tie.Need-returns-5
-returns-5 c = λ x g rooms p used kind key extras ne ev hd ro. timestamp-role hd rooms p used kind key x ev (c .before .before .before .before .before .before .before .before .before .before .pre .1 .1) (c .before .before .read-timestamp .result) _ (c .before .before .before .before .before .role4 .given .1) (c .before .before .read-timestamp .ensures .0) (c .before .before .read-timestamp .ensures .1)
+returns-5 c =
+    let pre = c .before .before .before .before .before .before .before .before .before .before .pre in
+    let role4 = c .before .before .before .before .before .role4 in
+    λ x g rooms p used kind key extras ne ev hd ro. timestamp-role hd rooms p used kind key x ev (pre .1 .1) (c .before .before .read-timestamp .result)
+    _ (role4 .given .1) (c .before .before .read-timestamp .ensures .0) (c .before .before .read-timestamp .ensures .1)
 
 same-length-7 : tie.Need-same-length-7
 same-length-7 c = search needs
 
 returns-6 : tie.Need-returns-6
-returns-6 c = λ x g rooms p used kind key extras ne ev hd ro. time-role hd rooms p used kind key x ev (c .before .before .before .before .before .before .before .before .before .before .pre .1 .1) (c .before .before .read-duration .result) _ (c .before .before .before .before .before .role5 .given .1) (c .before .before .read-duration .ensures .0) (c .before .before .read-duration .ensures .1)
+returns-6 c =
+    let pre = c .before .before .before .before .before .before .before .before .before .before .pre in
+    let role5 = c .before .before .before .before .before .role5 in
+    λ x g rooms p used kind key extras ne ev hd ro. time-role hd rooms p used kind key x ev (pre .1 .1) (c .before .before .read-duration .result)
+    _ (role5 .given .1) (c .before .before .read-duration .ensures .0) (c .before .before .read-duration .ensures .1)
 
 returns-7 : tie.Need-returns-7
 returns-7 c = λ x g rooms p used kind key extras ne ev hd ro. absurd (ne (c .enum-told2 .given .1))

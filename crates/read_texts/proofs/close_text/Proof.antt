@@ -38,7 +38,12 @@ keep-text-requires : tie.Need-keep-text-requires
 keep-text-requires c κs = search needs
 
 kept-text-requires : tie.Need-kept-text-requires
-kept-text-requires c κs = let h = end-fits (c .before .before .before .before .keep-text .result) (length (c .before .before .before .before .before .before .before .before .before .before .before .before .before .before .before .before .args .text .now)) (c .before .before .before .before .before .before .before .before .before .before .before .before .before .before .before .before .args .content .fill) (cleaned (take (c .before .before .before .before .before .before .before .before .before .before .before .before .before .before .before .before .args .content .description + c .before .before .before .before .before .before .before .before .before .before .before .before .before .before .before .before .args .content .gathered - c .before .before .before .before .before .before .before .before .before .before .before .before .before .before .before .before .args .content .description) (drop (c .before .before .before .before .before .before .before .before .before .before .before .before .before .before .before .before .args .content .description) (c .before .before .before .before .before .before .before .before .before .before .before .before .before .before .before .before .args .scratch .now)))) (c .before .before .before .before .before .before .before .before .before .before .before .before .before .before .before .before .pre .1 .0) (c .before .before .before .before .keep-text .ensures .0) in let l = c .before .before .before .before .before .before .before .before .before .before .before .before .before .before .before .before .pre .1 .1 .0 in omega arith
+kept-text-requires c κs =
+    let args = c .before .before .before .before .before .before .before .before .before .before .before .before .before .before .before .before .args in
+    let pre = c .before .before .before .before .before .before .before .before .before .before .before .before .before .before .before .before .pre in
+    let keep-text = c .before .before .before .before .keep-text in
+    let h = end-fits (keep-text .result) (length (args .text .now)) (args .content .fill) (cleaned (take (args .content .description + args .content .gathered - args .content .description)
+    (drop (args .content .description) (args .scratch .now)))) (pre .1 .0) (keep-text .ensures .0) in let l = pre .1 .1 .0 in omega arith
 
 same-length : tie.Need-same-length
 same-length c = search needs
@@ -47,7 +52,15 @@ same-length-2 : tie.Need-same-length-2
 same-length-2 c = search needs
 
 returns : tie.Need-returns
-returns c = λ rooms p s attributes source pa hd li sz. output-kept hd sz p pa (marksOf (c .before .before .before .before .before .before .before .before .before .before .before .before .before .before .before .before .before .args .marks)) (levelOf (c .before .before .before .before .before .before .before .before .before .before .before .before .before .before .before .before .before .args .level)) (outputOf (c .before .before .before .before .before .before .before .before .before .before .before .before .before .before .before .before .before .args .output)) li (c .before .before .before .before .before .before .before .before .before .before .before .before .is-taken .ensures) (c .before .before .before .before .before .before .before .before .before .before .before .record-of .ensures) (c .before .before .before .before .before .before .before .before .before .before .word-of-output .ensures) (c .before .before .before .before .before .before .before .before .before .bit-of-output .ensures) refl (c .before .before .before .before .before .keep-text .result) (c .before .before .before .before .before .keep-text .ensures .0) (c .before .before .before .before .before .keep-text .ensures .1 .1) (c .before .before .before .before .before .keep-text .ensures .1 .0) (c .kept-text .ensures)
+returns c =
+    let args = c .before .before .before .before .before .before .before .before .before .before .before .before .before .before .before .before .before .args in
+    let is-taken = c .before .before .before .before .before .before .before .before .before .before .before .before .is-taken in
+    let record-of = c .before .before .before .before .before .before .before .before .before .before .before .record-of in
+    let word-of-output = c .before .before .before .before .before .before .before .before .before .before .word-of-output in
+    let bit-of-output = c .before .before .before .before .before .before .before .before .before .bit-of-output in
+    let keep-text = c .before .before .before .before .before .keep-text in
+    λ rooms p s attributes source pa hd li sz. output-kept hd sz p pa (marksOf (args .marks)) (levelOf (args .level)) (outputOf (args .output)) li (is-taken .ensures) (record-of .ensures)
+    (word-of-output .ensures) (bit-of-output .ensures) refl (keep-text .result) (keep-text .ensures .0) (keep-text .ensures .1 .1) (keep-text .ensures .1 .0) (c .kept-text .ensures)
 
 pub close-text-spec : {M : Type 1} → statement M
 close-text-spec =

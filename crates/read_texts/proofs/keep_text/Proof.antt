@@ -44,7 +44,13 @@ cast-put-text : tie.Need-cast-put-text
 cast-put-text c = search needs
 
 cast-put-text-2 : tie.Need-cast-put-text-2
-cast-put-text-2 c = let h = kept-fits (c .before .before .before .before .before .before .before .before .before .before .before .before .before .args .text .now) (c .before .before .before .before .before .before .before .before .before .before .before .before .before .args .fill) (c .before .before .before .before .before .before .before .before .before .before .before .before .before .args .gathered .now) (c .before .before .before .before .before .before .before .before .before .trim .result .now) (c .before .before .before .before .before .before .before .before .before .trim .ensures) (c .before .before .before .before .before .before .before .before .before .before .before .before .before .pre .1 .0) (sym (ap (storedAnswer cause.TextFull) (c .before .before .before .stored .given .1)) ∙ c .before .before .before .before .before .before .before .store .ensures .0) in let l = c .before .before .before .before .before .before .before .before .before .before .before .before .before .pre .1 .1 in omega arith
+cast-put-text-2 c =
+    let args = c .before .before .before .before .before .before .before .before .before .before .before .before .before .args in
+    let pre = c .before .before .before .before .before .before .before .before .before .before .before .before .before .pre in
+    let trim = c .before .before .before .before .before .before .before .before .before .trim in
+    let store = c .before .before .before .before .before .before .before .store in
+    let h = kept-fits (args .text .now) (args .fill) (args .gathered .now) (trim .result .now) (trim .ensures) (pre .1 .0)
+    (sym (ap (storedAnswer cause.TextFull) (c .before .before .before .stored .given .1)) ∙ store .ensures .0) in let l = pre .1 .1 in omega arith
 
 put-text-requires : tie.Need-put-text-requires
 put-text-requires c κs = search needs
@@ -59,19 +65,46 @@ same-length-2 : tie.Need-same-length-2
 same-length-2 c = search needs
 
 returns : tie.Need-returns
-returns c = (kept-answer (c .before .before .before .before .before .before .before .before .before .before .before .before .before .before .before .before .args .text .now) (c .before .before .before .before .before .before .before .before .before .before .before .before .before .before .before .before .args .fill) (c .before .before .before .before .before .before .before .before .before .before .before .before .before .before .before .before .args .gathered .now) (c .before .before .before .before .before .before .before .before .before .before .before .before .trim .result .now) (c .before .before .before .before .before .before .before .before .before .before .before .before .trim .ensures) (sym (ap (storedAnswer cause.TextFull) (c .before .before .before .before .before .before .stored .given .1)) ∙ c .before .before .before .before .before .before .before .before .before .before .store .ensures .0), (kept-back (c .before .before .before .before .before .before .before .before .before .before .before .before .before .before .before .before .args .text .now) (c .before .before .before .before .before .before .before .before .before .before .before .before .before .before .before .before .args .fill) (c .before .before .before .before .before .before .before .before .before .before .before .before .before .before .before .before .args .gathered .now) (c .before .before .before .before .before .before .before .before .before .before .before .before .trim .result .now) (c .before .before .before .before .before .before .before .before .before .before .before .before .trim .ensures) (c .before .before .before .before .before .before .before .before .before .before .store .ensures .1), words-taken (c .before .before .before .before .before .before .before .before .before .before .before .before .before .before .before .before .args .i) (c .before .before .before .before .before .before .before .before .before .before .before .before .before .before .before .before .args .o) (c .before .before .before .before .before .before .before .before .before .before .before .before .before .before .before .before .args .k) (c .before .before .before .before .before .before .before .before .before .before .before .before .before .before .before .before .args .fill) (c .before .before .before .before .before .before .stored .given .0 .0) (c .before .before .before .before .before .before .before .before .before .before .before .before .before .before .before .before .args .records .now) (c .before .before .before .before .if1 .taken) (c .before .before .put-text .ensures)))
+returns c =
+    let args = c .before .before .before .before .before .before .before .before .before .before .before .before .before .before .before .before .args in
+    let trim = c .before .before .before .before .before .before .before .before .before .before .before .before .trim in
+    let store = c .before .before .before .before .before .before .before .before .before .before .store in
+    let stored = c .before .before .before .before .before .before .stored in
+    let if1 = c .before .before .before .before .if1 in (
+      kept-answer (args .text .now) (args .fill) (args .gathered .now) (trim .result .now) (trim .ensures) (sym (ap (storedAnswer cause.TextFull) (stored .given .1)) ∙ store .ensures .0),
+      (
+        kept-back (args .text .now) (args .fill) (args .gathered .now) (trim .result .now) (trim .ensures) (store .ensures .1),
+        words-taken (args .i) (args .o) (args .k) (args .fill) (stored .given .0 .0) (args .records .now) (if1 .taken) (c .before .before .put-text .ensures),
+      ),
+    )
 
 same-length-3 : tie.Need-same-length-3
 same-length-3 c = search needs
 
 returns-2 : tie.Need-returns-2
-returns-2 c = (kept-answer (c .before .before .before .before .before .before .before .before .before .before .before .before .args .text .now) (c .before .before .before .before .before .before .before .before .before .before .before .before .args .fill) (c .before .before .before .before .before .before .before .before .before .before .before .before .args .gathered .now) (c .before .before .before .before .before .before .before .before .trim .result .now) (c .before .before .before .before .before .before .before .before .trim .ensures) (sym (ap (storedAnswer cause.TextFull) (c .before .before .stored .given .1)) ∙ c .before .before .before .before .before .before .store .ensures .0), (kept-back (c .before .before .before .before .before .before .before .before .before .before .before .before .args .text .now) (c .before .before .before .before .before .before .before .before .before .before .before .before .args .fill) (c .before .before .before .before .before .before .before .before .before .before .before .before .args .gathered .now) (c .before .before .before .before .before .before .before .before .trim .result .now) (c .before .before .before .before .before .before .before .before .trim .ensures) (c .before .before .before .before .before .before .store .ensures .1), words-dropped (c .before .before .before .before .before .before .before .before .before .before .before .before .args .i) (c .before .before .before .before .before .before .before .before .before .before .before .before .args .o) (c .before .before .before .before .before .before .before .before .before .before .before .before .args .k) (c .before .before .before .before .before .before .before .before .before .before .before .before .args .fill) (c .before .before .stored .given .0 .0) (c .before .before .before .before .before .before .before .before .before .before .before .before .args .records .now) (c .if1 .left)))
+returns-2 c =
+    let args = c .before .before .before .before .before .before .before .before .before .before .before .before .args in
+    let trim = c .before .before .before .before .before .before .before .before .trim in
+    let store = c .before .before .before .before .before .before .store in (
+      kept-answer (args .text .now) (args .fill) (args .gathered .now) (trim .result .now) (trim .ensures)
+          (sym (ap (storedAnswer cause.TextFull) (c .before .before .stored .given .1)) ∙ store .ensures .0),
+      (
+        kept-back (args .text .now) (args .fill) (args .gathered .now) (trim .result .now) (trim .ensures) (store .ensures .1),
+        words-dropped (args .i) (args .o) (args .k) (args .fill) (c .before .before .stored .given .0 .0) (args .records .now) (c .if1 .left),
+      ),
+    )
 
 same-length-4 : tie.Need-same-length-4
 same-length-4 c = search needs
 
 returns-3 : tie.Need-returns-3
-returns-3 c = (kept-answer (c .before .before .before .before .before .before .before .before .before .before .args .text .now) (c .before .before .before .before .before .before .before .before .before .before .args .fill) (c .before .before .before .before .before .before .before .before .before .before .args .gathered .now) (c .before .before .before .before .before .before .trim .result .now) (c .before .before .before .before .before .before .trim .ensures) (sym (ap (storedAnswer cause.TextFull) (c .enum-told .given .1)) ∙ c .before .before .before .before .store .ensures .0), (kept-back (c .before .before .before .before .before .before .before .before .before .before .args .text .now) (c .before .before .before .before .before .before .before .before .before .before .args .fill) (c .before .before .before .before .before .before .before .before .before .before .args .gathered .now) (c .before .before .before .before .before .before .trim .result .now) (c .before .before .before .before .before .before .trim .ensures) (c .before .before .before .before .store .ensures .1), refl))
+returns-3 c =
+    let args = c .before .before .before .before .before .before .before .before .before .before .args in
+    let trim = c .before .before .before .before .before .before .trim in
+    let store = c .before .before .before .before .store in (
+      kept-answer (args .text .now) (args .fill) (args .gathered .now) (trim .result .now) (trim .ensures) (sym (ap (storedAnswer cause.TextFull) (c .enum-told .given .1)) ∙ store .ensures .0),
+      (kept-back (args .text .now) (args .fill) (args .gathered .now) (trim .result .now) (trim .ensures) (store .ensures .1), refl),
+    )
 
 pub keep-text-spec : {M : Type 1} → statement M
 keep-text-spec =

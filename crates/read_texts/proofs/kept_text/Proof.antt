@@ -9,7 +9,10 @@ enum-known-stored : tie.Need-enum-known-stored
 enum-known-stored c = search needs
 
 add-c : tie.Need-add-c
-add-c c = let h : c .before .before .before .before .args .content .fill + c .before .before .stored .given .0 .0 ≤ 16777216 = (rw (c .before .before .stored .given .1) at (c .before .before .before .before .pre)) in omega arith
+add-c c =
+    let args = c .before .before .before .before .args in
+    let pre = c .before .before .before .before .pre in
+    let h : args .content .fill + c .before .before .stored .given .0 .0 ≤ 16777216 = (rw (c .before .before .stored .given .1) at pre) in omega arith
 
 enum-told : tie.Need-enum-told
 enum-told c = search needs

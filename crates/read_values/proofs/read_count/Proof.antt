@@ -25,13 +25,21 @@ same-length : tie.Need-same-length
 same-length c = search needs
 
 returns : tie.Need-returns
-returns c = took-put (putCount (c .before .before .before .before .before .before .before .before .before .before .args .o)) (c .before .before .before .before .before .before .before .before .before .before .args .fill) (c .before .before .before .before .before .before .before .before .before .before .args .words .now) (sym (ap integerAnswer (c .before .before .before .before .before .read .given .1)) ∙ c .before .before .before .before .before .before .before .integer-of .ensures) (c .before .before .put-count .ensures)
+returns c =
+    let args = c .before .before .before .before .before .before .before .before .before .before .args in
+    let integer-of = c .before .before .before .before .before .before .before .integer-of in
+    let read = c .before .before .before .before .before .read in
+    took-put (putCount (args .o)) (args .fill) (args .words .now) (sym (ap integerAnswer (read .given .1)) ∙ integer-of .ensures) (c .before .before .put-count .ensures)
 
 returns-2 : tie.Need-returns-2
-returns-2 c = took-none (putCount (c .before .before .before .before .before .args .o)) (c .before .before .before .before .before .args .fill) (c .before .before .before .before .before .args .words .now) (sym (ap integerAnswer (c .enum-told .given .1)) ∙ c .before .before .integer-of .ensures)
+returns-2 c =
+    let args = c .before .before .before .before .before .args in
+    took-none (putCount (args .o)) (args .fill) (args .words .now) (sym (ap integerAnswer (c .enum-told .given .1)) ∙ c .before .before .integer-of .ensures)
 
 returns-3 : tie.Need-returns-3
-returns-3 c = took-none (putCount (c .before .before .before .before .before .args .o)) (c .before .before .before .before .before .args .fill) (c .before .before .before .before .before .args .words .now) (sym (ap integerAnswer (c .enum-told2 .given .1)) ∙ c .before .before .integer-of .ensures)
+returns-3 c =
+    let args = c .before .before .before .before .before .args in
+    took-none (putCount (args .o)) (args .fill) (args .words .now) (sym (ap integerAnswer (c .enum-told2 .given .1)) ∙ c .before .before .integer-of .ensures)
 
 pub read-count-spec : {M : Type 1} → statement M
 read-count-spec =

@@ -26,16 +26,28 @@ same-length : tie.Need-same-length
 same-length c = search needs
 
 returns : tie.Need-returns
-returns c = took-kept putTime (c .before .before .before .before .before .before .before .before .before .before .before .args .fill) (c .before .before .before .before .before .before .before .before .before .before .before .args .words .now) (sym (ap timeAnswer (c .before .before .before .before .before .before .read .given .1)) ∙ c .before .before .before .before .before .before .before .before .read-time .ensures) (c .before .before .before .before .if1 .taken) (c .before .before .put-time .ensures)
+returns c =
+    let args = c .before .before .before .before .before .before .before .before .before .before .before .args in
+    let read-time = c .before .before .before .before .before .before .before .before .read-time in
+    let read = c .before .before .before .before .before .before .read in
+    let if1 = c .before .before .before .before .if1 in
+    took-kept putTime (args .fill) (args .words .now) (sym (ap timeAnswer (read .given .1)) ∙ read-time .ensures) (if1 .taken) (c .before .before .put-time .ensures)
 
 returns-2 : tie.Need-returns-2
-returns-2 c = took-dropped putTime (c .before .before .before .before .before .before .before .args .fill) (c .before .before .before .before .before .before .before .args .words .now) (sym (ap timeAnswer (c .before .before .read .given .1)) ∙ c .before .before .before .before .read-time .ensures) (c .if1 .left)
+returns-2 c =
+    let args = c .before .before .before .before .before .before .before .args in
+    let read-time = c .before .before .before .before .read-time in
+    took-dropped putTime (args .fill) (args .words .now) (sym (ap timeAnswer (c .before .before .read .given .1)) ∙ read-time .ensures) (c .if1 .left)
 
 returns-3 : tie.Need-returns-3
-returns-3 c = took-none (λ m x. keep (c .before .before .before .before .before .args .kept) (putTime m x) x) (c .before .before .before .before .before .args .fill) (c .before .before .before .before .before .args .words .now) (sym (ap timeAnswer (c .enum-told .given .1)) ∙ c .before .before .read-time .ensures)
+returns-3 c =
+    let args = c .before .before .before .before .before .args in
+    took-none (λ m x. keep (args .kept) (putTime m x) x) (args .fill) (args .words .now) (sym (ap timeAnswer (c .enum-told .given .1)) ∙ c .before .before .read-time .ensures)
 
 returns-4 : tie.Need-returns-4
-returns-4 c = took-none (λ m x. keep (c .before .before .before .before .before .args .kept) (putTime m x) x) (c .before .before .before .before .before .args .fill) (c .before .before .before .before .before .args .words .now) (sym (ap timeAnswer (c .enum-told2 .given .1)) ∙ c .before .before .read-time .ensures)
+returns-4 c =
+    let args = c .before .before .before .before .before .args in
+    took-none (λ m x. keep (args .kept) (putTime m x) x) (args .fill) (args .words .now) (sym (ap timeAnswer (c .enum-told2 .given .1)) ∙ c .before .before .read-time .ensures)
 
 pub read-duration-spec : {M : Type 1} → statement M
 read-duration-spec =

@@ -24,13 +24,22 @@ same-length : tie.Need-same-length
 same-length c = search needs
 
 returns : tie.Need-returns
-returns c = took-more (putCount (c .before .before .before .before .before .before .before .before .before .before .before .before .before .args .o)) (c .before .before .before .before .before .before .before .before .before .before .before .before .before .args .fill) (c .before .before .before .before .before .before .before .before .before .before .before .before .before .args .words .now) (marked (c .before .before .before .before .before .before .before .before .before .before .before .before .before .args .k)) (integerOf (c .before .before .before .before .before .before .before .before .before .before .before .before .before .args .value .now)) (sym (ap tookAnswer (c .before .before .before .before .before .read .given .1)) ∙ c .before .before .before .before .before .before .before .before .before .read-count .ensures .0) (c .before .before .before .before .before .before .before .before .before .read-count .ensures .1) (c .before .before .put-bit .ensures)
+returns c =
+    let args = c .before .before .before .before .before .before .before .before .before .before .before .before .before .args in
+    let read-count = c .before .before .before .before .before .before .before .before .before .read-count in
+    let read = c .before .before .before .before .before .read in
+    took-more (putCount (args .o)) (args .fill) (args .words .now) (marked (args .k)) (integerOf (args .value .now))
+    (sym (ap tookAnswer (read .given .1)) ∙ read-count .ensures .0) (read-count .ensures .1) (c .before .before .put-bit .ensures)
 
 same-length-2 : tie.Need-same-length-2
 same-length-2 c = search needs
 
 returns-2 : tie.Need-returns-2
-returns-2 c = took-not (putCount (c .before .before .before .before .before .before .before .before .before .args .o)) (c .before .before .before .before .before .before .before .before .before .args .fill) (c .before .before .before .before .before .before .before .before .before .args .words .now) (marked (c .before .before .before .before .before .before .before .before .before .args .k)) (integerOf (c .before .before .before .before .before .before .before .before .before .args .value .now)) (sym (ap tookAnswer (c .before .read2 .given .1)) ∙ c .before .before .before .before .before .read-count .ensures .0) (c .before .before .before .before .before .read-count .ensures .1)
+returns-2 c =
+    let args = c .before .before .before .before .before .before .before .before .before .args in
+    let read-count = c .before .before .before .before .before .read-count in
+    took-not (putCount (args .o)) (args .fill) (args .words .now) (marked (args .k)) (integerOf (args .value .now))
+    (sym (ap tookAnswer (c .before .read2 .given .1)) ∙ read-count .ensures .0) (read-count .ensures .1)
 
 pub read-number-spec : {M : Type 1} → statement M
 read-number-spec =

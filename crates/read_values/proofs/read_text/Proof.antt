@@ -27,13 +27,23 @@ cast-put-text : tie.Need-cast-put-text
 cast-put-text c = search needs
 
 cast-put-text-2 : tie.Need-cast-put-text-2
-cast-put-text-2 c = let h = text-fits (c .before .before .before .before .before .before .before .before .before .before .before .args .text .now) (c .before .before .before .before .before .before .before .before .before .before .before .args .fill) (c .before .before .before .before .before .before .before .before .before .before .before .args .value .now) (c .before .before .before .before .before .before .before .before .before .before .before .pre .0) (sym (ap (keptAnswer cause.TextFull) (c .before .before .kept .given .1)) ∙ c .before .before .before .before .before .before .store-value .ensures .0) in let l = c .before .before .before .before .before .before .before .before .before .before .before .pre .1 in omega arith
+cast-put-text-2 c =
+    let args = c .before .before .before .before .before .before .before .before .before .before .before .args in
+    let pre = c .before .before .before .before .before .before .before .before .before .before .before .pre in
+    let store-value = c .before .before .before .before .before .before .store-value in
+    let h = text-fits (args .text .now) (args .fill) (args .value .now) (pre .0) (sym (ap (keptAnswer cause.TextFull) (c .before .before .kept .given .1)) ∙ store-value .ensures .0) in
+    let l = pre .1 in omega arith
 
 put-text-requires : tie.Need-put-text-requires
 put-text-requires c κs = search needs
 
 add-t19 : tie.Need-add-t19
-add-t19 c = let h = text-fits (c .before .before .before .before .before .before .before .before .before .before .before .before .before .before .args .text .now) (c .before .before .before .before .before .before .before .before .before .before .before .before .before .before .args .fill) (c .before .before .before .before .before .before .before .before .before .before .before .before .before .before .args .value .now) (c .before .before .before .before .before .before .before .before .before .before .before .before .before .before .pre .0) (sym (ap (keptAnswer cause.TextFull) (c .before .before .before .before .before .kept .given .1)) ∙ c .before .before .before .before .before .before .before .before .before .store-value .ensures .0) in let l = c .before .before .before .before .before .before .before .before .before .before .before .before .before .before .pre .1 in omega arith
+add-t19 c =
+    let args = c .before .before .before .before .before .before .before .before .before .before .before .before .before .before .args in
+    let pre = c .before .before .before .before .before .before .before .before .before .before .before .before .before .before .pre in
+    let store-value = c .before .before .before .before .before .before .before .before .before .store-value in
+    let kept = c .before .before .before .before .before .kept in
+    let h = text-fits (args .text .now) (args .fill) (args .value .now) (pre .0) (sym (ap (keptAnswer cause.TextFull) (kept .given .1)) ∙ store-value .ensures .0) in let l = pre .1 in omega arith
 
 enum-told : tie.Need-enum-told
 enum-told c = search needs
@@ -54,31 +64,52 @@ same-length-2 : tie.Need-same-length-2
 same-length-2 c = search needs
 
 returns : tie.Need-returns
-returns c = text-put (c .before .before .before .before .before .before .before .before .before .before .before .before .before .before .args .text .now) (c .before .before .before .before .before .before .before .before .before .before .before .before .before .before .args .fill) (c .before .before .before .before .before .before .before .before .before .before .before .before .before .before .args .value .now) (putText (c .before .before .before .before .before .before .before .before .before .before .before .before .before .before .args .o) (c .before .before .before .before .before .before .before .before .before .before .before .before .before .before .args .k) (c .before .before .before .before .before .before .before .before .before .before .before .before .before .before .args .fill)) (c .before .before .before .before .before .before .before .before .before .before .before .before .before .before .args .words .now) (c .before .before .before .before .before .before .before .before .before .store-value .ensures .1) (sym (ap (keptAnswer cause.TextFull) (c .before .before .before .before .before .kept .given .1)) ∙ c .before .before .before .before .before .before .before .before .before .store-value .ensures .0) (c .before .before .put-text .ensures)
+returns c =
+    let args = c .before .before .before .before .before .before .before .before .before .before .before .before .before .before .args in
+    let store-value = c .before .before .before .before .before .before .before .before .before .store-value in
+    let kept = c .before .before .before .before .before .kept in
+    text-put (args .text .now) (args .fill) (args .value .now) (putText (args .o) (args .k) (args .fill)) (args .words .now) (store-value .ensures .1)
+    (sym (ap (keptAnswer cause.TextFull) (kept .given .1)) ∙ store-value .ensures .0) (c .before .before .put-text .ensures)
 
 same-length-3 : tie.Need-same-length-3
 same-length-3 c = search needs
 
 returns-2 : tie.Need-returns-2
-returns-2 c = text-none (c .before .before .before .before .before .before .before .before .before .args .text .now) (c .before .before .before .before .before .before .before .before .before .args .fill) (c .before .before .before .before .before .before .before .before .before .args .value .now) (putText (c .before .before .before .before .before .before .before .before .before .args .o) (c .before .before .before .before .before .before .before .before .before .args .k) (c .before .before .before .before .before .before .before .before .before .args .fill)) (c .before .before .before .before .before .before .before .before .before .args .words .now) (c .before .before .before .before .store-value .ensures .1) (sym (ap (keptAnswer cause.TextFull) (c .enum-told .given .1)) ∙ c .before .before .before .before .store-value .ensures .0)
+returns-2 c =
+    let args = c .before .before .before .before .before .before .before .before .before .args in
+    let store-value = c .before .before .before .before .store-value in
+    text-none (args .text .now) (args .fill) (args .value .now) (putText (args .o) (args .k) (args .fill)) (args .words .now)
+    (store-value .ensures .1) (sym (ap (keptAnswer cause.TextFull) (c .enum-told .given .1)) ∙ store-value .ensures .0)
 
 same-length-4 : tie.Need-same-length-4
 same-length-4 c = search needs
 
 returns-3 : tie.Need-returns-3
-returns-3 c = text-none (c .before .before .before .before .before .before .before .before .before .args .text .now) (c .before .before .before .before .before .before .before .before .before .args .fill) (c .before .before .before .before .before .before .before .before .before .args .value .now) (putText (c .before .before .before .before .before .before .before .before .before .args .o) (c .before .before .before .before .before .before .before .before .before .args .k) (c .before .before .before .before .before .before .before .before .before .args .fill)) (c .before .before .before .before .before .before .before .before .before .args .words .now) (c .before .before .before .before .store-value .ensures .1) (sym (ap (keptAnswer cause.TextFull) (c .enum-told2 .given .1)) ∙ c .before .before .before .before .store-value .ensures .0)
+returns-3 c =
+    let args = c .before .before .before .before .before .before .before .before .before .args in
+    let store-value = c .before .before .before .before .store-value in
+    text-none (args .text .now) (args .fill) (args .value .now) (putText (args .o) (args .k) (args .fill)) (args .words .now)
+    (store-value .ensures .1) (sym (ap (keptAnswer cause.TextFull) (c .enum-told2 .given .1)) ∙ store-value .ensures .0)
 
 same-length-5 : tie.Need-same-length-5
 same-length-5 c = search needs
 
 returns-4 : tie.Need-returns-4
-returns-4 c = text-none (c .before .before .before .before .before .before .before .before .before .args .text .now) (c .before .before .before .before .before .before .before .before .before .args .fill) (c .before .before .before .before .before .before .before .before .before .args .value .now) (putText (c .before .before .before .before .before .before .before .before .before .args .o) (c .before .before .before .before .before .before .before .before .before .args .k) (c .before .before .before .before .before .before .before .before .before .args .fill)) (c .before .before .before .before .before .before .before .before .before .args .words .now) (c .before .before .before .before .store-value .ensures .1) (sym (ap (keptAnswer cause.TextFull) (c .enum-told3 .given .1)) ∙ c .before .before .before .before .store-value .ensures .0)
+returns-4 c =
+    let args = c .before .before .before .before .before .before .before .before .before .args in
+    let store-value = c .before .before .before .before .store-value in
+    text-none (args .text .now) (args .fill) (args .value .now) (putText (args .o) (args .k) (args .fill)) (args .words .now)
+    (store-value .ensures .1) (sym (ap (keptAnswer cause.TextFull) (c .enum-told3 .given .1)) ∙ store-value .ensures .0)
 
 same-length-6 : tie.Need-same-length-6
 same-length-6 c = search needs
 
 returns-5 : tie.Need-returns-5
-returns-5 c = text-none (c .before .before .before .before .before .before .before .before .before .args .text .now) (c .before .before .before .before .before .before .before .before .before .args .fill) (c .before .before .before .before .before .before .before .before .before .args .value .now) (putText (c .before .before .before .before .before .before .before .before .before .args .o) (c .before .before .before .before .before .before .before .before .before .args .k) (c .before .before .before .before .before .before .before .before .before .args .fill)) (c .before .before .before .before .before .before .before .before .before .args .words .now) (c .before .before .before .before .store-value .ensures .1) (sym (ap (keptAnswer cause.TextFull) (c .enum-told4 .given .1)) ∙ c .before .before .before .before .store-value .ensures .0)
+returns-5 c =
+    let args = c .before .before .before .before .before .before .before .before .before .args in
+    let store-value = c .before .before .before .before .store-value in
+    text-none (args .text .now) (args .fill) (args .value .now) (putText (args .o) (args .k) (args .fill)) (args .words .now)
+    (store-value .ensures .1) (sym (ap (keptAnswer cause.TextFull) (c .enum-told4 .given .1)) ∙ store-value .ensures .0)
 
 pub read-text-spec : {M : Type 1} → statement M
 read-text-spec =

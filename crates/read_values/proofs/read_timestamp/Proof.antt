@@ -26,16 +26,28 @@ same-length : tie.Need-same-length
 same-length c = search needs
 
 returns : tie.Need-returns
-returns c = took-kept putMoment (c .before .before .before .before .before .before .before .before .before .before .before .args .fill) (c .before .before .before .before .before .before .before .before .before .before .before .args .words .now) (sym (ap timestampAnswer (c .before .before .before .before .before .before .read .given .1)) ∙ c .before .before .before .before .before .before .before .before .timestamp-of .ensures) (c .before .before .before .before .if1 .taken) (c .before .before .put-moment .ensures)
+returns c =
+    let args = c .before .before .before .before .before .before .before .before .before .before .before .args in
+    let timestamp-of = c .before .before .before .before .before .before .before .before .timestamp-of in
+    let read = c .before .before .before .before .before .before .read in
+    let if1 = c .before .before .before .before .if1 in
+    took-kept putMoment (args .fill) (args .words .now) (sym (ap timestampAnswer (read .given .1)) ∙ timestamp-of .ensures) (if1 .taken) (c .before .before .put-moment .ensures)
 
 returns-2 : tie.Need-returns-2
-returns-2 c = took-dropped putMoment (c .before .before .before .before .before .before .before .args .fill) (c .before .before .before .before .before .before .before .args .words .now) (sym (ap timestampAnswer (c .before .before .read .given .1)) ∙ c .before .before .before .before .timestamp-of .ensures) (c .if1 .left)
+returns-2 c =
+    let args = c .before .before .before .before .before .before .before .args in
+    let timestamp-of = c .before .before .before .before .timestamp-of in
+    took-dropped putMoment (args .fill) (args .words .now) (sym (ap timestampAnswer (c .before .before .read .given .1)) ∙ timestamp-of .ensures) (c .if1 .left)
 
 returns-3 : tie.Need-returns-3
-returns-3 c = took-none (λ m x. keep (c .before .before .before .before .before .args .kept) (putMoment m x) x) (c .before .before .before .before .before .args .fill) (c .before .before .before .before .before .args .words .now) (sym (ap timestampAnswer (c .enum-told .given .1)) ∙ c .before .before .timestamp-of .ensures)
+returns-3 c =
+    let args = c .before .before .before .before .before .args in
+    took-none (λ m x. keep (args .kept) (putMoment m x) x) (args .fill) (args .words .now) (sym (ap timestampAnswer (c .enum-told .given .1)) ∙ c .before .before .timestamp-of .ensures)
 
 returns-4 : tie.Need-returns-4
-returns-4 c = took-none (λ m x. keep (c .before .before .before .before .before .args .kept) (putMoment m x) x) (c .before .before .before .before .before .args .fill) (c .before .before .before .before .before .args .words .now) (sym (ap timestampAnswer (c .enum-told2 .given .1)) ∙ c .before .before .timestamp-of .ensures)
+returns-4 c =
+    let args = c .before .before .before .before .before .args in
+    took-none (λ m x. keep (args .kept) (putMoment m x) x) (args .fill) (args .words .now) (sym (ap timestampAnswer (c .enum-told2 .given .1)) ∙ c .before .before .timestamp-of .ensures)
 
 pub read-timestamp-spec : {M : Type 1} → statement M
 read-timestamp-spec =

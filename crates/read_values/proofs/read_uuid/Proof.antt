@@ -25,13 +25,21 @@ same-length : tie.Need-same-length
 same-length c = search needs
 
 returns : tie.Need-returns
-returns c = took-put putUuid (c .before .before .before .before .before .before .before .before .before .before .args .fill) (c .before .before .before .before .before .before .before .before .before .before .args .words .now) (sym (ap uuidAnswer (c .before .before .before .before .before .read .given .1)) ∙ c .before .before .before .before .before .before .before .uuid-of .ensures) (c .before .before .put-uuid .ensures)
+returns c =
+    let args = c .before .before .before .before .before .before .before .before .before .before .args in
+    let uuid-of = c .before .before .before .before .before .before .before .uuid-of in
+    let read = c .before .before .before .before .before .read in
+    took-put putUuid (args .fill) (args .words .now) (sym (ap uuidAnswer (read .given .1)) ∙ uuid-of .ensures) (c .before .before .put-uuid .ensures)
 
 returns-2 : tie.Need-returns-2
-returns-2 c = took-none putUuid (c .before .before .before .before .before .args .fill) (c .before .before .before .before .before .args .words .now) (sym (ap uuidAnswer (c .enum-told .given .1)) ∙ c .before .before .uuid-of .ensures)
+returns-2 c =
+    let args = c .before .before .before .before .before .args in
+    took-none putUuid (args .fill) (args .words .now) (sym (ap uuidAnswer (c .enum-told .given .1)) ∙ c .before .before .uuid-of .ensures)
 
 returns-3 : tie.Need-returns-3
-returns-3 c = took-none putUuid (c .before .before .before .before .before .args .fill) (c .before .before .before .before .before .args .words .now) (sym (ap uuidAnswer (c .enum-told2 .given .1)) ∙ c .before .before .uuid-of .ensures)
+returns-3 c =
+    let args = c .before .before .before .before .before .args in
+    took-none putUuid (args .fill) (args .words .now) (sym (ap uuidAnswer (c .enum-told2 .given .1)) ∙ c .before .before .uuid-of .ensures)
 
 pub read-uuid-spec : {M : Type 1} → statement M
 read-uuid-spec =

@@ -17,7 +17,10 @@ refusing-requires : tie.Need-refusing-requires
 refusing-requires c κs = search needs
 
 returns : tie.Need-returns
-returns c = λ placed. c .refusing .ensures ∙ halted-there (c .before .before .before .before .before .before .before .args .st) (c .before .before .before .before .before .before .before .args .h) placed (c .before .before .before .path-of .result) (c .before .before .within .result) (c .before .before .before .path-of .ensures (placed .name)) (c .before .before .within .ensures)
+returns c =
+    let args = c .before .before .before .before .before .before .before .args in
+    λ placed. c .refusing .ensures ∙ halted-there (args .st) (args .h) placed (c .before .before .before .path-of .result)
+    (c .before .before .within .result) (c .before .before .before .path-of .ensures (placed .name)) (c .before .before .within .ensures)
 
 pub halted-spec : {M : Type 1} → statement M
 halted-spec =

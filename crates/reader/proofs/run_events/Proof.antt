@@ -21,24 +21,41 @@ begin-requires : tie.Need-begin-requires Inv-loop μ-loop
 begin-requires c κs = search needs
 
 loop-holds : tie.Need-loop-holds Inv-loop μ-loop
-loop-holds c = loop-begins _ _ _ _ _ _ _ (c .begin .ensures) (c .before .before .before .before .before .before .before .pre .1 .1 .0) (c .before .before .before .before .before .before .before .pre .1 .1 .1)
+loop-holds c =
+    let pre = c .before .before .before .before .before .before .before .pre in
+    loop-begins _ _ _ _ _ _ _ (c .begin .ensures) (pre .1 .1 .0) (pre .1 .1 .1)
 
 step-event-requires : tie.Need-step-event-requires Inv-loop μ-loop
-step-event-requires c κs = (c .before .before .before .before .before .before .before .before .before .before .before .pre .0, (c .before .before .before .loop .inv .within, (loop-lent (c .before .before .before .loop .inv) (c .before .before .before .before .before .before .before .before .before .before .before .pre .1 .0), loop-stands (c .before .before .before .loop .inv) (sizes _ _ _ (c .before .before .before .before .before .before .before .before .before .before .before .pre .0) .event-limit))))
+step-event-requires c κs =
+    let pre = c .before .before .before .before .before .before .before .before .before .before .before .pre in (
+      pre .0,
+      (
+        c .before .before .before .loop .inv .within,
+        (loop-lent (c .before .before .before .loop .inv) (pre .1 .0), loop-stands (c .before .before .before .loop .inv) (sizes _ _ _ (pre .0) .event-limit)),
+      ),
+    )
 
 enum-known-next : tie.Need-enum-known-next Inv-loop μ-loop
 enum-known-next c = search needs
 
 loop-less : tie.Need-loop-less Inv-loop μ-loop
-loop-less c = let a = c .before .before .before .before .before .before .before .before .before .before .before .before .before .before .before .before .before .before .before .before .before .args in
+loop-less c =
+    let at-step-event = c .before .before .before .before .before .before .before .before .before in
+    let start = at-step-event .before .before .before .before .before .before .before .before .before .before .before .before in
+    let a = start .args in
     let inv = c .before .before .before .before .before .before .before .before .before .before .before .before .before .loop .inv in
-    looping.loop-less inv _ _ _ _ (c .before .before .before .before .before .before .before .before .before .step-event .ensures (roomsOf (length (now (a .records))) (length (now (a .text))) (length (now (a .scratch)))) (inv .content) (loop-sized inv (c .before .before .before .before .before .before .before .before .before .before .before .before .before .before .before .before .before .before .before .before .before .pre .1 .0)) (inv .stands)) _ (c .before .next .given .1)
+    looping.loop-less inv _ _ _ _ (at-step-event .step-event .ensures (roomsOf (length (now (a .records))) (length (now (a .text))) (length (now (a .scratch))))
+    (inv .content) (loop-sized inv (start .pre .1 .0)) (inv .stands)) _ (c .before .next .given .1)
 
 loop-again : tie.Need-loop-again Inv-loop μ-loop
-loop-again c = let a = c .before .before .before .before .before .before .before .before .before .before .before .before .before .before .before .before .before .before .before .before .before .args in
+loop-again c =
+    let at-step-event = c .before .before .before .before .before .before .before .before .before in
+    let start = at-step-event .before .before .before .before .before .before .before .before .before .before .before .before in
+    let a = start .args in
     let inv = c .before .before .before .before .before .before .before .before .before .before .before .before .before .loop .inv in
-    let k = c .before .before .before .before .before .before .before .before .before .step-event .kept .1 .1 .1 .1 in
-    loop-goes inv _ _ _ _ (c .before .before .before .before .before .before .before .before .before .step-event .ensures (roomsOf (length (now (a .records))) (length (now (a .text))) (length (now (a .scratch)))) (inv .content) (loop-sized inv (c .before .before .before .before .before .before .before .before .before .before .before .before .before .before .before .before .before .before .before .before .before .pre .1 .0)) (inv .stands)) _ (c .before .next .given .1) (k .0) (k .1 .0) (k .1 .1 .0)
+    let k = at-step-event .step-event .kept .1 .1 .1 .1 in
+    loop-goes inv _ _ _ _ (at-step-event .step-event .ensures (roomsOf (length (now (a .records))) (length (now (a .text))) (length (now (a .scratch))))
+    (inv .content) (loop-sized inv (start .pre .1 .0)) (inv .stands)) _ (c .before .next .given .1) (k .0) (k .1 .0) (k .1 .1 .0)
 
 enum-told : tie.Need-enum-told Inv-loop μ-loop
 enum-told c = search needs
@@ -47,32 +64,58 @@ enum-known-next-2 : tie.Need-enum-known-next-2 Inv-loop μ-loop
 enum-known-next-2 c = search needs
 
 same-length : tie.Need-same-length Inv-loop μ-loop
-same-length c = c .before .before .before .before .before .before .before .before .step-event .kept .1 .1 .1 .1 .0 ∙ c .before .before .before .before .before .before .before .before .before .before .before .before .loop .inv .of-words
+same-length c =
+    let loop = c .before .before .before .before .before .before .before .before .before .before .before .before .loop in
+    let step-event = c .before .before .before .before .before .before .before .before .step-event in
+    step-event .kept .1 .1 .1 .1 .0 ∙ loop .inv .of-words
 
 same-length-2 : tie.Need-same-length-2 Inv-loop μ-loop
-same-length-2 c = c .before .before .before .before .before .before .before .before .step-event .kept .1 .1 .1 .1 .1 .0 ∙ c .before .before .before .before .before .before .before .before .before .before .before .before .loop .inv .of-text
+same-length-2 c =
+    let loop = c .before .before .before .before .before .before .before .before .before .before .before .before .loop in
+    let step-event = c .before .before .before .before .before .before .before .before .step-event in
+    step-event .kept .1 .1 .1 .1 .1 .0 ∙ loop .inv .of-text
 
 same-length-3 : tie.Need-same-length-3 Inv-loop μ-loop
-same-length-3 c = c .before .before .before .before .before .before .before .before .step-event .kept .1 .1 .1 .1 .1 .1 .0 ∙ c .before .before .before .before .before .before .before .before .before .before .before .before .loop .inv .of-scratch
+same-length-3 c =
+    let loop = c .before .before .before .before .before .before .before .before .before .before .before .before .loop in
+    let step-event = c .before .before .before .before .before .before .before .before .step-event in
+    step-event .kept .1 .1 .1 .1 .1 .1 .0 ∙ loop .inv .of-scratch
 
 returns : tie.Need-returns Inv-loop μ-loop
-returns c = let a = c .before .before .before .before .before .before .before .before .before .before .before .before .before .before .before .before .before .before .before .before .args in
+returns c =
+    let at-step-event = c .before .before .before .before .before .before .before .before in
+    let start = at-step-event .before .before .before .before .before .before .before .before .before .before .before .before in
+    let a = start .args in
     let inv = c .before .before .before .before .before .before .before .before .before .before .before .before .loop .inv in
-    loop-ends inv _ _ _ _ (c .before .before .before .before .before .before .before .before .step-event .ensures (roomsOf (length (now (a .records))) (length (now (a .text))) (length (now (a .scratch)))) (inv .content) (loop-sized inv (c .before .before .before .before .before .before .before .before .before .before .before .before .before .before .before .before .before .before .before .before .pre .1 .0)) (inv .stands)) (c .enum-told .given .1)
+    loop-ends inv _ _ _ _ (at-step-event .step-event .ensures (roomsOf (length (now (a .records))) (length (now (a .text))) (length (now (a .scratch))))
+    (inv .content) (loop-sized inv (start .pre .1 .0)) (inv .stands)) (c .enum-told .given .1)
 
 same-length-4 : tie.Need-same-length-4 Inv-loop μ-loop
-same-length-4 c = c .before .before .before .before .before .before .before .before .before .step-event .kept .1 .1 .1 .1 .0 ∙ c .before .before .before .before .before .before .before .before .before .before .before .before .before .loop .inv .of-words
+same-length-4 c =
+    let loop = c .before .before .before .before .before .before .before .before .before .before .before .before .before .loop in
+    let step-event = c .before .before .before .before .before .before .before .before .before .step-event in
+    step-event .kept .1 .1 .1 .1 .0 ∙ loop .inv .of-words
 
 same-length-5 : tie.Need-same-length-5 Inv-loop μ-loop
-same-length-5 c = c .before .before .before .before .before .before .before .before .before .step-event .kept .1 .1 .1 .1 .1 .0 ∙ c .before .before .before .before .before .before .before .before .before .before .before .before .before .loop .inv .of-text
+same-length-5 c =
+    let loop = c .before .before .before .before .before .before .before .before .before .before .before .before .before .loop in
+    let step-event = c .before .before .before .before .before .before .before .before .before .step-event in
+    step-event .kept .1 .1 .1 .1 .1 .0 ∙ loop .inv .of-text
 
 same-length-6 : tie.Need-same-length-6 Inv-loop μ-loop
-same-length-6 c = c .before .before .before .before .before .before .before .before .before .step-event .kept .1 .1 .1 .1 .1 .1 .0 ∙ c .before .before .before .before .before .before .before .before .before .before .before .before .before .loop .inv .of-scratch
+same-length-6 c =
+    let loop = c .before .before .before .before .before .before .before .before .before .before .before .before .before .loop in
+    let step-event = c .before .before .before .before .before .before .before .before .before .step-event in
+    step-event .kept .1 .1 .1 .1 .1 .1 .0 ∙ loop .inv .of-scratch
 
 returns-2 : tie.Need-returns-2 Inv-loop μ-loop
-returns-2 c = let a = c .before .before .before .before .before .before .before .before .before .before .before .before .before .before .before .before .before .before .before .before .before .args in
+returns-2 c =
+    let at-step-event = c .before .before .before .before .before .before .before .before .before in
+    let start = at-step-event .before .before .before .before .before .before .before .before .before .before .before .before in
+    let a = start .args in
     let inv = c .before .before .before .before .before .before .before .before .before .before .before .before .before .loop .inv in
-    loop-halts inv _ _ _ _ (c .before .before .before .before .before .before .before .before .before .step-event .ensures (roomsOf (length (now (a .records))) (length (now (a .text))) (length (now (a .scratch)))) (inv .content) (loop-sized inv (c .before .before .before .before .before .before .before .before .before .before .before .before .before .before .before .before .before .before .before .before .before .pre .1 .0)) (inv .stands)) _ (c .before .next2 .given .1)
+    loop-halts inv _ _ _ _ (at-step-event .step-event .ensures (roomsOf (length (now (a .records))) (length (now (a .text))) (length (now (a .scratch))))
+    (inv .content) (loop-sized inv (start .pre .1 .0)) (inv .stands)) _ (c .before .next2 .given .1)
 
 pub run-events-spec : {M : Type 1} → statement M
 run-events-spec =

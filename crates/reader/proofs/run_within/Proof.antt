@@ -51,12 +51,23 @@ slice-aggregate-run-events-3 c = let a = c .before .before .before .before .befo
     sym (length-take-le _ _ (cut-scratch (now (a .records)) (now (a .text)) (now (a .scratch)) (k .result) (n .result) (m .result) (k .ensures) (n .ensures) (m .ensures)))
 
 run-events-requires : tie.Need-run-events-requires
-run-events-requires c κs = let a = c .before .before .before .before .before .before .before .before .before .before .before .before .args in
+run-events-requires c κs =
+    let start = c .before .before .before .before .before .before .before .before .before .before .before .before in
+    let a = start .args in
     let k = c .before .before .before .before .before .least in
     let n = c .before .before .before .before .least2 in
     let m = c .before .before .before .least3 in
-    let p = c .before .before .before .before .before .before .before .before .before .before .before .before .pre in
-    (p .0, (cut-lent (now (a .records)) (now (a .text)) (now (a .scratch)) (k .result) (n .result) (m .result) (k .ensures) (n .ensures) (m .ensures), (part-zeros (now (a .records)) (p .1 .0) (k .result * 32) (cut-words (now (a .records)) (now (a .text)) (now (a .scratch)) (k .result) (n .result) (m .result) (k .ensures) (n .ensures) (m .ensures)), part-zeros (now (a .text)) (p .1 .1) (n .result) (cut-text (now (a .records)) (now (a .text)) (now (a .scratch)) (k .result) (n .result) (m .result) (k .ensures) (n .ensures) (m .ensures)))))
+    let p = start .pre in (
+      p .0,
+      (
+        cut-lent (now (a .records)) (now (a .text)) (now (a .scratch)) (k .result) (n .result) (m .result) (k .ensures) (n .ensures) (m .ensures),
+        (
+          part-zeros (now (a .records)) (p .1 .0) (k .result * 32)
+              (cut-words (now (a .records)) (now (a .text)) (now (a .scratch)) (k .result) (n .result) (m .result) (k .ensures) (n .ensures) (m .ensures)),
+          part-zeros (now (a .text)) (p .1 .1) (n .result) (cut-text (now (a .records)) (now (a .text)) (now (a .scratch)) (k .result) (n .result) (m .result) (k .ensures) (n .ensures) (m .ensures)),
+        ),
+      ),
+    )
 
 same-length : tie.Need-same-length
 same-length c = search needs
@@ -68,12 +79,16 @@ same-length-3 : tie.Need-same-length-3
 same-length-3 c = search needs
 
 returns : tie.Need-returns
-returns c = let a = c .before .before .before .before .before .before .before .before .before .before .before .before .before .before .before .before .before .before .before .args in
+returns c =
+    let before-18 = c .before .before .before .before .before .before .before .before .before .before .before .before .before .before .before .before .before .before in
+    let start = before-18 .before in
+    let a = start .args in
     let k = c .before .before .before .before .before .before .before .before .before .before .before .before .least in
     let n = c .before .before .before .before .before .before .before .before .before .before .before .least2 in
     let m = c .before .before .before .before .before .before .before .before .before .before .least3 in
     let r = c .before .before .before .before .before .before .run-events in
-    cut-ran (now (a .records)) (now (a .text)) (now (a .scratch)) (k .result) (n .result) (m .result) (k .ensures) (n .ensures) (m .ensures) (c .before .before .before .before .before .before .before .before .before .before .before .before .before .before .before .before .before .before .before .pre .1 .0) (c .before .before .before .before .before .before .before .before .before .before .before .before .before .before .before .before .before .before .before .pre .1 .1) _ (r .last .1 .1 .1 .0) (r .last .1 .1 .1 .1 .0) (r .result) (r .ensures)
+    cut-ran (now (a .records)) (now (a .text)) (now (a .scratch)) (k .result) (n .result) (m .result) (k .ensures) (n .ensures)
+    (m .ensures) (start .pre .1 .0) (start .pre .1 .1) _ (r .last .1 .1 .1 .0) (r .last .1 .1 .1 .1 .0) (r .result) (r .ensures)
 
 pub run-within-spec : {M : Type 1} → statement M
 run-within-spec =

@@ -12,7 +12,9 @@ shared-slice-read-if2 : tie.Need-shared-slice-read-if2
 shared-slice-read-if2 c = search needs
 
 returns-2 : tie.Need-returns-2
-returns-2 c = char-other (c .before .before .before .before .args .name .now) (c .if2 .taken)
+returns-2 c =
+    let args = c .before .before .before .before .args in
+    char-other (args .name .now) (c .if2 .taken)
 
 number-of-requires : tie.Need-number-of-requires
 number-of-requires c κs = search needs
@@ -24,7 +26,9 @@ enum-told : tie.Need-enum-told
 enum-told c = search needs
 
 returns-3 : tie.Need-returns-3
-returns-3 c = char-not (c .before .before .before .before .before .before .before .args .name .now) (sym (c .enum-told .given .1) ∙ c .before .before .number-of .ensures)
+returns-3 c =
+    let args = c .before .before .before .before .before .before .before .args in
+    char-not (args .name .now) (sym (c .enum-told .given .1) ∙ c .before .before .number-of .ensures)
 
 is-xml-char-requires : tie.Need-is-xml-char-requires
 is-xml-char-requires c κs = search needs
@@ -33,10 +37,18 @@ cast-t9 : tie.Need-cast-t9
 cast-t9 c = let h = char-code _ (sym (c .before .is-xml-char .ensures) ∙ c .if3 .taken) in omega arith
 
 returns-4 : tie.Need-returns-4
-returns-4 c = char-some (c .before .before .before .before .before .before .before .before .before .before .args .name .now) _ (sym (c .before .before .before .n .given .1) ∙ c .before .before .before .before .before .number-of .ensures) (c .before .before .before .before .before .before .if2 .left) (sym (c .before .is-xml-char .ensures) ∙ c .if3 .taken)
+returns-4 c =
+    let args = c .before .before .before .before .before .before .before .before .before .before .args in
+    let if2 = c .before .before .before .before .before .before .if2 in
+    let number-of = c .before .before .before .before .before .number-of in
+    char-some (args .name .now) _ (sym (c .before .before .before .n .given .1) ∙ number-of .ensures) (if2 .left) (sym (c .before .is-xml-char .ensures) ∙ c .if3 .taken)
 
 returns-5 : tie.Need-returns-5
-returns-5 c = char-none (c .before .before .before .before .before .before .before .before .before .before .args .name .now) _ (sym (c .before .before .before .n .given .1) ∙ c .before .before .before .before .before .number-of .ensures) (c .before .before .before .before .before .before .if2 .left) (sym (c .before .is-xml-char .ensures) ∙ c .if3 .left)
+returns-5 c =
+    let args = c .before .before .before .before .before .before .before .before .before .before .args in
+    let if2 = c .before .before .before .before .before .before .if2 in
+    let number-of = c .before .before .before .before .before .number-of in
+    char-none (args .name .now) _ (sym (c .before .before .before .n .given .1) ∙ number-of .ensures) (if2 .left) (sym (c .before .is-xml-char .ensures) ∙ c .if3 .left)
 
 pub char-ref-of-spec : {M : Type 1} → statement M
 char-ref-of-spec =

@@ -14,17 +14,23 @@ code-in-requires : tie.Need-code-in-requires
 code-in-requires c κs = search needs
 
 returns : tie.Need-returns
-returns c = entity-none (c .before .before .before .before .before .args .name .now) _ (c .before .code-in .ensures) (c .if1 .taken)
+returns c =
+    let args = c .before .before .before .before .before .args in
+    entity-none (args .name .now) _ (c .before .code-in .ensures) (c .if1 .taken)
 
 sub-t11 : tie.Need-sub-t11
 sub-t11 c = search needs
 
 array-read-t14 : tie.Need-array-read-t14
-array-read-t14 c = entity-place (c .before .before .before .before .before .args .name .now) _ (c .before .code-in .ensures) (c .if1 .left)
+array-read-t14 c =
+    let args = c .before .before .before .before .before .args in
+    entity-place (args .name .now) _ (c .before .code-in .ensures) (c .if1 .left)
 
 returns-2 : tie.Need-returns-2
 unfolding entityChars
-returns-2 c = entity-some (c .before .before .before .before .before .args .name .now) _ (c .before .code-in .ensures) (c .if1 .left)
+returns-2 c =
+    let args = c .before .before .before .before .before .args in
+    entity-some (args .name .now) _ (c .before .code-in .ensures) (c .if1 .left)
 
 pub entity-of-spec : {M : Type 1} → statement M
 entity-of-spec =

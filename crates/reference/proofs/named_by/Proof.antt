@@ -22,10 +22,15 @@ char-ref-of-requires : tie.Need-char-ref-of-requires
 char-ref-of-requires c κs = search needs
 
 returns : tie.Need-returns
-returns c = ap gives (c .wide .ensures) ∙ named-entity (c .before .before .before .before .before .before .args .name .now) _ (sym (ap entityAnswer (c .before .before .e .given .1)) ∙ c .before .before .before .before .entity-of .ensures)
+returns c =
+    let args = c .before .before .before .before .before .before .args in
+    let entity-of = c .before .before .before .before .entity-of in
+    ap gives (c .wide .ensures) ∙ named-entity (args .name .now) _ (sym (ap entityAnswer (c .before .before .e .given .1)) ∙ entity-of .ensures)
 
 returns-2 : tie.Need-returns-2
-returns-2 c = named-number (c .before .before .before .before .before .args .name .now) _ (sym (ap entityAnswer (c .before .enum-told .given .1)) ∙ c .before .before .before .entity-of .ensures) (c .char-ref-of .ensures)
+returns-2 c =
+    let args = c .before .before .before .before .before .args in
+    named-number (args .name .now) _ (sym (ap entityAnswer (c .before .enum-told .given .1)) ∙ c .before .before .before .entity-of .ensures) (c .char-ref-of .ensures)
 
 pub named-by-spec : {M : Type 1} → statement M
 named-by-spec =

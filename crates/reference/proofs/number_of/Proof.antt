@@ -22,7 +22,8 @@ hexadecimal-requires : tie.Need-hexadecimal-requires
 hexadecimal-requires c κs = search needs
 
 returns : tie.Need-returns
-returns c = let s = c .before .before .before .before .before .args .name .now in c .hexadecimal .ensures ∙ ap (numberIn 16 0x10FFFF) (rest-part s 2) ∙ hexadecimal-number s 0x10FFFF (c .before .before .if1 .taken)
+returns c = let s = c .before .before .before .before .before .args .name .now in
+    c .hexadecimal .ensures ∙ ap (numberIn 16 0x10FFFF) (rest-part s 2) ∙ hexadecimal-number s 0x10FFFF (c .before .before .if1 .taken)
 
 sub-decimal : tie.Need-sub-decimal
 sub-decimal c = search needs
@@ -37,7 +38,8 @@ decimal-requires : tie.Need-decimal-requires
 decimal-requires c κs = search needs
 
 returns-2 : tie.Need-returns-2
-returns-2 c = let s = c .before .before .before .before .before .args .name .now in c .decimal .ensures ∙ ap (numberIn 10 0x10FFFF) (rest-part s 1) ∙ decimal-number s 0x10FFFF (c .before .before .if1 .left)
+returns-2 c =
+    let s = c .before .before .before .before .before .args .name .now in c .decimal .ensures ∙ ap (numberIn 10 0x10FFFF) (rest-part s 1) ∙ decimal-number s 0x10FFFF (c .before .before .if1 .left)
 
 pub number-of-spec : {M : Type 1} → statement M
 number-of-spec =

@@ -40,19 +40,35 @@ enum-told : tie.Need-enum-told Inv-loop μ-loop
 enum-told c = search needs
 
 returns : tie.Need-returns Inv-loop μ-loop
-returns c = checking-bad (c .before .before .before .before .before .before .before .loop .inv) (c .before .before .before .before .before .before .loop-test .taken) (c .before .before .before .before .if1 .taken) (c .before .before .ref-at .ensures) (c .enum-told .given .1)
+returns c =
+    let loop = c .before .before .before .before .before .before .before .loop in
+    let loop-test = c .before .before .before .before .before .before .loop-test in
+    let if1 = c .before .before .before .before .if1 in
+    checking-bad (loop .inv) (loop-test .taken) (if1 .taken) (c .before .before .ref-at .ensures) (c .enum-told .given .1)
 
 add-i-2 : tie.Need-add-i-2 Inv-loop μ-loop
-add-i-2 c = let g = c .before .r .given in
-    omega (arith, checking-good (c .before .before .before .before .before .before .before .before .loop .inv) (c .before .before .before .before .before .before .before .loop-test .taken) (c .before .before .before .before .before .if1 .taken) (c .before .before .before .ref-at .ensures) (g .0 .0) (g .0 .1 .0) (g .1) .within)
+add-i-2 c =
+    let loop = c .before .before .before .before .before .before .before .before .loop in
+    let loop-test = c .before .before .before .before .before .before .before .loop-test in
+    let if1 = c .before .before .before .before .before .if1 in
+    let g = c .before .r .given in
+    omega (arith, checking-good (loop .inv) (loop-test .taken) (if1 .taken) (c .before .before .before .ref-at .ensures) (g .0 .0) (g .0 .1 .0) (g .1) .within)
 
 loop-less : tie.Need-loop-less Inv-loop μ-loop
-loop-less c = let g = c .before .r .given in
-    omega (arith, checking-good (c .before .before .before .before .before .before .before .before .loop .inv) (c .before .before .before .before .before .before .before .loop-test .taken) (c .before .before .before .before .before .if1 .taken) (c .before .before .before .ref-at .ensures) (g .0 .0) (g .0 .1 .0) (g .1) .within)
+loop-less c =
+    let loop = c .before .before .before .before .before .before .before .before .loop in
+    let loop-test = c .before .before .before .before .before .before .before .loop-test in
+    let if1 = c .before .before .before .before .before .if1 in
+    let g = c .before .r .given in
+    omega (arith, checking-good (loop .inv) (loop-test .taken) (if1 .taken) (c .before .before .before .ref-at .ensures) (g .0 .0) (g .0 .1 .0) (g .1) .within)
 
 loop-again : tie.Need-loop-again Inv-loop μ-loop
-loop-again c = let g = c .before .r .given in
-    checking-good (c .before .before .before .before .before .before .before .before .loop .inv) (c .before .before .before .before .before .before .before .loop-test .taken) (c .before .before .before .before .before .if1 .taken) (c .before .before .before .ref-at .ensures) (g .0 .0) (g .0 .1 .0) (g .1)
+loop-again c =
+    let loop = c .before .before .before .before .before .before .before .before .loop in
+    let loop-test = c .before .before .before .before .before .before .before .loop-test in
+    let if1 = c .before .before .before .before .before .if1 in
+    let g = c .before .r .given in
+    checking-good (loop .inv) (loop-test .taken) (if1 .taken) (c .before .before .before .ref-at .ensures) (g .0 .0) (g .0 .1 .0) (g .1)
 
 loop-less-2 : tie.Need-loop-less-2 Inv-loop μ-loop
 loop-less-2 c = omega arith

@@ -31,7 +31,9 @@ cast-t24 : tie.Need-cast-t24
 cast-t24 c = search needs
 
 returns : tie.Need-returns
-returns c = (event-misshapen _ _ _ _ _ (rest-part (c .before .before .before .before .before .args .events .now) (c .before .before .before .before .before .args .i * 5)) (sym (c .before .is-shape .ensures) ∙ not-true _ (c .if1 .taken)), c .before .before .before .before .before .pre .1)
+returns c =
+    let start = c .before .before .before .before .before in
+    (event-misshapen _ _ _ _ _ (rest-part (start .args .events .now) (start .args .i * 5)) (sym (c .before .is-shape .ensures) ∙ not-true _ (c .if1 .taken)), start .pre .1)
 
 shared-slice-read-wide : tie.Need-shared-slice-read-wide
 shared-slice-read-wide c = search needs
@@ -49,22 +51,55 @@ add-end : tie.Need-add-end
 add-end c = omega (arith, c .before .before .before .shared-slice-known3 .given 3, c .before .shared-slice-known4 .given 4)
 
 returns-2 : tie.Need-returns-2
-returns-2 c = (event-known _ _ _ _ _ (rest-part (c .before .before .before .before .before .before .before .before .before .before .before .before .args .events .now) (c .before .before .before .before .before .before .before .before .before .before .before .before .args .i * 5)) (sym (c .before .before .before .before .before .before .before .before .is-shape .ensures) ∙ not-false _ (c .before .before .before .before .before .before .before .if1 .left)) _ _ (c .before .before .before .before .before .wide .ensures) (c .before .before .before .wide2 .ensures) _ _ (c .before .before .before .before .before .before .before .before .before .before .before .before .pre .1) (c .if2 .taken), c .before .before .before .before .before .before .before .before .before .before .before .before .pre .1)
+returns-2 c =
+    let start = c .before .before .before .before .before .before .before .before .before .before .before .before in
+    let is-shape = c .before .before .before .before .before .before .before .before .is-shape in
+    let if1 = c .before .before .before .before .before .before .before .if1 in
+    let wide = c .before .before .before .before .before .wide in (
+      event-known _ _ _ _ _ (rest-part (start .args .events .now) (start .args .i * 5)) (sym (is-shape .ensures) ∙ not-false _ (if1 .left))
+          _ _ (wide .ensures) (c .before .before .before .wide2 .ensures) _ _ (start .pre .1) (c .if2 .taken),
+      start .pre .1,
+    )
 
 first-bad-requires : tie.Need-first-bad-requires
-first-bad-requires c κs = let r = shape-room _ _ _ _ _ (sym (c .before .before .before .before .before .before .before .before .is-shape .ensures) ∙ not-false _ (c .before .before .before .before .before .before .before .if1 .left)) (c .before .before .before .before .before .wide .ensures) (c .before .before .before .wide2 .ensures) (has-attributes _ _ (c .if2 .left)) in omega arith
+first-bad-requires c κs =
+    let is-shape = c .before .before .before .before .before .before .before .before .is-shape in
+    let if1 = c .before .before .before .before .before .before .before .if1 in
+    let wide = c .before .before .before .before .before .wide in
+    let r = shape-room _ _ _ _ _ (sym (is-shape .ensures) ∙ not-false _ (if1 .left)) (wide .ensures) (c .before .before .before .wide2 .ensures) (has-attributes _ _ (c .if2 .left)) in omega arith
 
 cast-t31 : tie.Need-cast-t31
 cast-t31 c = search needs
 
 cast-t32 : tie.Need-cast-t32
-cast-t32 c = let r = shape-room _ _ _ _ _ (sym (c .before .before .before .before .before .before .before .before .before .before .is-shape .ensures) ∙ not-false _ (c .before .before .before .before .before .before .before .before .before .if1 .left)) (c .before .before .before .before .before .before .before .wide .ensures) (c .before .before .before .before .before .wide2 .ensures) (has-attributes _ _ (c .before .before .if2 .left)) in omega arith
+cast-t32 c =
+    let is-shape = c .before .before .before .before .before .before .before .before .before .before .is-shape in
+    let if1 = c .before .before .before .before .before .before .before .before .before .if1 in
+    let wide = c .before .before .before .before .before .before .before .wide in
+    let wide2 = c .before .before .before .before .before .wide2 in
+    let r = shape-room _ _ _ _ _ (sym (is-shape .ensures) ∙ not-false _ (if1 .left)) (wide .ensures) (wide2 .ensures) (has-attributes _ _ (c .before .before .if2 .left)) in omega arith
 
 returns-3 : tie.Need-returns-3
-returns-3 c = (event-hit _ _ _ _ _ (rest-part (c .before .before .before .before .before .before .before .before .before .before .before .before .before .before .args .events .now) (c .before .before .before .before .before .before .before .before .before .before .before .before .before .before .args .i * 5)) (sym (c .before .before .before .before .before .before .before .before .before .before .is-shape .ensures) ∙ not-false _ (c .before .before .before .before .before .before .before .before .before .if1 .left)) _ _ (c .before .before .before .before .before .before .before .wide .ensures) (c .before .before .before .before .before .wide2 .ensures) _ (c .before .first-bad .ensures) (c .if3 .taken), c .before .before .before .before .before .before .before .before .before .before .before .before .before .before .pre .1)
+returns-3 c =
+    let start = c .before .before .before .before .before .before .before .before .before .before .before .before .before .before in
+    let is-shape = c .before .before .before .before .before .before .before .before .before .before .is-shape in
+    let if1 = c .before .before .before .before .before .before .before .before .before .if1 in
+    let wide = c .before .before .before .before .before .before .before .wide in
+    let wide2 = c .before .before .before .before .before .wide2 in (
+      event-hit _ _ _ _ _ (rest-part (start .args .events .now) (start .args .i * 5)) (sym (is-shape .ensures) ∙ not-false _ (if1 .left))
+          _ _ (wide .ensures) (wide2 .ensures) _ (c .before .first-bad .ensures) (c .if3 .taken),
+      start .pre .1,
+    )
 
 returns-4 : tie.Need-returns-4
-returns-4 c = event-clear _ _ _ _ _ (rest-part (c .before .before .before .before .before .before .before .before .before .before .before .before .before .before .args .events .now) (c .before .before .before .before .before .before .before .before .before .before .before .before .before .before .args .i * 5)) (sym (c .before .before .before .before .before .before .before .before .before .before .is-shape .ensures) ∙ not-false _ (c .before .before .before .before .before .before .before .before .before .if1 .left)) _ _ (c .before .before .before .before .before .before .before .wide .ensures) (c .before .before .before .before .before .wide2 .ensures) _ (c .before .first-bad .ensures) (c .if3 .left)
+returns-4 c =
+    let args = c .before .before .before .before .before .before .before .before .before .before .before .before .before .before .args in
+    let is-shape = c .before .before .before .before .before .before .before .before .before .before .is-shape in
+    let if1 = c .before .before .before .before .before .before .before .before .before .if1 in
+    let wide = c .before .before .before .before .before .before .before .wide in
+    let wide2 = c .before .before .before .before .before .wide2 in
+    event-clear _ _ _ _ _ (rest-part (args .events .now) (args .i * 5)) (sym (is-shape .ensures) ∙ not-false _ (if1 .left))
+    _ _ (wide .ensures) (wide2 .ensures) _ (c .before .first-bad .ensures) (c .if3 .left)
 
 pub check-event-spec : {M : Type 1} → statement M
 check-event-spec =

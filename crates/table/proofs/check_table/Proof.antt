@@ -38,13 +38,22 @@ loop-less : tie.Need-loop-less Inv-loop μ-loop
 loop-less c = omega arith
 
 loop-again : tie.Need-loop-again Inv-loop μ-loop
-loop-again c = (walking-more (c .before .before .before .before .before .loop .inv .0) (c .before .before .before .before .loop-test .taken) (sym (c .enum-told .given .1) ∙ c .before .before .before .check-event .ensures .0), c .before .before .before .check-event .ensures .1)
+loop-again c =
+    let loop = c .before .before .before .before .before .loop in
+    let loop-test = c .before .before .before .before .loop-test in
+    (walking-more (loop .inv .0) (loop-test .taken) (sym (c .enum-told .given .1) ∙ c .before .before .before .check-event .ensures .0), c .before .before .before .check-event .ensures .1)
 
 enum-known-found : tie.Need-enum-known-found Inv-loop μ-loop
 enum-known-found c = search needs
 
 returns-2 : tie.Need-returns-2 Inv-loop μ-loop
-returns-2 c = table-sized _ _ _ (sym (c .before .before .before .before .before .before .before .before .is-sized .ensures) ∙ not-false _ (c .before .before .before .before .before .before .before .if1 .left)) _ (walking-hit (c .before .before .before .before .before .before .loop .inv .0) (c .before .before .before .before .before .loop-test .taken) _ _ (sym (c .before .found .given .1) ∙ c .before .before .before .before .check-event .ensures .0))
+returns-2 c =
+    let is-sized = c .before .before .before .before .before .before .before .before .is-sized in
+    let if1 = c .before .before .before .before .before .before .before .if1 in
+    let loop = c .before .before .before .before .before .before .loop in
+    let loop-test = c .before .before .before .before .before .loop-test in
+    let check-event = c .before .before .before .before .check-event in
+    table-sized _ _ _ (sym (is-sized .ensures) ∙ not-false _ (if1 .left)) _ (walking-hit (loop .inv .0) (loop-test .taken) _ _ (sym (c .before .found .given .1) ∙ check-event .ensures .0))
 
 returns-3 : tie.Need-returns-3 Inv-loop μ-loop
 returns-3 c = table-sized _ _ _ (sym (c .before .before .before .is-sized .ensures) ∙ not-false _ (c .before .before .if1 .left)) _ (walking-done (c .before .loop .inv .0) (c .loop-test .left))

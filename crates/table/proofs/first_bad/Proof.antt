@@ -39,10 +39,14 @@ loop-less : tie.Need-loop-less Inv-loop μ-loop
 loop-less c = omega arith
 
 loop-again : tie.Need-loop-again Inv-loop μ-loop
-loop-again c = scanning-more (c .before .before .before .before .loop .inv) (c .before .before .before .loop-test .taken) (attribute-lent _ _ (c .before .before .before .before .loop .j) (c .before .is-attribute .ensures) (c .if1 .taken))
+loop-again c =
+    let loop = c .before .before .before .before .loop in
+    scanning-more (loop .inv) (c .before .before .before .loop-test .taken) (attribute-lent _ _ (loop .j) (c .before .is-attribute .ensures) (c .if1 .taken))
 
 returns : tie.Need-returns Inv-loop μ-loop
-returns c = scanning-hit (c .before .before .before .before .loop .inv) (c .before .before .before .loop-test .taken) (attribute-lent _ _ (c .before .before .before .before .loop .j) (c .before .is-attribute .ensures) (c .if1 .left))
+returns c =
+    let loop = c .before .before .before .before .loop in
+    scanning-hit (loop .inv) (c .before .before .before .loop-test .taken) (attribute-lent _ _ (loop .j) (c .before .is-attribute .ensures) (c .if1 .left))
 
 returns-2 : tie.Need-returns-2 Inv-loop μ-loop
 returns-2 c = scanning-done (c .before .loop .inv) (c .loop-test .left)

@@ -33,7 +33,9 @@ is-within-requires-2 c κs = search needs
 
 returns : tie.Need-returns
 unfolding goodShape
-returns c = rw (c .before .before .before .before .before .is-within .ensures, c .is-within2 .ensures) refl
+returns c =
+    let is-within = c .before .before .before .before .before .is-within in
+    rw (is-within .ensures, c .is-within2 .ensures) refl
 
 pub is-shape-spec : {M : Type 1} → statement M
 is-shape-spec =

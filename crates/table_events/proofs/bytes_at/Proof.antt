@@ -23,7 +23,12 @@ bytes-of-requires : tie.Need-bytes-of-requires
 bytes-of-requires c κs = search needs
 
 returns : tie.Need-returns
-returns c = c .bytes-of .ensures ∙ bytes-lent (c .before .before .before .before .before .before .before .before .args .events .now) (c .before .before .before .before .before .before .before .before .args .i) (c .before .before .before .before .before .words-at .result .now) (c .before .before .before .before .before .words-at .ensures) (c .before .before .before .before .before .before .before .before .args .source .now) (c .before .before .before .wide .result) (c .before .wide2 .result) (c .before .before .before .wide .ensures ∙ c .before .before .before .before .word-of .ensures) (c .before .wide2 .ensures ∙ c .before .before .word-of2 .ensures)
+returns c =
+    let args = c .before .before .before .before .before .before .before .before .args in
+    let words-at = c .before .before .before .before .before .words-at in
+    let word-of = c .before .before .before .before .word-of in
+    c .bytes-of .ensures ∙ bytes-lent (args .events .now) (args .i) (words-at .result .now) (words-at .ensures) (args .source .now) (c .before .before .before .wide .result)
+    (c .before .wide2 .result) (c .before .before .before .wide .ensures ∙ word-of .ensures) (c .before .wide2 .ensures ∙ c .before .before .word-of2 .ensures)
 
 pub bytes-at-spec : {M : Type 1} → statement M
 bytes-at-spec =

@@ -13,7 +13,8 @@ returns : tie.Need-returns
 returns c = simp (c .if1 .taken)
 
 sub-result : tie.Need-sub-result
-sub-result c = let args = c .before .before .args in let p = and-eq-true-iff (args .own && eqb (args .kind) 2) (ltb 0 (args .depth)) .0 (c .if2 .taken) in omega (arith, ltb-true 0 (args .depth) (p .1))
+sub-result c =
+    let args = c .before .before .args in let p = and-eq-true-iff (args .own && eqb (args .kind) 2) (ltb 0 (args .depth)) .0 (c .if2 .taken) in omega (arith, ltb-true 0 (args .depth) (p .1))
 
 returns-2 : tie.Need-returns-2
 returns-2 c = simp (c .before .if1 .left, c .if2 .taken)

@@ -11,7 +11,9 @@ word-of-requires : tie.Need-word-of-requires
 word-of-requires c κs = search needs
 
 returns : tie.Need-returns
-returns c = end-none (c .before .before .before .before .args .events .now) (c .before .before .before .before .args .i) (c .before .before .words-at .result .now) (c .before .before .words-at .ensures) (sym (c .before .word-of .ensures) ∙ c .if1 .taken)
+returns c =
+    let args = c .before .before .before .before .args in
+    end-none (args .events .now) (args .i) (c .before .before .words-at .result .now) (c .before .before .words-at .ensures) (sym (c .before .word-of .ensures) ∙ c .if1 .taken)
 
 word-of-requires-2 : tie.Need-word-of-requires-2
 word-of-requires-2 c κs = search needs
@@ -26,7 +28,12 @@ add-result : tie.Need-add-result
 add-result c = search needs
 
 returns-2 : tie.Need-returns-2
-returns-2 c = end-some (c .before .before .before .before .before .before .before .args .events .now) (c .before .before .before .before .before .before .before .args .i) (c .before .before .before .before .before .words-at .result .now) (c .before .before .before .before .before .words-at .ensures) (λ z. c .before .before .before .if1 .left (c .before .before .before .before .word-of .ensures ∙ z)) (c .before .wide .result) (c .wide2 .result) (c .before .wide .ensures ∙ c .before .before .word-of2 .ensures) (c .wide2 .ensures ∙ c .before .before .before .before .word-of .ensures)
+returns-2 c =
+    let args = c .before .before .before .before .before .before .before .args in
+    let words-at = c .before .before .before .before .before .words-at in
+    let word-of = c .before .before .before .before .word-of in
+    end-some (args .events .now) (args .i) (words-at .result .now) (words-at .ensures) (λ z. c .before .before .before .if1 .left (word-of .ensures ∙ z))
+    (c .before .wide .result) (c .wide2 .result) (c .before .wide .ensures ∙ c .before .before .word-of2 .ensures) (c .wide2 .ensures ∙ word-of .ensures)
 
 pub end-at-spec : {M : Type 1} → statement M
 end-at-spec =

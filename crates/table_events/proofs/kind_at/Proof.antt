@@ -14,7 +14,9 @@ word-of-requires : tie.Need-word-of-requires
 word-of-requires c κs = search needs
 
 returns-2 : tie.Need-returns-2
-returns-2 c = c .word-of .ensures ∙ kind-in (c .before .before .before .before .args .events .now) (c .before .before .before .before .args .i) (c .before .words-at .result .now) (c .before .words-at .ensures) (c .before .before .if1 .left)
+returns-2 c =
+    let args = c .before .before .before .before .args in
+    c .word-of .ensures ∙ kind-in (args .events .now) (args .i) (c .before .words-at .result .now) (c .before .words-at .ensures) (c .before .before .if1 .left)
 
 pub kind-at-spec : {M : Type 1} → statement M
 kind-at-spec = tie.close (tie.spec returns words-at-requires word-of-requires returns-2)

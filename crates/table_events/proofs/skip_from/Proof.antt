@@ -34,13 +34,27 @@ same-requires : tie.Need-same-requires Inv-loop μ-loop
 same-requires c κs = search needs
 
 depth-after-requires : tie.Need-depth-after-requires Inv-loop μ-loop
-depth-after-requires c κs = let h = skipping-in (c .before .before .before .before .before .before .loop .inv) _ (c .before .before .before .before .before .kind-at .ensures) (c .before .before .before .before .if1 .left) in let d = c .before .before .before .before .before .before .loop .inv .deep in omega arith
+depth-after-requires c κs =
+    let loop = c .before .before .before .before .before .before .loop in
+    let kind-at = c .before .before .before .before .before .kind-at in
+    let if1 = c .before .before .before .before .if1 in
+    let h = skipping-in (loop .inv) _ (kind-at .ensures) (if1 .left) in let d = loop .inv .deep in omega arith
 
 loop-less : tie.Need-loop-less Inv-loop μ-loop
-loop-less c = let h = skipping-in (c .before .before .before .before .before .before .before .loop .inv) _ (c .before .before .before .before .before .before .kind-at .ensures) (c .before .before .before .before .before .if1 .left) in omega arith
+loop-less c =
+    let loop = c .before .before .before .before .before .before .before .loop in
+    let kind-at = c .before .before .before .before .before .before .kind-at in
+    let if1 = c .before .before .before .before .before .if1 in
+    let h = skipping-in (loop .inv) _ (kind-at .ensures) (if1 .left) in omega arith
 
 loop-again : tie.Need-loop-again Inv-loop μ-loop
-loop-again c = skipping-more (c .before .before .before .before .before .before .before .loop .inv) _ (c .before .before .before .before .before .before .kind-at .ensures) (c .before .before .before .before .before .if1 .left) _ (c .before .before .before .bytes-at2 .ensures) _ (c .before .before .same .ensures) (c .before .before .before .before .if2 .left) (c .before .if3 .left) _ (c .depth-after .ensures)
+loop-again c =
+    let loop = c .before .before .before .before .before .before .before .loop in
+    let kind-at = c .before .before .before .before .before .before .kind-at in
+    let if1 = c .before .before .before .before .before .if1 in
+    let if2 = c .before .before .before .before .if2 in
+    skipping-more (loop .inv) _ (kind-at .ensures) (if1 .left) _ (c .before .before .before .bytes-at2 .ensures)
+    _ (c .before .before .same .ensures) (if2 .left) (c .before .if3 .left) _ (c .depth-after .ensures)
 
 returns : tie.Need-returns Inv-loop μ-loop
 returns c = skipping-eof (c .before .before .loop .inv) _ (c .before .kind-at .ensures) (c .if1 .taken)
@@ -49,7 +63,11 @@ returns-2 : tie.Need-returns-2 Inv-loop μ-loop
 returns-2 c = skipping-fault (c .before .before .before .loop .inv) _ (c .before .before .kind-at .ensures) (c .before .if1 .left) (c .if2 .taken)
 
 returns-3 : tie.Need-returns-3 Inv-loop μ-loop
-returns-3 c = skipping-ends (c .before .before .before .before .before .before .loop .inv) _ (c .before .before .before .before .before .kind-at .ensures) (c .before .before .before .before .if1 .left) _ (c .before .before .bytes-at2 .ensures) _ (c .before .same .ensures) (c .if3 .taken)
+returns-3 c =
+    let loop = c .before .before .before .before .before .before .loop in
+    let kind-at = c .before .before .before .before .before .kind-at in
+    let if1 = c .before .before .before .before .if1 in
+    skipping-ends (loop .inv) _ (kind-at .ensures) (if1 .left) _ (c .before .before .bytes-at2 .ensures) _ (c .before .same .ensures) (c .if3 .taken)
 
 pub skip-from-spec : {M : Type 1} → statement M
 skip-from-spec =

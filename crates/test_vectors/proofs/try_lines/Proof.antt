@@ -36,22 +36,37 @@ first-at-requires : tie.Need-first-at-requires Inv-loop μ-loop
 first-at-requires c κs = search needs
 
 slice-aggregate-try-line : tie.Need-slice-aggregate-try-line Inv-loop μ-loop
-slice-aggregate-try-line c = sym (length-take-le _ _ (omega (arith, c .before .first-at .ensures, within (c .before .before .before .before .before .before .args .s .now) (c .before .before .before .before .loop .at))))
+slice-aggregate-try-line c =
+    let args = c .before .before .before .before .before .before .args in
+    let loop = c .before .before .before .before .loop in
+    sym (length-take-le _ _ (omega (arith, c .before .first-at .ensures, within (args .s .now) (loop .at))))
 
 try-line-requires : tie.Need-try-line-requires Inv-loop μ-loop
 try-line-requires c κs = search needs
 
 add-at : tie.Need-add-at Inv-loop μ-loop
-add-at c = omega (arith, c .before .before .first-at .ensures, simp (length-take, length-drop) at (within (c .before .before .before .before .before .before .before .args .s .now) (c .before .before .before .before .before .loop .at)))
+add-at c =
+    let args = c .before .before .before .before .before .before .before .args in
+    let loop = c .before .before .before .before .before .loop in
+    omega (arith, c .before .before .first-at .ensures, simp (length-take, length-drop) at (within (args .s .now) (loop .at)))
 
 add-at-2 : tie.Need-add-at-2 Inv-loop μ-loop
-add-at-2 c = omega (arith, c .before .before .first-at .ensures, simp (length-take, length-drop) at (within (c .before .before .before .before .before .before .before .args .s .now) (c .before .before .before .before .before .loop .at)))
+add-at-2 c =
+    let args = c .before .before .before .before .before .before .before .args in
+    let loop = c .before .before .before .before .before .loop in
+    omega (arith, c .before .before .first-at .ensures, simp (length-take, length-drop) at (within (args .s .now) (loop .at)))
 
 loop-less : tie.Need-loop-less Inv-loop μ-loop
-loop-less c = omega (arith, c .before .before .first-at .ensures, simp (length-take, length-drop) at (within (c .before .before .before .before .before .before .before .args .s .now) (c .before .before .before .before .before .loop .at)))
+loop-less c =
+    let args = c .before .before .before .before .before .before .before .args in
+    let loop = c .before .before .before .before .before .loop in
+    omega (arith, c .before .before .first-at .ensures, simp (length-take, length-drop) at (within (args .s .now) (loop .at)))
 
 loop-again : tie.Need-loop-again Inv-loop μ-loop
-loop-again c = omega (arith, c .before .before .first-at .ensures, simp (length-take, length-drop) at (within (c .before .before .before .before .before .before .before .args .s .now) (c .before .before .before .before .before .loop .at)))
+loop-again c =
+    let args = c .before .before .before .before .before .before .before .args in
+    let loop = c .before .before .before .before .before .loop in
+    omega (arith, c .before .before .first-at .ensures, simp (length-take, length-drop) at (within (args .s .now) (loop .at)))
 
 returns : tie.Need-returns Inv-loop μ-loop
 returns c = search needs

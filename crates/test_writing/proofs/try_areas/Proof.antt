@@ -11,19 +11,25 @@ array-borrow-prefix-events : tie.Need-array-borrow-prefix-events
 array-borrow-prefix-events c = search needs
 
 slice-aggregate-try-write-2 : tie.Need-slice-aggregate-try-write-2
-slice-aggregate-try-write-2 c = sym (length-take-le _ _ (c .before .before .before .before .pre .0))
+slice-aggregate-try-write-2 c =
+    let pre = c .before .before .before .before .pre in
+    sym (length-take-le _ _ (pre .0))
 
 array-borrow-prefix-attributes : tie.Need-array-borrow-prefix-attributes
 array-borrow-prefix-attributes c = search needs
 
 slice-aggregate-try-write-3 : tie.Need-slice-aggregate-try-write-3
-slice-aggregate-try-write-3 c = sym (length-take-le _ _ (c .before .before .before .before .before .pre .1))
+slice-aggregate-try-write-3 c =
+    let pre = c .before .before .before .before .before .pre in
+    sym (length-take-le _ _ (pre .1))
 
 array-borrow-prefix-bytes : tie.Need-array-borrow-prefix-bytes
 array-borrow-prefix-bytes c = search needs
 
 slice-aggregate-try-write-4 : tie.Need-slice-aggregate-try-write-4
-slice-aggregate-try-write-4 c = sym (length-take-le _ _ (c .before .before .before .before .before .before .pre .2))
+slice-aggregate-try-write-4 c =
+    let pre = c .before .before .before .before .before .before .pre in
+    sym (length-take-le _ _ (pre .2))
 
 try-write-requires : tie.Need-try-write-requires
 try-write-requires c κs = search needs

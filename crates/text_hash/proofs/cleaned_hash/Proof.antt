@@ -33,13 +33,25 @@ hash-piece-requires : tie.Need-hash-piece-requires Inv-loop μ-loop
 hash-piece-requires c κs = (c .before .before .before .loop .inv .small, c .piece-of .ensures .fits)
 
 add-i : tie.Need-add-i Inv-loop μ-loop
-add-i c = omega (arith, piece-fits true (c .before .before .before .before .before .before .before .args .key .now) (c .before .before .before .before .before .loop .i) (c .before .before .before .before .loop-test .taken) (c .before .before .piece-of .result) (c .before .before .piece-of .ensures), c .before .before .before .before .before .before .before .good)
+add-i c =
+    let args = c .before .before .before .before .before .before .before .args in
+    let good = c .before .before .before .before .before .before .before .good in
+    let loop = c .before .before .before .before .before .loop in
+    let loop-test = c .before .before .before .before .loop-test in
+    omega (arith, piece-fits true (args .key .now) (loop .i) (loop-test .taken) (c .before .before .piece-of .result) (c .before .before .piece-of .ensures), good)
 
 loop-less : tie.Need-loop-less Inv-loop μ-loop
-loop-less c = omega (arith, piece-moves true (c .before .before .before .before .before .before .before .args .key .now) (c .before .before .before .before .before .loop .i) (c .before .before .before .before .loop-test .taken) (c .before .before .piece-of .result) (c .before .before .piece-of .ensures), c .before .before .before .before .loop-test .taken)
+loop-less c =
+    let args = c .before .before .before .before .before .before .before .args in
+    let loop = c .before .before .before .before .before .loop in
+    let loop-test = c .before .before .before .before .loop-test in
+    omega (arith, piece-moves true (args .key .now) (loop .i) (loop-test .taken) (c .before .before .piece-of .result) (c .before .before .piece-of .ensures), loop-test .taken)
 
 loop-again : tie.Need-loop-again Inv-loop μ-loop
-loop-again c = cleaning-more (c .before .before .before .before .before .loop .inv) (c .before .before .before .before .loop-test .taken) (c .before .before .piece-of .result) (c .before .before .piece-of .ensures) (c .before .hash-piece .ensures)
+loop-again c =
+    let loop = c .before .before .before .before .before .loop in
+    let loop-test = c .before .before .before .before .loop-test in
+    cleaning-more (loop .inv) (loop-test .taken) (c .before .before .piece-of .result) (c .before .before .piece-of .ensures) (c .before .hash-piece .ensures)
 
 returns : tie.Need-returns Inv-loop μ-loop
 returns c = cleaning-done (c .before .loop .inv) (c .loop-test .left)

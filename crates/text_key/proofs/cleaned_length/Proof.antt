@@ -30,16 +30,30 @@ piece-of-requires : tie.Need-piece-of-requires Inv-loop μ-loop
 piece-of-requires c κs = search needs
 
 add-k : tie.Need-add-k Inv-loop μ-loop
-add-k c = omega (arith, counting-within (c .before .before .before .before .loop .inv) (c .before .before .before .loop-test .taken) (c .before .piece-of .result) (c .before .piece-of .ensures), c .before .before .before .before .before .before .good)
+add-k c =
+    let good = c .before .before .before .before .before .before .good in
+    let loop = c .before .before .before .before .loop in
+    omega (arith, counting-within (loop .inv) (c .before .before .before .loop-test .taken) (c .before .piece-of .result) (c .before .piece-of .ensures), good)
 
 add-i : tie.Need-add-i Inv-loop μ-loop
-add-i c = omega (arith, counting-more (c .before .before .before .before .before .loop .inv) (c .before .before .before .before .loop-test .taken) (c .before .before .piece-of .result) (c .before .before .piece-of .ensures) .within, c .before .before .before .before .before .before .before .good)
+add-i c =
+    let good = c .before .before .before .before .before .before .before .good in
+    let loop = c .before .before .before .before .before .loop in
+    let loop-test = c .before .before .before .before .loop-test in
+    omega (arith, counting-more (loop .inv) (loop-test .taken) (c .before .before .piece-of .result) (c .before .before .piece-of .ensures) .within, good)
 
 loop-less : tie.Need-loop-less Inv-loop μ-loop
-loop-less c = omega (arith, piece-moves true (c .before .before .before .before .before .before .before .args .key .now) (c .before .before .before .before .before .loop .i) (c .before .before .before .before .loop-test .taken) (c .before .before .piece-of .result) (c .before .before .piece-of .ensures), c .before .before .before .before .loop-test .taken)
+loop-less c =
+    let args = c .before .before .before .before .before .before .before .args in
+    let loop = c .before .before .before .before .before .loop in
+    let loop-test = c .before .before .before .before .loop-test in
+    omega (arith, piece-moves true (args .key .now) (loop .i) (loop-test .taken) (c .before .before .piece-of .result) (c .before .before .piece-of .ensures), loop-test .taken)
 
 loop-again : tie.Need-loop-again Inv-loop μ-loop
-loop-again c = counting-more (c .before .before .before .before .before .loop .inv) (c .before .before .before .before .loop-test .taken) (c .before .before .piece-of .result) (c .before .before .piece-of .ensures)
+loop-again c =
+    let loop = c .before .before .before .before .before .loop in
+    let loop-test = c .before .before .before .before .loop-test in
+    counting-more (loop .inv) (loop-test .taken) (c .before .before .piece-of .result) (c .before .before .piece-of .ensures)
 
 returns : tie.Need-returns Inv-loop μ-loop
 returns c = counting-done (c .before .loop .inv) (c .loop-test .left)

@@ -35,31 +35,41 @@ stands-at-requires c κs = (c .before .before .before .loop .inv .fits, c .piece
 
 returns : tie.Need-returns Inv-loop μ-loop
 returns c =
+    let loop = c .before .before .before .before .before .loop in
+    let loop-test = c .before .before .before .before .loop-test in
     let p = c .before .before .piece-of in
     let t = c .before .stands-at in
-    matching-other (c .before .before .before .before .before .loop .inv) (c .before .before .before .before .loop-test .taken) (p .result) (p .ensures) (t .result) (t .ensures) (not-true _ (c .if1 .taken))
+    matching-other (loop .inv) (loop-test .taken) (p .result) (p .ensures) (t .result) (t .ensures) (not-true _ (c .if1 .taken))
 
 add-k : tie.Need-add-k Inv-loop μ-loop
 add-k c =
+    let good = c .before .before .before .before .before .before .before .before .before .good in
+    let loop = c .before .before .before .before .before .before .loop in
+    let loop-test = c .before .before .before .before .before .loop-test in
     let p = c .before .before .before .piece-of in
     let t = c .before .before .stands-at in
-    let m = matching-more (c .before .before .before .before .before .before .loop .inv) (c .before .before .before .before .before .loop-test .taken) (p .result) (p .ensures) (t .result) (t .ensures) (not-false _ (c .before .if1 .left)) in omega (arith, m .fits, c .before .before .before .before .before .before .before .before .before .good)
+    let m = matching-more (loop .inv) (loop-test .taken) (p .result) (p .ensures) (t .result) (t .ensures) (not-false _ (c .before .if1 .left)) in omega (arith, m .fits, good)
 
 loop-again : tie.Need-loop-again Inv-loop μ-loop
 loop-again c =
+    let loop = c .before .before .before .before .before .before .before .loop in
+    let loop-test = c .before .before .before .before .before .before .loop-test in
     let p = c .before .before .before .before .piece-of in
     let t = c .before .before .before .stands-at in
-    matching-more (c .before .before .before .before .before .before .before .loop .inv) (c .before .before .before .before .before .before .loop-test .taken) (p .result) (p .ensures) (t .result) (t .ensures) (not-false _ (c .before .before .if1 .left))
+    matching-more (loop .inv) (loop-test .taken) (p .result) (p .ensures) (t .result) (t .ensures) (not-false _ (c .before .before .if1 .left))
 
 add-i : tie.Need-add-i Inv-loop μ-loop
-add-i c = omega (arith, loop-again c .within, c .before .before .before .before .before .before .before .before .before .before .good)
+add-i c =
+    let good = c .before .before .before .before .before .before .before .before .before .before .good in
+    omega (arith, loop-again c .within, good)
 
 loop-less : tie.Need-loop-less Inv-loop μ-loop
 loop-less c =
+    let loop-test = c .before .before .before .before .before .before .loop-test in
     let a = c .before .before .before .before .before .before .before .before .before .before .args in
     let p = c .before .before .before .before .piece-of in
     let l = c .before .before .before .before .before .before .before .loop in
-    omega (arith, piece-moves true (a .raw .now) (l .i) (c .before .before .before .before .before .before .loop-test .taken) (p .result) (p .ensures), c .before .before .before .before .before .before .loop-test .taken)
+    omega (arith, piece-moves true (a .raw .now) (l .i) (loop-test .taken) (p .result) (p .ensures), loop-test .taken)
 
 returns-2 : tie.Need-returns-2 Inv-loop μ-loop
 returns-2 c = matching-done (c .before .loop .inv) (c .loop-test .left)

@@ -32,7 +32,9 @@ array-share-prefix-bytes : tie.Need-array-share-prefix-bytes
 array-share-prefix-bytes c = search needs
 
 slice-aggregate-same : tie.Need-slice-aggregate-same
-slice-aggregate-same c = sym (length-take-le _ _ (c .before .before .before .before .before .pre .1))
+slice-aggregate-same c =
+    let pre = c .before .before .before .before .before .pre in
+    sym (length-take-le _ _ (pre .1))
 
 same-requires : tie.Need-same-requires
 same-requires c κs = search needs

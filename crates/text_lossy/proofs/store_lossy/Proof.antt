@@ -63,38 +63,56 @@ enum-told c = search needs
 
 returns : tie.Need-returns Inv-loop μ-loop
 returns c =
+    let args = c .before .before .before .before .before .before .before .before .before .before .before .before .before .args in
+    let loop = c .before .before .before .before .before .before .before .before .before .before .loop in
+    let loop-test = c .before .before .before .before .before .before .before .before .before .loop-test in
     let p = c .before .before .before .before .before .before .before .part-of in
     let q = c .before .before .before .before .store-part in
-    part-full (c .before .before .before .before .before .before .before .before .before .before .before .before .before .args .s .now) (c .before .before .before .before .before .before .before .before .before .before .loop .i) (c .before .before .before .before .before .before .before .before .before .loop-test .taken) (p .result) (p .ensures) filtered filtered-append cause.TextFull (c .before .before .before .before .before .before .before .before .before .before .loop .inv .1) _ _ (q .ensures .0) (q .ensures .1) (c .enum-told .given .1)
+    part-full (args .s .now) (loop .i) (loop-test .taken) (p .result) (p .ensures) filtered filtered-append cause.TextFull (loop .inv .1) _ _ (q .ensures .0) (q .ensures .1) (c .enum-told .given .1)
 
 same-length : tie.Need-same-length Inv-loop μ-loop
-same-length c = let a = c .before .before .before .before .before .before .before .before .before .before .before .before .before .args in ap length (returns c .1) ∙ length-laid (a .out .now) (lossyText (a .s .now))
+same-length c = let a = c .before .before .before .before .before .before .before .before .before .before .before .before .before .args in
+    ap length (returns c .1) ∙ length-laid (a .out .now) (lossyText (a .s .now))
 
 add-k : tie.Need-add-k Inv-loop μ-loop
 add-k c =
+    let args = c .before .before .before .before .before .before .before .before .before .before .before .before .before .before .args in
+    let loop = c .before .before .before .before .before .before .before .before .before .before .before .loop in
+    let loop-test = c .before .before .before .before .before .before .before .before .before .before .loop-test in
     let p = c .before .before .before .before .before .before .before .before .part-of in
     let q = c .before .before .before .before .before .store-part in
-    let h = put-room (c .before .before .before .before .before .before .before .before .before .before .before .before .before .before .args .s .now) (c .before .before .before .before .before .before .before .before .before .before .before .loop .i) (c .before .before .before .before .before .before .before .before .before .before .loop-test .taken) (p .result) (p .ensures) filtered filtered-append cause.TextFull (c .before .before .before .before .before .before .before .before .before .before .before .loop .inv .1) _ _ (q .ensures .0) (q .ensures .1) _ (c .before .put .given .1) in
+    let h = put-room (args .s .now) (loop .i) (loop-test .taken) (p .result) (p .ensures) filtered filtered-append
+    cause.TextFull (loop .inv .1) _ _ (q .ensures .0) (q .ensures .1) _ (c .before .put .given .1) in
     omega arith
 
 add-i : tie.Need-add-i Inv-loop μ-loop
 add-i c =
+    let args = c .before .before .before .before .before .before .before .before .before .before .before .before .before .before .before .args in
+    let loop = c .before .before .before .before .before .before .before .before .before .before .before .before .loop in
+    let loop-test = c .before .before .before .before .before .before .before .before .before .before .before .loop-test in
     let p = c .before .before .before .before .before .before .before .before .before .part-of in
-    let h = part-fits (c .before .before .before .before .before .before .before .before .before .before .before .before .before .before .before .args .s .now) (c .before .before .before .before .before .before .before .before .before .before .before .before .loop .i) (c .before .before .before .before .before .before .before .before .before .before .before .loop-test .taken) (p .result) (p .ensures) in
+    let h = part-fits (args .s .now) (loop .i) (loop-test .taken) (p .result) (p .ensures) in
     omega arith
 
 loop-less : tie.Need-loop-less Inv-loop μ-loop
 loop-less c =
+    let args = c .before .before .before .before .before .before .before .before .before .before .before .before .before .before .before .args in
+    let loop = c .before .before .before .before .before .before .before .before .before .before .before .before .loop in
+    let loop-test = c .before .before .before .before .before .before .before .before .before .before .before .loop-test in
     let p = c .before .before .before .before .before .before .before .before .before .part-of in
-    let h = part-moves (c .before .before .before .before .before .before .before .before .before .before .before .before .before .before .before .args .s .now) (c .before .before .before .before .before .before .before .before .before .before .before .before .loop .i) (c .before .before .before .before .before .before .before .before .before .before .before .loop-test .taken) (p .result) (p .ensures) in
+    let h = part-moves (args .s .now) (loop .i) (loop-test .taken) (p .result) (p .ensures) in
     omega arith
 
 loop-again : tie.Need-loop-again Inv-loop μ-loop
 loop-again c =
+    let args = c .before .before .before .before .before .before .before .before .before .before .before .before .before .before .before .args in
+    let loop = c .before .before .before .before .before .before .before .before .before .before .before .before .loop in
+    let loop-test = c .before .before .before .before .before .before .before .before .before .before .before .loop-test in
     let p = c .before .before .before .before .before .before .before .before .before .part-of in
     let q = c .before .before .before .before .before .before .store-part in (
-      part-fits (c .before .before .before .before .before .before .before .before .before .before .before .before .before .before .before .args .s .now) (c .before .before .before .before .before .before .before .before .before .before .before .before .loop .i) (c .before .before .before .before .before .before .before .before .before .before .before .loop-test .taken) (p .result) (p .ensures),
-      part-put (c .before .before .before .before .before .before .before .before .before .before .before .before .before .before .before .args .s .now) (c .before .before .before .before .before .before .before .before .before .before .before .before .loop .i) (c .before .before .before .before .before .before .before .before .before .before .before .loop-test .taken) (p .result) (p .ensures) filtered filtered-append cause.TextFull (c .before .before .before .before .before .before .before .before .before .before .before .before .loop .inv .1) _ _ (q .ensures .0) (q .ensures .1) _ (c .before .before .put .given .1),
+      part-fits (args .s .now) (loop .i) (loop-test .taken) (p .result) (p .ensures),
+      part-put (args .s .now) (loop .i) (loop-test .taken) (p .result) (p .ensures) filtered filtered-append
+          cause.TextFull (loop .inv .1) _ _ (q .ensures .0) (q .ensures .1) _ (c .before .before .put .given .1),
     )
 
 same-length-2 : tie.Need-same-length-2 Inv-loop μ-loop

@@ -12,7 +12,9 @@ use Rattle.text_lossy.proofs.store_part.Tie as tie
 use Rattle.refusal.specs.declared.Cause.the-variants as cause
 
 slice-aggregate-store : tie.Need-slice-aggregate-store
-slice-aggregate-store c = sym (length-take-le _ _ (parted-fits _ _ (c .before .before .before .before .before .pre)))
+slice-aggregate-store c =
+    let pre = c .before .before .before .before .before .pre in
+    sym (length-take-le _ _ (parted-fits _ _ pre))
 
 store-requires : tie.Need-store-requires
 store-requires c κs = search needs
@@ -22,8 +24,10 @@ same-length c = search needs
 
 returns : tie.Need-returns
 returns c =
-    let a = c .before .before .before .before .before .before .before .before .args in
-    let q = filtered-whole (a .s .now) (a .p) (c .before .before .before .before .before .before .before .before .pre) (c .before .before .before .before .before .if1 .taken) in
+    let start = c .before .before .before .before .before .before .before .before in
+    let if1 = c .before .before .before .before .before .if1 in
+    let a = start .args in
+    let q = filtered-whole (a .s .now) (a .p) (start .pre) (if1 .taken) in
     let e = c .before .before .store .ensures in
     (e .0 ∙ ap (placing cause.TextFull (length (a .out .now))) q, e .1 ∙ ap (laid (a .out .now)) q)
 
@@ -35,8 +39,10 @@ same-length-2 c = search needs
 
 returns-2 : tie.Need-returns-2
 returns-2 c =
-    let a = c .before .before .before .before .before .before .before .args in
-    let q = filtered-bad (a .s .now) (a .p) (c .before .before .before .before .before .before .before .pre) (c .before .before .before .before .if1 .left) in
+    let start = c .before .before .before .before .before .before .before in
+    let if1 = c .before .before .before .before .if1 in
+    let a = start .args in
+    let q = filtered-bad (a .s .now) (a .p) (start .pre) (if1 .left) in
     let r = c .before .before .put-part in (
       other-area cause.OutputFull cause.TextFull (length (a .out .now)) (partText (a .s .now)) (r .result) (r .ensures .0) ∙ ap (placing cause.TextFull (length (a .out .now))) q,
       r .ensures .1 ∙ ap (laid (a .out .now)) q,

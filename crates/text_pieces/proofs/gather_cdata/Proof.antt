@@ -20,11 +20,13 @@ same-length c = search needs
 
 returns : tie.Need-returns
 returns c =
+    let if1 = c .before .before .before .before .before .if1 in
     let a = c .before .before .before .before .before .before .before .before .before .args in
     let p = c .before .before .before .copy-into in
     let k = c .kept-of in
     let u = c .before .before .before .before .before .before .is-utf8 in
-    kept-when cause.ScratchFull cause.OutputFull (a .out .now) (p .last .0) (a .s .now) (p .result) (k .result) (p .ensures .0) (k .ensures) _ (refuses cause.NotUtf8) (sym (u .ensures) ∙ c .before .before .before .before .before .if1 .taken) (p .ensures .1)
+    kept-when cause.ScratchFull cause.OutputFull (a .out .now) (p .last .0) (a .s .now) (p .result) (k .result)
+    (p .ensures .0) (k .ensures) _ (refuses cause.NotUtf8) (sym (u .ensures) ∙ if1 .taken) (p .ensures .1)
 
 returns-2 : tie.Need-returns-2
 returns-2 c = search needs

@@ -22,21 +22,29 @@ text s = writtenTime (s .args .secs) (s .args .nanos)
 
 -- ---- past the test: the seconds stand in the area, and the point has its place
 abbrev start : tie.Else1 → tie.Start
-start c = c .before .before .before .before .before .before .before .before .before .before
+start c =
+    let before-10 = c .before .before .before .before .before .before .before .before .before .before in
+    before-10
 
 abbrev ms : tie.Else1 → ℕ
-ms c = c .before .before .before .before .before .before .before .before .thousandths .result
+ms c =
+    let thousandths = c .before .before .before .before .before .before .before .before .thousandths in
+    thousandths .result
 
 abbrev k : tie.Else1 → ℕ
 k c = c .before .before .whole .given .0 .0
 
 abbrev o : tie.Else1 → List ℕ
-o c = set (c .before .before .before .before .before .before .write-decimal .last .0) (k c) 0x2E
+o c =
+    let write-decimal = c .before .before .before .before .before .before .write-decimal in
+    set (write-decimal .last .0) (k c) 0x2E
 
 laying : (c : tie.Else1) → Laying (out (start c)) (o c) (k c + 1) (text (start c)) (lastDigits 3 (ms c))
 laying c =
+    let thousandths = c .before .before .before .before .before .before .before .before .thousandths in
     let d = c .before .before .before .before .before .before .write-decimal in
-    laying-put (seconds-put (out (start c)) _ _ (c .before .before .before .before .before .before .before .before .thousandths .ensures) _ (d .ensures .1) _ (sym (ap (storedAnswer cause.OutputFull) (c .before .before .whole .given .1)) ∙ d .ensures .0)) (c .if1 .left)
+    laying-put (seconds-put (out (start c)) _ _ (thousandths .ensures) _ (d .ensures .1) _ (sym (ap (storedAnswer cause.OutputFull) (c .before .before .whole .given .1)) ∙ d .ensures .0))
+    (c .if1 .left)
 
 thousandths-requires : tie.Need-thousandths-requires
 thousandths-requires c κs = search needs
@@ -55,16 +63,21 @@ same-length c = search needs
 
 returns : tie.Need-returns
 returns c =
+    let before-8 = c .before .before .before .before .before .before .before .before in
+    let thousandths = c .before .before .before .before .before .before .thousandths in
     let d = c .before .before .before .before .write-decimal in
-    seconds-full (out (c .before .before .before .before .before .before .before .before)) _ _ (c .before .before .before .before .before .before .thousandths .ensures) _ (d .ensures .1) (sym (ap (storedAnswer cause.OutputFull) (c .enum-told .given .1)) ∙ d .ensures .0)
+    seconds-full (out before-8) _ _ (thousandths .ensures) _ (d .ensures .1) (sym (ap (storedAnswer cause.OutputFull) (c .enum-told .given .1)) ∙ d .ensures .0)
 
 same-length-2 : tie.Need-same-length-2
 same-length-2 c = search needs
 
 returns-2 : tie.Need-returns-2
 returns-2 c =
+    let before-10 = c .before .before .before .before .before .before .before .before .before .before in
+    let thousandths = c .before .before .before .before .before .before .before .before .thousandths in
     let d = c .before .before .before .before .before .before .write-decimal in
-    laying-full cause.OutputFull (seconds-put (out (c .before .before .before .before .before .before .before .before .before .before)) _ _ (c .before .before .before .before .before .before .before .before .thousandths .ensures) _ (d .ensures .1) _ (sym (ap (storedAnswer cause.OutputFull) (c .before .before .whole .given .1)) ∙ d .ensures .0)) (c .if1 .taken)
+    laying-full cause.OutputFull
+    (seconds-put (out before-10) _ _ (thousandths .ensures) _ (d .ensures .1) _ (sym (ap (storedAnswer cause.OutputFull) (c .before .before .whole .given .1)) ∙ d .ensures .0)) (c .if1 .taken)
 
 slice-write-out : tie.Need-slice-write-out
 slice-write-out c = search needs
@@ -97,7 +110,9 @@ returns-3 c =
     last-full _ (laying a) _ (d .ensures .1) (sym (ap (storedAnswer cause.OutputFull) (c .enum-told2 .given .1)) ∙ d .ensures .0)
 
 same-length-3 : tie.Need-same-length-3
-same-length-3 c = let s = start (c .before .before .before .before .before .before) in ap length (returns-3 c .1) ∙ length-laid (out s) (text s)
+same-length-3 c =
+    let before-6 = c .before .before .before .before .before .before in
+    let s = start before-6 in ap length (returns-3 c .1) ∙ length-laid (out s) (text s)
 
 add-t13 : tie.Need-add-t13
 add-t13 c =
@@ -113,7 +128,9 @@ returns-4 c =
     last-put _ (laying a) _ (d .ensures .1) _ (sym (ap (storedAnswer cause.OutputFull) (c .before .fraction .given .1)) ∙ d .ensures .0)
 
 same-length-4 : tie.Need-same-length-4
-same-length-4 c = let s = start (c .before .before .before .before .before .before .before) in ap length (returns-4 c .1) ∙ length-laid (out s) (text s)
+same-length-4 c =
+    let before-7 = c .before .before .before .before .before .before .before in
+    let s = start before-7 in ap length (returns-4 c .1) ∙ length-laid (out s) (text s)
 
 pub write-time-spec : {M : Type 1} → statement M
 write-time-spec =

@@ -11,11 +11,20 @@ use Rattle.timestamp.proofs.Forms.{form-short, form-date, form-clock, f
 use Rattle.timestamp.proofs.form_of.Statement.{statement}
 use Rattle.timestamp.proofs.form_of.Tie as tie
 
-fraction-told : (c : tie.After-nanos) → Of (c .nanos .given .0 .0) (c .nanos .given .0 .1 .0) ≡ fractionOf (tail (c .before .before .before .before .before .before .before .before .before .before .before .before .before .before .args .s .now))
-fraction-told c = sym (c .nanos .given .1) ∙ c .before .before .fraction-of .ensures ∙ ap fractionOf (rest-part (c .before .before .before .before .before .before .before .before .before .before .before .before .before .before .args .s .now) 19)
+fraction-told : (c : tie.After-nanos) →
+    let args = c .before .before .before .before .before .before .before .before .before .before .before .before .before .before .args in
+    Of (c .nanos .given .0 .0) (c .nanos .given .0 .1 .0) ≡ fractionOf (tail (args .s .now))
+fraction-told c =
+    let args = c .before .before .before .before .before .before .before .before .before .before .before .before .before .before .args in
+    sym (c .nanos .given .1) ∙ c .before .before .fraction-of .ensures ∙ ap fractionOf (rest-part (args .s .now) 19)
 
-width-fits : (c : tie.After-known-told3) → 19 + c .before .nanos .given .0 .1 .0 ≤ length (c .before .before .before .before .before .before .before .before .before .before .before .before .before .before .before .args .s .now)
-width-fits c = form-width (c .before .before .before .before .before .before .before .before .before .before .before .before .before .before .before .args .s .now) (c .before .nanos .given .0 .0) (c .before .nanos .given .0 .1 .0) (fraction-told (c .before)) (c .before .before .before .before .before .before .before .before .before .before .before .before .before .if1 .left)
+width-fits : (c : tie.After-known-told3) →
+    let args = c .before .before .before .before .before .before .before .before .before .before .before .before .before .before .before .args in
+    19 + c .before .nanos .given .0 .1 .0 ≤ length (args .s .now)
+width-fits c =
+    let args = c .before .before .before .before .before .before .before .before .before .before .before .before .before .before .before .args in
+    let if1 = c .before .before .before .before .before .before .before .before .before .before .before .before .before .if1 in
+    form-width (args .s .now) (c .before .nanos .given .0 .0) (c .before .nanos .given .0 .1 .0) (fraction-told (c .before)) (if1 .left)
 
 returns : tie.Need-returns
 returns c = form-short _ (c .if1 .taken)
@@ -63,7 +72,8 @@ enum-told-3 : tie.Need-enum-told-3
 enum-told-3 c = search needs
 
 returns-4 : tie.Need-returns-4
-returns-4 c = let s = c .before .before .before .before .before .before .before .before .before .before .before .before .before .before .args .s .now in form-fraction s (sym (c .enum-told3 .given .1) ∙ c .before .before .fraction-of .ensures ∙ ap fractionOf (rest-part s 19))
+returns-4 c = let s = c .before .before .before .before .before .before .before .before .before .before .before .before .before .before .args .s .now in
+    form-fraction s (sym (c .enum-told3 .given .1) ∙ c .before .before .fraction-of .ensures ∙ ap fractionOf (rest-part s 19))
 
 add-at : tie.Need-add-at
 add-at c = omega (arith, width-fits c)
@@ -87,13 +97,23 @@ enum-told-4 : tie.Need-enum-told-4
 enum-told-4 c = search needs
 
 returns-5 : tie.Need-returns-5
-returns-5 c = let s = c .before .before .before .before .before .before .before .before .before .before .before .before .before .before .before .before .before .before .before .args .s .now in let g = c .before .before .before .before .before .nanos .given in
-    form-zone s (g .0 .0) (g .0 .1 .0) (fraction-told (c .before .before .before .before .before)) (sym (c .enum-told4 .given .1) ∙ c .before .before .zone-of .ensures ∙ ap zoneOf (rest-part s (19 + g .0 .1 .0)))
+returns-5 c =
+    let at-nanos = c .before .before .before .before .before in
+    let s = c .before .before .before .before .before .before .before .before .before .before .before .before .before .before .before .before .before .before .before .args .s .now in
+    let g = at-nanos .nanos .given in
+    form-zone s (g .0 .0) (g .0 .1 .0) (fraction-told at-nanos) (sym (c .enum-told4 .given .1) ∙ c .before .before .zone-of .ensures ∙ ap zoneOf (rest-part s (19 + g .0 .1 .0)))
 
 returns-6 : tie.Need-returns-6
-returns-6 c = let s = c .before .before .before .before .before .before .before .before .before .before .before .before .before .before .before .before .before .before .before .before .args .s .now in let g = c .before .before .before .before .before .before .nanos .given in let d = c .before .before .before .before .before .before .before .before .before .before .before .before .before .before .before .year .given in let h = c .before .before .before .before .before .before .before .before .before .before .before .hour .given in let o = c .before .offset .given in
-    form-right s (g .0 .0) (g .0 .1 .0) (fraction-told (c .before .before .before .before .before .before)) (d .0 .0) (d .0 .1 .0) (d .0 .1 .1 .0) (h .0 .0) (h .0 .1 .0) (h .0 .1 .1 .0) (o .0 .0) (c .before .before .before .before .before .before .before .before .before .before .before .before .before .before .before .before .before .before .if1 .left)
-    (sym (d .1) ∙ c .before .before .before .before .before .before .before .before .before .before .before .before .before .before .before .before .before .date-of .ensures) (sym (h .1) ∙ c .before .before .before .before .before .before .before .before .before .before .before .before .before .clock-of .ensures) (sym (o .1) ∙ c .before .before .before .zone-of .ensures ∙ ap zoneOf (rest-part s (19 + g .0 .1 .0)))
+returns-6 c =
+    let if1 = c .before .before .before .before .before .before .before .before .before .before .before .before .before .before .before .before .before .before .if1 in
+    let date-of = c .before .before .before .before .before .before .before .before .before .before .before .before .before .before .before .before .before .date-of in
+    let clock-of = c .before .before .before .before .before .before .before .before .before .before .before .before .before .clock-of in
+    let at-nanos = c .before .before .before .before .before .before in
+    let s = c .before .before .before .before .before .before .before .before .before .before .before .before .before .before .before .before .before .before .before .before .args .s .now in
+    let g = at-nanos .nanos .given in let d = c .before .before .before .before .before .before .before .before .before .before .before .before .before .before .before .year .given in
+    let h = c .before .before .before .before .before .before .before .before .before .before .before .hour .given in let o = c .before .offset .given in
+    form-right s (g .0 .0) (g .0 .1 .0) (fraction-told at-nanos) (d .0 .0) (d .0 .1 .0) (d .0 .1 .1 .0) (h .0 .0) (h .0 .1 .0) (h .0 .1 .1 .0) (o .0 .0) (if1 .left)
+    (sym (d .1) ∙ date-of .ensures) (sym (h .1) ∙ clock-of .ensures) (sym (o .1) ∙ c .before .before .before .zone-of .ensures ∙ ap zoneOf (rest-part s (19 + g .0 .1 .0)))
 
 pub form-of-spec : {M : Type 1} → statement M
 form-of-spec =

@@ -9,7 +9,9 @@ month-length-requires c κs = search needs
 
 returns : tie.Need-returns
 unfolding inRange
-returns c = rw (c .before .before .before .before .before .before .month-length .ensures) (simp (and-assoc, and-true))
+returns c =
+    let month-length = c .before .before .before .before .before .before .month-length in
+    rw (month-length .ensures) (simp (and-assoc, and-true))
 
 pub in-range-spec : {M : Type 1} → statement M
 in-range-spec = tie.close (tie.spec month-length-requires returns)

@@ -3,7 +3,8 @@ use Prim.Native.Nat.{ℕ}
 use mathlib.Core.Bool.{cond, _||_}
 use mathlib.Core.List.{List}
 use Rattle.fixed.specs.Fields.{all}
-use Rattle.timestamp.specs.Timestamp.{yearOf, monthOf, dayOf, dateTests, hourOf, minuteOf, secondOf, clockTests, fractionTests, nanosOf, fractionWidth, isUtc, offsetTests, offsetOf, isTimestamp, momentOf}
+use Rattle.timestamp.specs.Timestamp.{yearOf, monthOf, dayOf, dateTests, hourOf, minuteOf, secondOf, clockTests, fractionTests}
+use Rattle.timestamp.specs.Timestamp.{nanosOf, fractionWidth, isUtc, offsetTests, offsetOf, isTimestamp, momentOf}
 use Rattle.timestamp.specs.declared.parts.Date.{Date}
 use Rattle.timestamp.specs.declared.parts.Date.the-variants.{On, NoDate}
 use Rattle.timestamp.specs.declared.parts.Clock.{Clock}

@@ -16,7 +16,9 @@ may-follow-requires c κs = search needs
 
 returns : tie.Need-returns
 unfolding admits
-returns c = rw (c .before .before .is-record .ensures ∙ record-whole (c .before .before .before .before .before .args .texts .now) (c .before .before .before .before .before .args .r .now) (c .before .before .before .before .before .pre), c .may-follow .ensures) refl
+returns c =
+    let start = c .before .before .before .before .before in
+    rw (c .before .before .is-record .ensures ∙ record-whole (start .args .texts .now) (start .args .r .now) (start .pre), c .may-follow .ensures) refl
 
 pub admitted-spec : {M : Type 1} → statement M
 admitted-spec =

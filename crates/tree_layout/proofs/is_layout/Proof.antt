@@ -24,17 +24,28 @@ least-requires-2 : tie.Need-least-requires-2
 least-requires-2 c κs = search needs
 
 is-good-requires : tie.Need-is-good-requires
-is-good-requires c κs = fill-first (take (c .before .before .before .least .result) (c .before .before .before .before .before .before .args .text .now)) _ (c .before .first-at .ensures)
+is-good-requires c κs =
+    let args = c .before .before .before .before .before .before .args in
+    fill-first (take (c .before .before .before .least .result) (args .text .now)) _ (c .before .first-at .ensures)
 
 slice-aggregate-good-records : tie.Need-slice-aggregate-good-records
-slice-aggregate-good-records c = let used = take (c .before .before .before .before .before .least .result) (c .before .before .before .before .before .before .before .before .args .text .now) in
-    sym (length-take-le (c .before .before .before .first-at .result) used (fill-fits used (c .before .before .before .first-at .result) (fill-first used _ (c .before .before .before .first-at .ensures))))
+slice-aggregate-good-records c =
+    let args = c .before .before .before .before .before .before .before .before .args in
+    let least = c .before .before .before .before .before .least in
+    let used = take (least .result) (args .text .now) in
+    sym (length-take-le (c .before .before .before .first-at .result) used
+    (fill-fits used (c .before .before .before .first-at .result) (fill-first used _ (c .before .before .before .first-at .ensures))))
 
 good-records-requires : tie.Need-good-records-requires
 good-records-requires c κs = search needs
 
 returns : tie.Need-returns
-returns c = rw (c .before .before .is-good .ensures, c .good-records .ensures) (layout-whole (c .before .before .before .before .before .before .before .before .before .args .records .now) (c .before .before .before .before .before .before .before .before .before .args .text .now) (c .before .before .before .before .before .before .least .result) (c .before .before .before .before .first-at .result) (c .before .before .before .least2 .result) (c .before .before .before .before .before .before .least .ensures) (fill-first (take (c .before .before .before .before .before .before .least .result) (c .before .before .before .before .before .before .before .before .before .args .text .now)) _ (c .before .before .before .before .first-at .ensures)) (c .before .before .before .least2 .ensures))
+returns c =
+    let args = c .before .before .before .before .before .before .before .before .before .args in
+    let least = c .before .before .before .before .before .before .least in
+    let first-at = c .before .before .before .before .first-at in
+    rw (c .before .before .is-good .ensures, c .good-records .ensures) (layout-whole (args .records .now) (args .text .now) (least .result) (first-at .result)
+    (c .before .before .before .least2 .result) (least .ensures) (fill-first (take (least .result) (args .text .now)) _ (first-at .ensures)) (c .before .before .before .least2 .ensures))
 
 pub is-layout-spec : {M : Type 1} → statement M
 is-layout-spec =

@@ -17,7 +17,9 @@ has-bit-requires : tie.Need-has-bit-requires
 has-bit-requires c κs = search needs
 
 returns : tie.Need-returns
-returns c = rw (c .before .before .before .before .over .ensures, c .before .has-bit .ensures) (with-tally 3 false _ _ _ (c .before .before .tallied .ensures))
+returns c =
+    let over = c .before .before .before .before .over in
+    rw (over .ensures, c .before .has-bit .ensures) (with-tally 3 false _ _ _ (c .before .before .tallied .ensures))
 
 pub with-status-spec : {M : Type 1} → statement M
 with-status-spec =

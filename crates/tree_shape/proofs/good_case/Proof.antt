@@ -37,7 +37,12 @@ good-common-requires c κs = search needs
 
 returns : tie.Need-returns
 unfolding goodCase
-returns c = rw (case-bits (c .before .before .before .before .before .before .before .before .before .before .args .r .now), c .before .has-bit .ensures, c .good-common .ensures, c .before .before .before .before .before .before .good-outputs .ensures, c .before .before .before .before .before .text-slot .ensures, c .before .before .before .before .free-slot .ensures, c .before .before .is-zero .ensures) refl
+returns c =
+    let args = c .before .before .before .before .before .before .before .before .before .before .args in
+    let good-outputs = c .before .before .before .before .before .before .good-outputs in
+    let text-slot = c .before .before .before .before .before .text-slot in
+    let free-slot = c .before .before .before .before .free-slot in
+    rw (case-bits (args .r .now), c .before .has-bit .ensures, c .good-common .ensures, good-outputs .ensures, text-slot .ensures, free-slot .ensures, c .before .before .is-zero .ensures) refl
 
 pub good-case-spec : {M : Type 1} → statement M
 good-case-spec =

@@ -45,7 +45,23 @@ good-outputs-requires c κs = search needs
 
 returns : tie.Need-returns
 unfolding goodOther
-returns c = rw (c .before .before .only-other .ensures, c .before .before .before .before .before .before .before .before .before .has-bit .ensures, c .before .before .before .before .before .before .before .before .has-bit2 .ensures, c .before .good-common .ensures, c .good-outputs .ensures, c .before .before .before .before .before .before .before .text-slot .ensures, c .before .before .before .before .before .before .text-slot2 .ensures, c .before .before .before .before .before .text-slot3 .ensures, c .before .before .before .is-zero .ensures) refl
+returns c =
+    let has-bit = c .before .before .before .before .before .before .before .before .before .has-bit in
+    let has-bit2 = c .before .before .before .before .before .before .before .before .has-bit2 in
+    let text-slot = c .before .before .before .before .before .before .before .text-slot in
+    let text-slot2 = c .before .before .before .before .before .before .text-slot2 in
+    let text-slot3 = c .before .before .before .before .before .text-slot3 in
+    rw (
+      c .before .before .only-other .ensures,
+      has-bit .ensures,
+      has-bit2 .ensures,
+      c .before .good-common .ensures,
+      c .good-outputs .ensures,
+      text-slot .ensures,
+      text-slot2 .ensures,
+      text-slot3 .ensures,
+      c .before .before .before .is-zero .ensures,
+    ) refl
 
 pub good-other-spec : {M : Type 1} → statement M
 good-other-spec =

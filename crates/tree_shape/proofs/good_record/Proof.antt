@@ -8,7 +8,9 @@ shared-slice-read-k : tie.Need-shared-slice-read-k
 shared-slice-read-k c = search needs
 
 returns : tie.Need-returns
-returns c = dead-record (c .before .before .before .before .args .texts .now) (c .before .before .before .before .args .r .now) (c .if1 .taken)
+returns c =
+    let args = c .before .before .before .before .args in
+    dead-record (args .texts .now) (args .r .now) (c .if1 .taken)
 
 good-report-requires : tie.Need-good-report-requires
 good-report-requires c κs = search needs
@@ -23,16 +25,25 @@ good-other-requires : tie.Need-good-other-requires
 good-other-requires c κs = search needs
 
 returns-2 : tie.Need-returns-2
-returns-2 c = c .good-report .ensures ∙ report-record (c .before .before .before .before .before .before .args .texts .now) (c .before .before .before .before .before .before .args .r .now) (c .before .match .keys1)
+returns-2 c =
+    let args = c .before .before .before .before .before .before .args in
+    c .good-report .ensures ∙ report-record (args .texts .now) (args .r .now) (c .before .match .keys1)
 
 returns-3 : tie.Need-returns-3
-returns-3 c = c .good-suite .ensures ∙ suite-record (c .before .before .before .before .before .before .args .texts .now) (c .before .before .before .before .before .before .args .r .now) (c .before .match .keys2)
+returns-3 c =
+    let args = c .before .before .before .before .before .before .args in
+    c .good-suite .ensures ∙ suite-record (args .texts .now) (args .r .now) (c .before .match .keys2)
 
 returns-4 : tie.Need-returns-4
-returns-4 c = c .good-case .ensures ∙ case-record (c .before .before .before .before .before .before .args .texts .now) (c .before .before .before .before .before .before .args .r .now) (c .before .match .keys3)
+returns-4 c =
+    let args = c .before .before .before .before .before .before .args in
+    c .good-case .ensures ∙ case-record (args .texts .now) (args .r .now) (c .before .match .keys3)
 
 returns-5 : tie.Need-returns-5
-returns-5 c = rw (c .good-other .ensures) (other-record (c .before .before .before .before .before .before .args .texts .now) (c .before .before .before .before .before .before .args .r .now) (c .before .before .if1 .left) (c .before .match .rest .0 .0 .1) (c .before .match .rest .0 .1) (c .before .match .rest .1))
+returns-5 c =
+    let args = c .before .before .before .before .before .before .args in
+    rw (c .good-other .ensures)
+    (other-record (args .texts .now) (args .r .now) (c .before .before .if1 .left) (c .before .match .rest .0 .0 .1) (c .before .match .rest .0 .1) (c .before .match .rest .1))
 
 pub good-record-spec : {M : Type 1} → statement M
 good-record-spec =

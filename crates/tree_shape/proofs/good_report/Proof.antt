@@ -31,7 +31,9 @@ good-counts-requires c κs = search needs
 
 returns : tie.Need-returns
 unfolding goodReport
-returns c = rw (report-bits (c .before .before .before .before .before .before .args .r .now), c .before .before .good-common .ensures, c .before .free-slot .ensures, c .good-counts .ensures) refl
+returns c =
+    let args = c .before .before .before .before .before .before .args in
+    rw (report-bits (args .r .now), c .before .before .good-common .ensures, c .before .free-slot .ensures, c .good-counts .ensures) refl
 
 pub good-report-spec : {M : Type 1} → statement M
 good-report-spec =

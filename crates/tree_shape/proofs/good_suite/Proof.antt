@@ -28,7 +28,9 @@ good-counts-requires c κs = search needs
 
 returns : tie.Need-returns
 unfolding goodSuite
-returns c = rw (suite-bits (c .before .before .before .before .before .before .before .args .r .now), c .before .before .before .has-bit .ensures, c .before .before .good-common .ensures, c .before .good-outputs .ensures, c .good-counts .ensures) refl
+returns c =
+    let args = c .before .before .before .before .before .before .before .args in
+    rw (suite-bits (args .r .now), c .before .before .before .has-bit .ensures, c .before .before .good-common .ensures, c .before .good-outputs .ensures, c .good-counts .ensures) refl
 
 pub good-suite-spec : {M : Type 1} → statement M
 good-suite-spec =

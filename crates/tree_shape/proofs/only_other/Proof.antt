@@ -29,7 +29,9 @@ add-result-2 c = search needs
 
 returns-2 : tie.Need-returns-2
 unfolding bitsFor
-returns-2 c = rw (c .before .if1 .left, le-leb _ _ (c .if2 .taken)) (main-bits (c .before .before .before .before .args .r .now))
+returns-2 c =
+    let args = c .before .before .before .before .args in
+    rw (c .before .if1 .left, le-leb _ _ (c .if2 .taken)) (main-bits (args .r .now))
 
 mul-result-3 : tie.Need-mul-result-3
 mul-result-3 c = search needs
@@ -39,11 +41,15 @@ add-result-3 c = search needs
 
 returns-3 : tie.Need-returns-3
 unfolding bitsFor
-returns-3 c = rw (c .before .before .if1 .left, lt-leb _ _ (c .before .if2 .left), le-leb _ _ (c .if3 .taken)) (skipped-bits (c .before .before .before .before .before .args .r .now))
+returns-3 c =
+    let args = c .before .before .before .before .before .args in
+    rw (c .before .before .if1 .left, lt-leb _ _ (c .before .if2 .left), le-leb _ _ (c .if3 .taken)) (skipped-bits (args .r .now))
 
 returns-4 : tie.Need-returns-4
 unfolding bitsFor
-returns-4 c = rw (c .before .before .if1 .left, lt-leb _ _ (c .before .if2 .left), lt-leb _ _ (c .if3 .left)) (run-bits (c .before .before .before .before .before .args .r .now))
+returns-4 c =
+    let args = c .before .before .before .before .before .args in
+    rw (c .before .before .if1 .left, lt-leb _ _ (c .before .if2 .left), lt-leb _ _ (c .if3 .left)) (run-bits (args .r .now))
 
 pub only-other-spec : {M : Type 1} → statement M
 only-other-spec =

@@ -30,7 +30,9 @@ is-zero-requires : tie.Need-is-zero-requires
 is-zero-requires c κs = search needs
 
 returns-2 : tie.Need-returns-2
-returns-2 c = slot-absent true (c .before .before .before .has-bit .ensures) (c .before .before .if1 .left) (c .is-zero .ensures ∙ zero-part (c .before .before .before .before .before .args .r .now) (c .before .before .before .before .before .args .o) (c .before .before .before .before .before .args .n))
+returns-2 c =
+    let args = c .before .before .before .before .before .args in
+    slot-absent true (c .before .before .before .has-bit .ensures) (c .before .before .if1 .left) (c .is-zero .ensures ∙ zero-part (args .r .now) (args .o) (args .n))
 
 pub free-slot-spec : {M : Type 1} → statement M
 free-slot-spec =

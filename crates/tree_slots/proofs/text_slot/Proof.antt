@@ -32,7 +32,9 @@ is-zero-requires : tie.Need-is-zero-requires
 is-zero-requires c κs = search needs
 
 returns-2 : tie.Need-returns-2
-returns-2 c = slot-absent _ (c .before .before .before .has-bit .ensures) (c .before .before .if1 .left) (c .is-zero .ensures ∙ zero-part (c .before .before .before .before .before .before .args .r .now) (c .before .before .before .before .before .before .args .o) 2)
+returns-2 c =
+    let args = c .before .before .before .before .before .before .args in
+    slot-absent _ (c .before .before .before .has-bit .ensures) (c .before .before .if1 .left) (c .is-zero .ensures ∙ zero-part (args .r .now) (args .o) 2)
 
 pub text-slot-spec : {M : Type 1} → statement M
 text-slot-spec =

@@ -53,7 +53,8 @@ returns c =
     moment-put (a .m) (now (a .words)) (p₁ .put-pair .ensures) (p₂ .put-pair2 .ensures) (p₃ .put-pair3 .ensures) (p₄ .put-pair4 .ensures) (p .put-bit .ensures)
 
 same-length : tie.Need-same-length
-same-length c = let a = c .before .before .before .before .before .before .before .before .before .before .before .before .before .before .before .before .before .before .before .before .before .before .before .before .before .before .before .before .args in ap length (returns c) ∙ moment-length (a .m) (now (a .words))
+same-length c = let a = c .before .before .before .before .before .before .before .before .before .before .before .before .before .before .before .before .before
+    .before .before .before .before .before .before .before .before .before .before .before .args in ap length (returns c) ∙ moment-length (a .m) (now (a .words))
 
 pub put-moment-spec : {M : Type 1} → statement M
 put-moment-spec =

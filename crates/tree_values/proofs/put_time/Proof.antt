@@ -14,7 +14,9 @@ same-length : tie.Need-same-length
 same-length c = search needs
 
 returns : tie.Need-returns
-returns c = c .before .before .put-bit .ensures ∙ ap (marked 4) (c .before .before .before .before .before .before .put-pair .ensures)
+returns c =
+    let put-pair = c .before .before .before .before .before .before .put-pair in
+    c .before .before .put-bit .ensures ∙ ap (marked 4) (put-pair .ensures)
 
 pub put-time-spec : {M : Type 1} → statement M
 put-time-spec = tie.close (tie.spec put-pair-requires put-bit-requires same-length returns)

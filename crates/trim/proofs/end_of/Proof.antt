@@ -28,39 +28,50 @@ part-first-of-end : tie.Need-part-first-of-end Inv-loop μ-loop
 part-first-of-end c = omega arith
 
 first-of-requires : tie.Need-first-of-requires Inv-loop μ-loop
-first-of-requires c κs = rest-some (c .before .before .before .before .args .s .now) (c .before .before .loop .j) (c .before .loop-test .taken)
+first-of-requires c κs =
+    let args = c .before .before .before .before .args in
+    rest-some (args .s .now) (c .before .before .loop .j) (c .before .loop-test .taken)
 
 add-j : tie.Need-add-j Inv-loop μ-loop
 add-j c =
+    let args = c .before .before .before .before .before .args in
     let l = c .before .before .before .loop in
-    let h = turn-fits (c .before .before .before .before .before .args .s .now) (l .j) _ _ (c .before .before .loop-test .taken) (c .first-of .ensures) in omega arith
+    let h = turn-fits (args .s .now) (l .j) _ _ (c .before .before .loop-test .taken) (c .first-of .ensures) in omega arith
 
 loop-less : tie.Need-loop-less Inv-loop μ-loop
 loop-less c =
+    let args = c .before .before .before .before .before .before .before .args in
+    let loop-test = c .before .before .before .before .loop-test in
     let l = c .before .before .before .before .before .loop in
-    let h = turn-fits (c .before .before .before .before .before .before .before .args .s .now) (l .j) _ _ (c .before .before .before .before .loop-test .taken) (c .before .before .first-of .ensures) in omega arith
+    let h = turn-fits (args .s .now) (l .j) _ _ (loop-test .taken) (c .before .before .first-of .ensures) in omega arith
 
 loop-again : tie.Need-loop-again Inv-loop μ-loop
 loop-again c =
+    let args = c .before .before .before .before .before .before .before .args in
+    let loop-test = c .before .before .before .before .loop-test in
     let l = c .before .before .before .before .before .loop in
-    let h = turn-fits (c .before .before .before .before .before .before .before .args .s .now) (l .j) _ _ (c .before .before .before .before .loop-test .taken) (c .before .before .first-of .ensures) in (
+    let h = turn-fits (args .s .now) (l .j) _ _ (loop-test .taken) (c .before .before .first-of .ensures) in (
       omega arith,
       h .1,
-      l .inv .2 ∙ turn-end (c .before .before .before .before .before .before .before .args .s .now) (l .j) _ _ (c .before .before .before .before .loop-test .taken) (c .before .before .first-of .ensures) (l .to) false (not-true _ (c .if1 .taken)),
+      l .inv .2 ∙ turn-end (args .s .now) (l .j) _ _ (loop-test .taken) (c .before .before .first-of .ensures) (l .to) false (not-true _ (c .if1 .taken)),
     )
 
 loop-less-2 : tie.Need-loop-less-2 Inv-loop μ-loop
 loop-less-2 c =
+    let args = c .before .before .before .before .before .before .before .args in
+    let loop-test = c .before .before .before .before .loop-test in
     let l = c .before .before .before .before .before .loop in
-    let h = turn-fits (c .before .before .before .before .before .before .before .args .s .now) (l .j) _ _ (c .before .before .before .before .loop-test .taken) (c .before .before .first-of .ensures) in omega arith
+    let h = turn-fits (args .s .now) (l .j) _ _ (loop-test .taken) (c .before .before .first-of .ensures) in omega arith
 
 loop-again-2 : tie.Need-loop-again-2 Inv-loop μ-loop
 loop-again-2 c =
+    let args = c .before .before .before .before .before .before .before .args in
+    let loop-test = c .before .before .before .before .loop-test in
     let l = c .before .before .before .before .before .loop in
-    let h = turn-fits (c .before .before .before .before .before .before .before .args .s .now) (l .j) _ _ (c .before .before .before .before .loop-test .taken) (c .before .before .first-of .ensures) in (
+    let h = turn-fits (args .s .now) (l .j) _ _ (loop-test .taken) (c .before .before .first-of .ensures) in (
       omega arith,
       h .1,
-      l .inv .2 ∙ turn-end (c .before .before .before .before .before .before .before .args .s .now) (l .j) _ _ (c .before .before .before .before .loop-test .taken) (c .before .before .first-of .ensures) (l .to) true (not-false _ (c .if1 .left)),
+      l .inv .2 ∙ turn-end (args .s .now) (l .j) _ _ (loop-test .taken) (c .before .before .first-of .ensures) (l .to) true (not-false _ (c .if1 .left)),
     )
 
 returns : tie.Need-returns Inv-loop μ-loop

@@ -16,7 +16,9 @@ is-white-requires : tie.Need-is-white-requires
 is-white-requires c κs = search needs
 
 returns-2 : tie.Need-returns-2
-returns-2 c = begins-char (c .before .before .before .before .before .args .s .now) _ (c .before .before .before .before .before .pre) (c .before .before .before .char-width .ensures) _ _ (c .before .before .if1 .left) (c .before .scalar-of .ensures) (c .is-white .ensures)
+returns-2 c =
+    let start = c .before .before .before .before .before in
+    begins-char (start .args .s .now) _ (start .pre) (c .before .before .before .char-width .ensures) _ _ (c .before .before .if1 .left) (c .before .scalar-of .ensures) (c .is-white .ensures)
 
 pub first-of-spec : {M : Type 1} → statement M
 first-of-spec =

@@ -29,28 +29,38 @@ part-first-of-end : tie.Need-part-first-of-end Inv-loop μ-loop
 part-first-of-end c = omega arith
 
 first-of-requires : tie.Need-first-of-requires Inv-loop μ-loop
-first-of-requires c κs = rest-some (c .before .before .before .before .args .s .now) (c .before .before .loop .i) (c .before .loop-test .taken)
+first-of-requires c κs =
+    let args = c .before .before .before .before .args in
+    rest-some (args .s .now) (c .before .before .loop .i) (c .before .loop-test .taken)
 
 returns : tie.Need-returns Inv-loop μ-loop
 returns c =
+    let args = c .before .before .before .before .before .before .before .args in
+    let loop-test = c .before .before .before .before .loop-test in
     let l = c .before .before .before .before .before .loop in
-    (l .inv .0, l .inv .1 ∙ turn-start (c .before .before .before .before .before .before .before .args .s .now) (l .i) _ _ (c .before .before .before .before .loop-test .taken) (c .before .before .first-of .ensures) false (not-true _ (c .if1 .taken)))
+    (l .inv .0, l .inv .1 ∙ turn-start (args .s .now) (l .i) _ _ (loop-test .taken) (c .before .before .first-of .ensures) false (not-true _ (c .if1 .taken)))
 
 add-i : tie.Need-add-i Inv-loop μ-loop
 add-i c =
+    let args = c .before .before .before .before .before .before .before .args in
+    let loop-test = c .before .before .before .before .loop-test in
     let l = c .before .before .before .before .before .loop in
-    let h = turn-fits (c .before .before .before .before .before .before .before .args .s .now) (l .i) _ _ (c .before .before .before .before .loop-test .taken) (c .before .before .first-of .ensures) in omega arith
+    let h = turn-fits (args .s .now) (l .i) _ _ (loop-test .taken) (c .before .before .first-of .ensures) in omega arith
 
 loop-less : tie.Need-loop-less Inv-loop μ-loop
 loop-less c =
+    let args = c .before .before .before .before .before .before .before .args in
+    let loop-test = c .before .before .before .before .loop-test in
     let l = c .before .before .before .before .before .loop in
-    let h = turn-fits (c .before .before .before .before .before .before .before .args .s .now) (l .i) _ _ (c .before .before .before .before .loop-test .taken) (c .before .before .first-of .ensures) in omega arith
+    let h = turn-fits (args .s .now) (l .i) _ _ (loop-test .taken) (c .before .before .first-of .ensures) in omega arith
 
 loop-again : tie.Need-loop-again Inv-loop μ-loop
 loop-again c =
+    let args = c .before .before .before .before .before .before .before .args in
+    let loop-test = c .before .before .before .before .loop-test in
     let l = c .before .before .before .before .before .loop in (
-      turn-fits (c .before .before .before .before .before .before .before .args .s .now) (l .i) _ _ (c .before .before .before .before .loop-test .taken) (c .before .before .first-of .ensures) .1,
-      l .inv .1 ∙ turn-start (c .before .before .before .before .before .before .before .args .s .now) (l .i) _ _ (c .before .before .before .before .loop-test .taken) (c .before .before .first-of .ensures) true (not-false _ (c .if1 .left)),
+      turn-fits (args .s .now) (l .i) _ _ (loop-test .taken) (c .before .before .first-of .ensures) .1,
+      l .inv .1 ∙ turn-start (args .s .now) (l .i) _ _ (loop-test .taken) (c .before .before .first-of .ensures) true (not-false _ (c .if1 .left)),
     )
 
 returns-2 : tie.Need-returns-2 Inv-loop μ-loop

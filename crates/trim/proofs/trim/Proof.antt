@@ -24,7 +24,9 @@ slice-aggregate-result : tie.Need-slice-aggregate-result
 slice-aggregate-result c = sym (length-take-le _ _ (c .before .end-of .ensures .0))
 
 returns : tie.Need-returns
-returns c = both-ends (c .before .before .before .before .before .args .s .now) (c .before .before .before .start-of .result) (c .before .end-of .result) (c .before .before .before .start-of .ensures .1) (c .before .end-of .ensures .1)
+returns c =
+    let args = c .before .before .before .before .before .args in
+    both-ends (args .s .now) (c .before .before .before .start-of .result) (c .before .end-of .result) (c .before .before .before .start-of .ensures .1) (c .before .end-of .ensures .1)
 
 pub trim-spec : {M : Type 1} → statement M
 trim-spec =

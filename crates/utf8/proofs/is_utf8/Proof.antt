@@ -38,8 +38,10 @@ loop-less c = omega arith
 
 loop-again : tie.Need-loop-again Inv-loop μ-loop
 loop-again c =
+    let loop-test = c .before .before .before .before .before .before .loop-test in
+    let if1 = c .before .before .before .before .if1 in
     let l = c .before .before .before .before .before .before .before .loop in
-    (omega arith, l .inv .1 ∙ ok-lead _ (l .i) (l .k) (l .lo) (l .hi) (c .before .before .before .before .before .before .loop-test .taken) (c .before .before .before .before .if1 .taken) ∙ rw (c .before .before .need-of .ensures, c .before .low-of .ensures, c .high-of .ensures) refl)
+    (omega arith, l .inv .1 ∙ ok-lead _ (l .i) (l .k) (l .lo) (l .hi) (loop-test .taken) (if1 .taken) ∙ rw (c .before .before .need-of .ensures, c .before .low-of .ensures, c .high-of .ensures) refl)
 
 loop-less-2 : tie.Need-loop-less-2 Inv-loop μ-loop
 loop-less-2 c = omega arith

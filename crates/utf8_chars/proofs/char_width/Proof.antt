@@ -38,17 +38,24 @@ runs-of-requires : tie.Need-runs-of-requires
 runs-of-requires c κs = search needs
 
 add-result : tie.Need-add-result
-add-result c = omega (arith, need-most (getD (c .before .before .before .before .before .before .before .before .before .args .s .now) 0 0), c .before .before .before .before .before .need-of .ensures)
+add-result c =
+    let args = c .before .before .before .before .before .before .before .before .before .args in
+    let need-of = c .before .before .before .before .before .need-of in
+    omega (arith, need-most (getD (args .s .now) 0 0), need-of .ensures)
 
 returns-2 : tie.Need-returns-2
 returns-2 c =
+    let need-of = c .before .before .before .before .before .need-of in
     let s = c .before .before .before .before .before .before .before .before .before .args .s .now in
-    width-found s _ _ _ (omega arith) (c .before .before .before .before .before .need-of .ensures) (c .before .before .before .low-of .ensures) (c .before .before .high-of .ensures) _ (c .before .runs-of .ensures ∙ ap (λ (l : List ℕ). runs l (c .before .before .before .before .before .need-of .result) (c .before .before .before .low-of .result) (c .before .before .high-of .result)) (rest-part s 1)) (c .if2 .taken)
+    width-found s _ _ _ (omega arith) (need-of .ensures) (c .before .before .before .low-of .ensures) (c .before .before .high-of .ensures) _
+    (c .before .runs-of .ensures ∙ ap (λ (l : List ℕ). runs l (need-of .result) (c .before .before .before .low-of .result) (c .before .before .high-of .result)) (rest-part s 1)) (c .if2 .taken)
 
 returns-3 : tie.Need-returns-3
 returns-3 c =
+    let need-of = c .before .before .before .before .before .need-of in
     let s = c .before .before .before .before .before .before .before .before .before .args .s .now in
-    width-missed s _ _ _ (omega arith) (c .before .before .before .before .before .need-of .ensures) (c .before .before .before .low-of .ensures) (c .before .before .high-of .ensures) _ (c .before .runs-of .ensures ∙ ap (λ (l : List ℕ). runs l (c .before .before .before .before .before .need-of .result) (c .before .before .before .low-of .result) (c .before .before .high-of .result)) (rest-part s 1)) (c .if2 .left)
+    width-missed s _ _ _ (omega arith) (need-of .ensures) (c .before .before .before .low-of .ensures) (c .before .before .high-of .ensures) _
+    (c .before .runs-of .ensures ∙ ap (λ (l : List ℕ). runs l (need-of .result) (c .before .before .before .low-of .result) (c .before .before .high-of .result)) (rest-part s 1)) (c .if2 .left)
 
 pub char-width-spec : {M : Type 1} → statement M
 char-width-spec =

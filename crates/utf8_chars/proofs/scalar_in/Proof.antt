@@ -14,7 +14,9 @@ wide-requires : tie.Need-wide-requires
 wide-requires c κs = search needs
 
 returns-2 : tie.Need-returns-2
-returns-2 c = let a = c .before .before .before .before .before .args in scalar-1 (a .s .now) (a .n) (c .before .before .before .before .before .pre .1) _ (c .before .wide .ensures) (c .if2 .taken)
+returns-2 c =
+    let start = c .before .before .before .before .before in
+    let a = start .args in scalar-1 (a .s .now) (a .n) (start .pre .1) _ (c .before .wide .ensures) (c .if2 .taken)
 
 shared-slice-read-wide-2 : tie.Need-shared-slice-read-wide-2
 shared-slice-read-wide-2 c = search needs
@@ -29,7 +31,10 @@ add-result : tie.Need-add-result
 add-result c = search needs
 
 returns-3 : tie.Need-returns-3
-returns-3 c = let a = c .before .before .before .before .before .before .before .before .args in scalar-2 (a .s .now) (a .n) (c .before .before .before .before .before .before .before .before .pre .1) _ (c .before .before .before .before .wide .ensures) _ (c .before .wide2 .ensures) (c .if3 .taken)
+returns-3 c =
+    let start = c .before .before .before .before .before .before .before .before in
+    let wide = c .before .before .before .before .wide in
+    let a = start .args in scalar-2 (a .s .now) (a .n) (start .pre .1) _ (wide .ensures) _ (c .before .wide2 .ensures) (c .if3 .taken)
 
 shared-slice-read-wide-3 : tie.Need-shared-slice-read-wide-3
 shared-slice-read-wide-3 c = search needs
@@ -50,7 +55,11 @@ add-result-3 : tie.Need-add-result-3
 add-result-3 c = search needs
 
 returns-4 : tie.Need-returns-4
-returns-4 c = let a = c .before .before .before .before .before .before .before .before .before .before .before .args in scalar-3 (a .s .now) (a .n) (c .before .before .before .before .before .before .before .before .before .before .before .pre .1) _ (c .before .before .before .before .before .before .before .wide .ensures) _ _ (c .before .before .before .before .wide2 .ensures) (c .before .wide3 .ensures) (c .if4 .taken)
+returns-4 c =
+    let start = c .before .before .before .before .before .before .before .before .before .before .before in
+    let wide = c .before .before .before .before .before .before .before .wide in
+    let wide2 = c .before .before .before .before .wide2 in
+    let a = start .args in scalar-3 (a .s .now) (a .n) (start .pre .1) _ (wide .ensures) _ _ (wide2 .ensures) (c .before .wide3 .ensures) (c .if4 .taken)
 
 shared-slice-read-wide-4 : tie.Need-shared-slice-read-wide-4
 shared-slice-read-wide-4 c = search needs
@@ -77,7 +86,12 @@ add-result-6 : tie.Need-add-result-6
 add-result-6 c = search needs
 
 returns-5 : tie.Need-returns-5
-returns-5 c = let a = c .before .before .before .before .before .before .before .before .before .before .before .before .before .args in scalar-4 (a .s .now) (a .n) (c .before .before .before .before .before .before .before .before .before .before .before .before .before .pre .1) _ (c .before .before .before .before .before .before .before .before .before .wide .ensures) _ _ _ (c .before .before .before .before .before .before .wide2 .ensures) (c .before .before .before .wide3 .ensures) (c .wide4 .ensures) (omega arith)
+returns-5 c =
+    let pre = c .before .before .before .before .before .before .before .before .before .before .before .before .before .pre in
+    let wide = c .before .before .before .before .before .before .before .before .before .wide in
+    let wide2 = c .before .before .before .before .before .before .wide2 in
+    let a = c .before .before .before .before .before .before .before .before .before .before .before .before .before .args in
+    scalar-4 (a .s .now) (a .n) (pre .1) _ (wide .ensures) _ _ _ (wide2 .ensures) (c .before .before .before .wide3 .ensures) (c .wide4 .ensures) (omega arith)
 
 pub scalar-in-spec : {M : Type 1} → statement M
 scalar-in-spec =

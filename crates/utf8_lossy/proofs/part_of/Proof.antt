@@ -34,11 +34,18 @@ along-of-requires c κs = search needs
 
 add-t5 : tie.Need-add-t5
 add-t5 c =
-    let h = part-room (c .before .before .before .before .before .before .before .before .args .s .now) _ _ _ _ (omega (arith, c .before .before .before .before .before .before .if1 .left)) (c .before .before .before .before .need-of .ensures) (c .before .before .low-of .ensures) (c .before .high-of .ensures) (c .along-of .ensures) in
+    let args = c .before .before .before .before .before .before .before .before .args in
+    let if1 = c .before .before .before .before .before .before .if1 in
+    let need-of = c .before .before .before .before .need-of in
+    let h = part-room (args .s .now) _ _ _ _ (omega (arith, if1 .left)) (need-of .ensures) (c .before .before .low-of .ensures) (c .before .high-of .ensures) (c .along-of .ensures) in
     omega arith
 
 returns-2 : tie.Need-returns-2
-returns-2 c = part-found (c .before .before .before .before .before .before .before .before .args .s .now) _ _ _ _ (omega (arith, c .before .before .before .before .before .before .if1 .left)) (c .before .before .before .before .need-of .ensures) (c .before .before .low-of .ensures) (c .before .high-of .ensures) (c .along-of .ensures) _ refl refl
+returns-2 c =
+    let args = c .before .before .before .before .before .before .before .before .args in
+    let if1 = c .before .before .before .before .before .before .if1 in
+    let need-of = c .before .before .before .before .need-of in
+    part-found (args .s .now) _ _ _ _ (omega (arith, if1 .left)) (need-of .ensures) (c .before .before .low-of .ensures) (c .before .high-of .ensures) (c .along-of .ensures) _ refl refl
 
 pub part-of-spec : {M : Type 1} → statement M
 part-of-spec =

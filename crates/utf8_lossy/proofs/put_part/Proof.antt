@@ -9,7 +9,9 @@ use Rattle.utf8_lossy.proofs.put_part.Tie as tie
 use Rattle.refusal.specs.declared.Cause.the-variants as cause
 
 slice-aggregate-copy-into : tie.Need-slice-aggregate-copy-into
-slice-aggregate-copy-into c = sym (length-take-le _ _ (parted-fits _ _ (c .before .before .before .before .before .pre)))
+slice-aggregate-copy-into c =
+    let pre = c .before .before .before .before .before .pre in
+    sym (length-take-le _ _ (parted-fits _ _ pre))
 
 copy-into-requires : tie.Need-copy-into-requires
 copy-into-requires c κs = search needs
@@ -19,8 +21,10 @@ same-length c = search needs
 
 returns : tie.Need-returns
 returns c =
-    let a = c .before .before .before .before .before .before .before .before .args in
-    let q = parted-whole (a .s .now) (a .p) (c .before .before .before .before .before .before .before .before .pre) (c .before .before .before .before .before .if1 .taken) in
+    let start = c .before .before .before .before .before .before .before .before in
+    let if1 = c .before .before .before .before .before .if1 in
+    let a = start .args in
+    let q = parted-whole (a .s .now) (a .p) (start .pre) (if1 .taken) in
     let e = c .before .before .copy-into .ensures in
     (e .0 ∙ ap (placing cause.OutputFull (length (a .out .now))) q, e .1 ∙ ap (laid (a .out .now)) q)
 
@@ -35,8 +39,10 @@ same-length-2 c = search needs
 
 returns-2 : tie.Need-returns-2
 returns-2 c =
-    let a = c .before .before .before .before .before .before .before .before .args in
-    let q = parted-bad (a .s .now) (a .p) (c .before .before .before .before .before .before .before .before .pre) (c .before .before .before .before .before .if1 .left) in
+    let start = c .before .before .before .before .before .before .before .before in
+    let if1 = c .before .before .before .before .before .if1 in
+    let a = start .args in
+    let q = parted-bad (a .s .now) (a .p) (start .pre) (if1 .left) in
     let e = c .before .before .copy-into2 .ensures in
     (e .0 ∙ ap (placing cause.OutputFull (length (a .out .now))) q, e .1 ∙ ap (laid (a .out .now)) q)
 

@@ -17,7 +17,9 @@ is-utf8-requires : tie.Need-is-utf8-requires
 is-utf8-requires c κs = search needs
 
 returns : tie.Need-returns
-returns c = answer-bad _ (sym (c .before .before .enum-told .given .1) ∙ c .before .before .before .before .form-of .ensures) (sym (c .before .is-utf8 .ensures) ∙ c .if1 .taken)
+returns c =
+    let form-of = c .before .before .before .before .form-of in
+    answer-bad _ (sym (c .before .before .enum-told .given .1) ∙ form-of .ensures) (sym (c .before .is-utf8 .ensures) ∙ c .if1 .taken)
 
 returns-2 : tie.Need-returns-2
 returns-2 c = answer-not-utf8 _ (sym (c .before .is-utf8 .ensures) ∙ c .if1 .left)

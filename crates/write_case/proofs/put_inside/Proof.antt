@@ -21,7 +21,10 @@ same-length-3 c = search needs
 
 returns : tie.Need-returns
 unfolding insideItems
-returns c = then (c .before .before .before .before .before .before .before .before .before .before .before .before .before .before .before .before .put-properties .ensures) (c .before .before .before .before .before .before .put-elements .ensures)
+returns c =
+    let put-properties = c .before .before .before .before .before .before .before .before .before .before .before .before .before .before .before .before .put-properties in
+    let put-elements = c .before .before .before .before .before .before .put-elements in
+    then (put-properties .ensures) (put-elements .ensures)
 
 pub put-inside-spec : {M : Type 1} → statement M
 put-inside-spec =

@@ -20,7 +20,9 @@ abbrev μ-loop : tie.MeasureT-loop
 μ-loop events₀ attributes₀ bytes₀ k text words at₀ events attributes bytes at = length words - at
 
 loop-holds : tie.Need-loop-holds Inv-loop μ-loop
-loop-holds c = going-start (documentIn (c .before .before .before .before .before .args .text .now)) _ _
+loop-holds c =
+    let args = c .before .before .before .before .before .args in
+    going-start (documentIn (args .text .now)) _ _
 
 mul-stands-here : tie.Need-mul-stands-here Inv-loop μ-loop
 mul-stands-here c = omega (arith, c .loop .inv .fits)
@@ -38,10 +40,14 @@ stands-here-requires : tie.Need-stands-here-requires Inv-loop μ-loop
 stands-here-requires c κs = search needs
 
 add-end : tie.Need-add-end Inv-loop μ-loop
-add-end c = omega (arith, stands-room (c .before .before .before .before .before .before .before .before .before .args .words .now) (c .before .before .before .loop .at) (sym (c .before .stands-here .ensures) ∙ c .if1 .taken))
+add-end c =
+    let args = c .before .before .before .before .before .before .before .before .before .args in
+    omega (arith, stands-room (args .words .now) (c .before .before .before .loop .at) (sym (c .before .stands-here .ensures) ∙ c .if1 .taken))
 
 mul-r : tie.Need-mul-r Inv-loop μ-loop
-mul-r c = omega (arith, stands-room (c .before .before .before .before .before .before .before .before .before .args .words .now) (c .before .before .before .loop .at) (sym (c .before .stands-here .ensures) ∙ c .if1 .taken))
+mul-r c =
+    let args = c .before .before .before .before .before .before .before .before .before .args in
+    omega (arith, stands-room (args .words .now) (c .before .before .before .loop .at) (sym (c .before .stands-here .ensures) ∙ c .if1 .taken))
 
 sub-r : tie.Need-sub-r Inv-loop μ-loop
 sub-r c = omega arith
@@ -50,19 +56,36 @@ part-r-start : tie.Need-part-r-start Inv-loop μ-loop
 part-r-start c = omega arith
 
 part-r-end : tie.Need-part-r-end Inv-loop μ-loop
-part-r-end c = omega (arith, stands-room (c .before .before .before .before .before .before .before .before .before .args .words .now) (c .before .before .before .loop .at) (sym (c .before .stands-here .ensures) ∙ c .if1 .taken))
+part-r-end c =
+    let args = c .before .before .before .before .before .before .before .before .before .args in
+    omega (arith, stands-room (args .words .now) (c .before .before .before .loop .at) (sym (c .before .stands-here .ensures) ∙ c .if1 .taken))
 
 field-requires : tie.Need-field-requires Inv-loop μ-loop
 field-requires c κs = search needs
 
 mul-put-whole : tie.Need-mul-put-whole Inv-loop μ-loop
-mul-put-whole c = omega (arith, stands-room (c .before .before .before .before .before .before .before .before .before .before .before .before .before .before .before .args .words .now) (c .before .before .before .before .before .before .before .before .before .loop .at) (sym (c .before .before .before .before .before .before .before .stands-here .ensures) ∙ c .before .before .before .before .before .before .if1 .taken))
+mul-put-whole c =
+    let args = c .before .before .before .before .before .before .before .before .before .before .before .before .before .before .before .args in
+    let loop = c .before .before .before .before .before .before .before .before .before .loop in
+    let stands-here = c .before .before .before .before .before .before .before .stands-here in
+    let if1 = c .before .before .before .before .before .before .if1 in
+    omega (arith, stands-room (args .words .now) (loop .at) (sym (stands-here .ensures) ∙ if1 .taken))
 
 sub-put-whole : tie.Need-sub-put-whole Inv-loop μ-loop
-sub-put-whole c = omega (arith, stands-room (c .before .before .before .before .before .before .before .before .before .before .before .before .before .before .before .args .words .now) (c .before .before .before .before .before .before .before .before .before .loop .at) (sym (c .before .before .before .before .before .before .before .stands-here .ensures) ∙ c .before .before .before .before .before .before .if1 .taken))
+sub-put-whole c =
+    let args = c .before .before .before .before .before .before .before .before .before .before .before .before .before .before .before .args in
+    let loop = c .before .before .before .before .before .before .before .before .before .loop in
+    let stands-here = c .before .before .before .before .before .before .before .stands-here in
+    let if1 = c .before .before .before .before .before .before .if1 in
+    omega (arith, stands-room (args .words .now) (loop .at) (sym (stands-here .ensures) ∙ if1 .taken))
 
 part-put-whole-start : tie.Need-part-put-whole-start Inv-loop μ-loop
-part-put-whole-start c = omega (arith, stands-room (c .before .before .before .before .before .before .before .before .before .before .before .before .before .before .before .args .words .now) (c .before .before .before .before .before .before .before .before .before .loop .at) (sym (c .before .before .before .before .before .before .before .stands-here .ensures) ∙ c .before .before .before .before .before .before .if1 .taken))
+part-put-whole-start c =
+    let args = c .before .before .before .before .before .before .before .before .before .before .before .before .before .before .before .args in
+    let loop = c .before .before .before .before .before .before .before .before .before .loop in
+    let stands-here = c .before .before .before .before .before .before .before .stands-here in
+    let if1 = c .before .before .before .before .before .before .if1 in
+    omega (arith, stands-room (args .words .now) (loop .at) (sym (stands-here .ensures) ∙ if1 .taken))
 
 part-put-whole-end : tie.Need-part-put-whole-end Inv-loop μ-loop
 part-put-whole-end c = search needs
@@ -71,22 +94,49 @@ put-whole-requires : tie.Need-put-whole-requires Inv-loop μ-loop
 put-whole-requires c κs = search needs
 
 same-length : tie.Need-same-length Inv-loop μ-loop
-same-length c = omega (arith, c .before .before .before .before .before .before .before .before .before .before .before .before .before .before .before .before .before .loop .inv .sameEvents)
+same-length c =
+    let loop = c .before .before .before .before .before .before .before .before .before .before .before .before .before .before .before .before .before .loop in
+    omega (arith, loop .inv .sameEvents)
 
 same-length-2 : tie.Need-same-length-2 Inv-loop μ-loop
-same-length-2 c = omega (arith, c .before .before .before .before .before .before .before .before .before .before .before .before .before .before .before .before .before .loop .inv .sameAttributes)
+same-length-2 c =
+    let loop = c .before .before .before .before .before .before .before .before .before .before .before .before .before .before .before .before .before .loop in
+    omega (arith, loop .inv .sameAttributes)
 
 same-length-3 : tie.Need-same-length-3 Inv-loop μ-loop
-same-length-3 c = omega (arith, c .before .before .before .before .before .before .before .before .before .before .before .before .before .before .before .before .before .loop .inv .sameBytes)
+same-length-3 c =
+    let loop = c .before .before .before .before .before .before .before .before .before .before .before .before .before .before .before .before .before .loop in
+    omega (arith, loop .inv .sameBytes)
 
 returns : tie.Need-returns Inv-loop μ-loop
-returns c = going-last (documentIn (c .before .before .before .before .before .before .before .before .before .before .before .before .before .before .before .before .before .before .before .before .before .before .before .args .text .now)) (c .before .before .before .before .before .before .before .before .before .before .before .before .before .before .before .before .before .loop .inv) _ (sym (c .before .before .before .before .before .before .before .before .before .before .before .before .before .before .before .stands-here .ensures) ∙ c .before .before .before .before .before .before .before .before .before .before .before .before .before .before .if1 .taken) (document-live (c .before .before .before .before .before .before .before .before .before .before .before .before .before .before .before .before .before .before .before .before .before .before .before .args .text .now) (take (c .before .before .before .before .before .before .before .before .before .before .before .before .before .before .before .before .before .loop .at + 32 - c .before .before .before .before .before .before .before .before .before .before .before .before .before .before .before .before .before .loop .at) (drop (c .before .before .before .before .before .before .before .before .before .before .before .before .before .before .before .before .before .loop .at) (c .before .before .before .before .before .before .before .before .before .before .before .before .before .before .before .before .before .before .before .before .before .before .before .args .words .now))) (recordsIn (drop (c .before .before .before .before .before .before .before .before .before .before .before .before .before .before .before .before .before .loop .at + 32) (c .before .before .before .before .before .before .before .before .before .before .before .before .before .before .before .before .before .before .before .before .before .before .before .args .words .now))) (lt-ltb (getD (take (c .before .before .before .before .before .before .before .before .before .before .before .before .before .before .before .before .before .loop .at + 32 - c .before .before .before .before .before .before .before .before .before .before .before .before .before .before .before .before .before .loop .at) (drop (c .before .before .before .before .before .before .before .before .before .before .before .before .before .before .before .before .before .loop .at) (c .before .before .before .before .before .before .before .before .before .before .before .before .before .before .before .before .before .before .before .before .before .before .before .args .words .now))) 0 0) 16 (rw (c .before .before .before .before .before .before .before .before .before .before .before .before .field .ensures) at (c .before .before .before .before .before .before .before .before .before .before .before .if2 .taken)))) (rw (records-behind (c .before .before .before .before .before .before .before .before .before .before .before .before .before .before .before .before .before .before .before .before .before .before .before .args .words .now) (c .before .before .before .before .before .before .before .before .before .before .before .before .before .before .before .before .before .loop .at)) at (c .before .before .before .before .before .before .put-whole .ensures))
+returns c =
+    let at-loop = c .before .before .before .before .before .before .before .before .before .before .before .before .before .before .before .before .before in
+    let args = at-loop .before .before .before .before .before .before .args in
+    let stands-here = c .before .before .before .before .before .before .before .before .before .before .before .before .before .before .before .stands-here in
+    let if1 = c .before .before .before .before .before .before .before .before .before .before .before .before .before .before .if1 in
+    let field = c .before .before .before .before .before .before .before .before .before .before .before .before .field in
+    let if2 = c .before .before .before .before .before .before .before .before .before .before .before .if2 in
+    let put-whole = c .before .before .before .before .before .before .put-whole in
+    going-last (documentIn (args .text .now)) (at-loop .loop .inv) _ (sym (stands-here .ensures) ∙ if1 .taken) (document-live (args .text .now)
+    (take (at-loop .loop .at + 32 - at-loop .loop .at) (drop (at-loop .loop .at) (args .words .now))) (recordsIn (drop (at-loop .loop .at + 32) (args .words .now)))
+    (lt-ltb (getD (take (at-loop .loop .at + 32 - at-loop .loop .at) (drop (at-loop .loop .at) (args .words .now))) 0 0) 16 (rw (field .ensures) at (if2 .taken))))
+    (rw (records-behind (args .words .now) (at-loop .loop .at)) at (put-whole .ensures))
 
 loop-less : tie.Need-loop-less Inv-loop μ-loop
-loop-less c = omega (arith, stands-room (c .before .before .before .before .before .before .before .before .before .before .before .before .args .words .now) (c .before .before .before .before .before .before .loop .at) (sym (c .before .before .before .before .stands-here .ensures) ∙ c .before .before .before .if1 .taken))
+loop-less c =
+    let args = c .before .before .before .before .before .before .before .before .before .before .before .before .args in
+    let loop = c .before .before .before .before .before .before .loop in
+    let stands-here = c .before .before .before .before .stands-here in
+    omega (arith, stands-room (args .words .now) (loop .at) (sym (stands-here .ensures) ∙ c .before .before .before .if1 .taken))
 
 loop-again : tie.Need-loop-again Inv-loop μ-loop
-loop-again c = going-pass (documentIn (c .before .before .before .before .before .before .before .before .before .before .before .before .args .text .now)) (c .before .before .before .before .before .before .loop .inv) (sym (c .before .before .before .before .stands-here .ensures) ∙ c .before .before .before .if1 .taken) (document-dead (c .before .before .before .before .before .before .before .before .before .before .before .before .args .text .now) (take (c .before .before .before .before .before .before .loop .at + 32 - c .before .before .before .before .before .before .loop .at) (drop (c .before .before .before .before .before .before .loop .at) (c .before .before .before .before .before .before .before .before .before .before .before .before .args .words .now))) (recordsIn (drop (c .before .before .before .before .before .before .loop .at + 32) (c .before .before .before .before .before .before .before .before .before .before .before .before .args .words .now))) (le-ltb (getD (take (c .before .before .before .before .before .before .loop .at + 32 - c .before .before .before .before .before .before .loop .at) (drop (c .before .before .before .before .before .before .loop .at) (c .before .before .before .before .before .before .before .before .before .before .before .before .args .words .now))) 0 0) 16 (rw (c .before .field .ensures) at (c .if2 .left))))
+loop-again c =
+    let args = c .before .before .before .before .before .before .before .before .before .before .before .before .args in
+    let loop = c .before .before .before .before .before .before .loop in
+    let stands-here = c .before .before .before .before .stands-here in
+    going-pass (documentIn (args .text .now)) (loop .inv) (sym (stands-here .ensures) ∙ c .before .before .before .if1 .taken)
+    (document-dead (args .text .now) (take (loop .at + 32 - loop .at) (drop (loop .at) (args .words .now))) (recordsIn (drop (loop .at + 32) (args .words .now)))
+    (le-ltb (getD (take (loop .at + 32 - loop .at) (drop (loop .at) (args .words .now))) 0 0) 16 (rw (c .before .field .ensures) at (c .if2 .left))))
 
 same-length-4 : tie.Need-same-length-4 Inv-loop μ-loop
 same-length-4 c = c .before .before .before .loop .inv .sameEvents
@@ -98,7 +148,9 @@ same-length-6 : tie.Need-same-length-6 Inv-loop μ-loop
 same-length-6 c = c .before .before .before .loop .inv .sameBytes
 
 returns-2 : tie.Need-returns-2 Inv-loop μ-loop
-returns-2 c = going-over (documentIn (c .before .before .before .before .before .before .before .before .before .args .text .now)) (c .before .before .before .loop .inv) (document-over (c .before .before .before .before .before .before .before .before .before .args .text .now)) (sym (c .before .stands-here .ensures) ∙ c .if1 .left)
+returns-2 c =
+    let args = c .before .before .before .before .before .before .before .before .before .args in
+    going-over (documentIn (args .text .now)) (c .before .before .before .loop .inv) (document-over (args .text .now)) (sym (c .before .stands-here .ensures) ∙ c .if1 .left)
 
 pub put-document-spec : {M : Type 1} → statement M
 put-document-spec =

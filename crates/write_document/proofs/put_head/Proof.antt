@@ -26,7 +26,11 @@ same-length-3 : tie.Need-same-length-3
 same-length-3 c = search needs
 
 returns : tie.Need-returns
-returns c = said (then (c .before .before .before .before .before .before .before .before .before .before .before .before .before .before .before .put-declaration .ensures _) (c .before .before .before .before .before .before .put-element .ensures)) (head-parts (c .before .before .before .before .before .before .before .before .before .before .before .before .before .before .before .before .before .before .before .before .before .before .before .args .text .now) (c .before .before .before .before .before .before .before .before .before .before .before .before .before .before .before .before .before .before .before .before .before .before .before .args .r .now))
+returns c =
+    let at-put-declaration = c .before .before .before .before .before .before .before .before .before .before .before .before .before .before .before in
+    let args = at-put-declaration .before .before .before .before .before .before .before .before .args in
+    let put-element = c .before .before .before .before .before .before .put-element in
+    said (then (at-put-declaration .put-declaration .ensures _) (put-element .ensures)) (head-parts (args .text .now) (args .r .now))
 
 pub put-head-spec : {M : Type 1} → statement M
 put-head-spec =

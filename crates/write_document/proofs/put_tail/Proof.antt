@@ -22,7 +22,10 @@ same-length-2 : tie.Need-same-length-2
 same-length-2 c = search needs
 
 returns : tie.Need-returns
-returns c = λ at. then (c .before .before .before .before .before .before .before .before .before .before .before .before .put-tag .ensures at) (then (c .before .before .before .before .before .before .put-bare .ensures at _) (c .before .before .put-bare2 .ensures at _))
+returns c =
+    let put-tag = c .before .before .before .before .before .before .before .before .before .before .before .before .put-tag in
+    let put-bare = c .before .before .before .before .before .before .put-bare in
+    λ at. then (put-tag .ensures at) (then (put-bare .ensures at _) (c .before .before .put-bare2 .ensures at _))
 
 pub put-tail-spec : {M : Type 1} → statement M
 put-tail-spec =

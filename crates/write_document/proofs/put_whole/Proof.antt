@@ -24,7 +24,12 @@ same-length-3 : tie.Need-same-length-3
 same-length-3 c = search needs
 
 returns : tie.Need-returns
-returns c = said (then (c .before .before .before .before .before .before .before .before .before .before .before .before .before .before .before .before .before .before .before .before .before .before .before .put-head .ensures) (then (c .before .before .before .before .before .before .before .before .before .before .before .before .before .put-suites .ensures) (c .before .before .before .before .put-tail .ensures _))) (document-parts (c .before .before .before .before .before .before .before .before .before .before .before .before .before .before .before .before .before .before .before .before .before .before .before .before .before .before .before .before .before .before .before .before .before .args .text .now) (c .before .before .before .before .before .before .before .before .before .before .before .before .before .before .before .before .before .before .before .before .before .before .before .before .before .before .before .before .before .before .before .before .before .args .r .now) (recordsIn (c .before .before .before .before .before .before .before .before .before .before .before .before .before .before .before .before .before .before .before .before .before .before .before .before .before .before .before .before .before .before .before .before .before .args .below .now)))
+returns c =
+    let at-put-suites = c .before .before .before .before .before .before .before .before .before .before .before .before .before in
+    let at-put-head = at-put-suites .before .before .before .before .before .before .before .before .before .before in
+    let args = at-put-head .before .before .before .before .before .before .before .before .before .before .args in
+    let put-tail = c .before .before .before .before .put-tail in
+    said (then (at-put-head .put-head .ensures) (then (at-put-suites .put-suites .ensures) (put-tail .ensures _))) (document-parts (args .text .now) (args .r .now) (recordsIn (args .below .now)))
 
 pub put-whole-spec : {M : Type 1} → statement M
 put-whole-spec =

@@ -12,10 +12,14 @@ has-bit-requires : tie.Need-has-bit-requires
 has-bit-requires c κs = search needs
 
 returns : tie.Need-returns
-returns c = c .has-bit .ensures ∙ flaky-alone (recordsIn (c .before .before .before .before .before .args .words .now)) (c .before .before .before .before .before .args .r .now) _ (c .before .before .kind-of-first .ensures) (c .before .if1 .taken)
+returns c =
+    let args = c .before .before .before .before .before .args in
+    c .has-bit .ensures ∙ flaky-alone (recordsIn (args .words .now)) (args .r .now) _ (c .before .before .kind-of-first .ensures) (c .before .if1 .taken)
 
 returns-2 : tie.Need-returns-2
-returns-2 c = flaky-run (recordsIn (c .before .before .before .before .args .words .now)) (c .before .before .before .before .args .r .now) _ (c .before .kind-of-first .ensures) (c .if1 .left)
+returns-2 c =
+    let args = c .before .before .before .before .args in
+    flaky-run (recordsIn (args .words .now)) (args .r .now) _ (c .before .kind-of-first .ensures) (c .if1 .left)
 
 pub is-flaky-spec : {M : Type 1} → statement M
 is-flaky-spec =

@@ -18,7 +18,10 @@ same-length-2 c = search needs
 
 returns : tie.Need-returns
 unfolding closingItems
-returns c = λ at. then (c .before .before .before .before .before .before .before .before .before .before .before .put-outputs .ensures at) (c .before .before .before .before .put-tag .ensures at)
+returns c =
+    let put-outputs = c .before .before .before .before .before .before .before .before .before .before .before .put-outputs in
+    let put-tag = c .before .before .before .before .put-tag in
+    λ at. then (put-outputs .ensures at) (put-tag .ensures at)
 
 pub put-closing-spec : {M : Type 1} → statement M
 put-closing-spec =

@@ -30,7 +30,13 @@ least-requires : tie.Need-least-requires
 least-requires c κs = search needs
 
 slice-aggregate-r : tie.Need-slice-aggregate-r
-slice-aggregate-r c = sym (length-take-le _ _ (omega (arith, c .before .least .ensures, min-le-right 32 (length (take (length (c .before .before .before .before .before .before .before .before .before .args .words .now) - c .before .before .before .seek .result) (drop (c .before .before .before .seek .result) (c .before .before .before .before .before .before .before .before .before .args .words .now)))))))
+slice-aggregate-r c =
+    let args = c .before .before .before .before .before .before .before .before .before .args in
+    sym (length-take-le _ _ (omega (
+      arith,
+      c .before .least .ensures,
+      min-le-right 32 (length (take (length (args .words .now) - c .before .before .before .seek .result) (drop (c .before .before .before .seek .result) (args .words .now)))),
+    )))
 
 field-requires : tie.Need-field-requires
 field-requires c κs = search needs
@@ -48,7 +54,15 @@ same-length-3 : tie.Need-same-length-3
 same-length-3 c = search needs
 
 returns : tie.Need-returns
-returns c = said (c .before .before .before .before .before .before .put-rows .ensures) (elements-runs (recordsIn (c .before .before .before .before .before .before .before .before .before .before .before .before .before .before .before .before .before .before .before .before .before .args .words .now)) (c .before .before .before .before .before .before .before .before .before .before .before .before .before .before .before .before .before .before .before .before .before .args .text .now) _ (record-there (c .before .before .before .before .before .before .before .before .before .before .before .before .before .before .before .before .before .before .before .before .before .args .words .now) _ (c .before .before .before .before .before .before .before .before .before .before .before .before .before .before .before .seek .result) (c .before .before .before .before .before .before .before .before .before .before .before .before .before .least .result) (c .before .before .before .before .before .before .before .before .before .before .before .before .before .least .ensures) (c .before .before .before .before .before .before .before .before .before .before .before .before .before .before .before .seek .ensures .1)) (sym (c .before .before .before .before .before .before .before .before .before .before .before .field .ensures) ∙ c .before .before .before .before .before .before .before .before .before .before .if1 .taken))
+returns c =
+    let at-seek = c .before .before .before .before .before .before .before .before .before .before .before .before .before .before .before in
+    let args = at-seek .before .before .before .before .before .before .args in
+    let least = c .before .before .before .before .before .before .before .before .before .before .before .before .before .least in
+    let field = c .before .before .before .before .before .before .before .before .before .before .before .field in
+    let if1 = c .before .before .before .before .before .before .before .before .before .before .if1 in
+    let put-rows = c .before .before .before .before .before .before .put-rows in
+    said (put-rows .ensures) (elements-runs (recordsIn (args .words .now)) (args .text .now) _
+    (record-there (args .words .now) _ (at-seek .seek .result) (least .result) (least .ensures) (at-seek .seek .ensures .1)) (sym (field .ensures) ∙ if1 .taken))
 
 put-main-requires : tie.Need-put-main-requires
 put-main-requires c κs = search needs
@@ -63,7 +77,15 @@ same-length-6 : tie.Need-same-length-6
 same-length-6 c = search needs
 
 returns-2 : tie.Need-returns-2
-returns-2 c = said (c .before .before .before .before .before .before .put-main .ensures) (elements-main (recordsIn (c .before .before .before .before .before .before .before .before .before .before .before .before .before .before .before .before .before .before .before .before .before .args .words .now)) (c .before .before .before .before .before .before .before .before .before .before .before .before .before .before .before .before .before .before .before .before .before .args .text .now) _ (record-there (c .before .before .before .before .before .before .before .before .before .before .before .before .before .before .before .before .before .before .before .before .before .args .words .now) _ (c .before .before .before .before .before .before .before .before .before .before .before .before .before .before .before .seek .result) (c .before .before .before .before .before .before .before .before .before .before .before .before .before .least .result) (c .before .before .before .before .before .before .before .before .before .before .before .before .before .least .ensures) (c .before .before .before .before .before .before .before .before .before .before .before .before .before .before .before .seek .ensures .1)) (λ z. c .before .before .before .before .before .before .before .before .before .before .if1 .left (c .before .before .before .before .before .before .before .before .before .before .before .field .ensures ∙ z)))
+returns-2 c =
+    let at-seek = c .before .before .before .before .before .before .before .before .before .before .before .before .before .before .before in
+    let args = at-seek .before .before .before .before .before .before .args in
+    let least = c .before .before .before .before .before .before .before .before .before .before .before .before .before .least in
+    let field = c .before .before .before .before .before .before .before .before .before .before .before .field in
+    let if1 = c .before .before .before .before .before .before .before .before .before .before .if1 in
+    let put-main = c .before .before .before .before .before .before .put-main in
+    said (put-main .ensures) (elements-main (recordsIn (args .words .now)) (args .text .now) _
+    (record-there (args .words .now) _ (at-seek .seek .result) (least .result) (least .ensures) (at-seek .seek .ensures .1)) (λ z. if1 .left (field .ensures ∙ z)))
 
 pub put-elements-spec : {M : Type 1} → statement M
 put-elements-spec =

@@ -22,7 +22,12 @@ same-length-3 : tie.Need-same-length-3
 same-length-3 c = search needs
 
 returns : tie.Need-returns
-returns c = said (c .before .before .before .before .before .before .put-status .ensures) (main-skipped (recordsIn (c .before .before .before .before .before .before .before .before .before .before .before .before .before .before .before .before .before .before .args .words .now)) (c .before .before .before .before .before .before .before .before .before .before .before .before .before .before .before .before .before .before .args .text .now) (c .before .before .before .before .before .before .before .before .before .before .before .before .before .before .before .before .before .before .args .r .now) (sym (c .before .before .before .before .before .before .before .before .before .before .before .field .ensures) ∙ c .before .before .before .before .before .before .before .before .before .before .if1 .taken))
+returns c =
+    let args = c .before .before .before .before .before .before .before .before .before .before .before .before .before .before .before .before .before .before .args in
+    let field = c .before .before .before .before .before .before .before .before .before .before .before .field in
+    let if1 = c .before .before .before .before .before .before .before .before .before .before .if1 in
+    let put-status = c .before .before .before .before .before .before .put-status in
+    said (put-status .ensures) (main-skipped (recordsIn (args .words .now)) (args .text .now) (args .r .now) (sym (field .ensures) ∙ if1 .taken))
 
 is-flaky-requires : tie.Need-is-flaky-requires
 is-flaky-requires c κs = search needs
@@ -46,7 +51,16 @@ same-length-6 : tie.Need-same-length-6
 same-length-6 c = search needs
 
 returns-2 : tie.Need-returns-2
-returns-2 c = said (then (c .before .before .before .before .before .before .before .before .before .before .before .before .before .before .before .before .put-status2 .ensures) (c .before .before .before .before .before .before .put-rows .ensures)) (main-runs (recordsIn (c .before .before .before .before .before .before .before .before .before .before .before .before .before .before .before .before .before .before .before .before .before .before .before .before .before .before .before .before .before .before .args .words .now)) (c .before .before .before .before .before .before .before .before .before .before .before .before .before .before .before .before .before .before .before .before .before .before .before .before .before .before .before .before .before .before .args .text .now) (c .before .before .before .before .before .before .before .before .before .before .before .before .before .before .before .before .before .before .before .before .before .before .before .before .before .before .before .before .before .before .args .r .now) _ _ (λ z. c .before .before .before .before .before .before .before .before .before .before .before .before .before .before .before .before .before .before .before .before .before .before .if1 .left (c .before .before .before .before .before .before .before .before .before .before .before .before .before .before .before .before .before .before .before .before .before .before .before .field .ensures ∙ z)) (rw (c .before .before .before .before .before .before .before .before .before .before .before .before .before .before .before .before .before .before .before .before .before .before .before .field .ensures) at (c .before .before .before .before .before .before .before .before .before .before .before .before .before .before .before .before .before .before .before .before .main-tag .ensures)) (c .before .before .before .before .before .before .before .before .before .before .before .before .before .before .before .before .before .before .before .before .before .is-flaky .ensures))
+returns-2 c =
+    let at-put-status2 = c .before .before .before .before .before .before .before .before .before .before .before .before .before .before .before .before in
+    let at-main-tag = at-put-status2 .before .before .before .before in
+    let at-is-flaky = at-main-tag .before in
+    let at-if1 = at-is-flaky .before in
+    let at-field = at-if1 .before in
+    let args = at-field .before .before .before .before .before .before .before .args in
+    let put-rows = c .before .before .before .before .before .before .put-rows in
+    said (then (at-put-status2 .put-status2 .ensures) (put-rows .ensures)) (main-runs (recordsIn (args .words .now)) (args .text .now) (args .r .now) _ _
+    (λ z. at-if1 .if1 .left (at-field .field .ensures ∙ z)) (rw (at-field .field .ensures) at (at-main-tag .main-tag .ensures)) (at-is-flaky .is-flaky .ensures))
 
 cast-put-status : tie.Need-cast-put-status
 cast-put-status c = search needs

@@ -9,7 +9,9 @@ kind-of-first-requires : tie.Need-kind-of-first-requires
 kind-of-first-requires c κs = search needs
 
 returns : tie.Need-returns
-returns c = said (wrote-nothing _) (properties-none (recordsIn (c .before .before .before .before .before .before .before .args .words .now)) (c .before .before .before .before .before .before .before .args .text .now) (c .before .before .before .before .before .before .before .args .level) (c .before .before .before .before .before .before .before .args .listed) _ (c .before .kind-of-first .ensures) (c .if1 .taken))
+returns c =
+    let args = c .before .before .before .before .before .before .before .args in
+    said (wrote-nothing _) (properties-none (recordsIn (args .words .now)) (args .text .now) (args .level) (args .listed) _ (c .before .kind-of-first .ensures) (c .if1 .taken))
 
 put-tag-requires : tie.Need-put-tag-requires
 put-tag-requires c κs = search needs
@@ -30,7 +32,15 @@ same-length-3 : tie.Need-same-length-3
 same-length-3 c = search needs
 
 returns-2 : tie.Need-returns-2
-returns-2 c = said (then (c .before .before .before .before .before .before .before .before .before .before .before .before .before .before .before .before .before .before .before .before .before .put-tag .ensures _) (then (c .before .before .before .before .before .before .before .before .before .before .before .before .before .put-rows .ensures) (c .before .before .before .before .put-tag2 .ensures _))) (properties-some (recordsIn (c .before .before .before .before .before .before .before .before .before .before .before .before .before .before .before .before .before .before .before .before .before .before .before .before .before .before .before .before .before .before .before .args .words .now)) (c .before .before .before .before .before .before .before .before .before .before .before .before .before .before .before .before .before .before .before .before .before .before .before .before .before .before .before .before .before .before .before .args .text .now) (c .before .before .before .before .before .before .before .before .before .before .before .before .before .before .before .before .before .before .before .before .before .before .before .before .before .before .before .before .before .before .before .args .level) (c .before .before .before .before .before .before .before .before .before .before .before .before .before .before .before .before .before .before .before .before .before .before .before .before .before .before .before .before .before .before .before .args .listed) _ (c .before .before .before .before .before .before .before .before .before .before .before .before .before .before .before .before .before .before .before .before .before .before .before .before .before .kind-of-first .ensures) (c .before .before .before .before .before .before .before .before .before .before .before .before .before .before .before .before .before .before .before .before .before .before .before .before .if1 .left))
+returns-2 c =
+    let at-put-rows = c .before .before .before .before .before .before .before .before .before .before .before .before .before in
+    let at-put-tag = at-put-rows .before .before .before .before .before .before .before .before in
+    let at-if1 = at-put-tag .before .before .before in
+    let at-kind-of-first = at-if1 .before in
+    let args = at-kind-of-first .before .before .before .before .before .before .args in
+    let put-tag2 = c .before .before .before .before .put-tag2 in
+    said (then (at-put-tag .put-tag .ensures _) (then (at-put-rows .put-rows .ensures) (put-tag2 .ensures _)))
+    (properties-some (recordsIn (args .words .now)) (args .text .now) (args .level) (args .listed) _ (at-kind-of-first .kind-of-first .ensures) (at-if1 .if1 .left))
 
 cast-put-tag : tie.Need-cast-put-tag
 cast-put-tag c = search needs

@@ -18,7 +18,9 @@ same-length-2 : tie.Need-same-length-2
 same-length-2 c = search needs
 
 returns : tie.Need-returns
-returns c = λ at. c .before .before .store-event .ensures at _ _ _ (c .before .before .before .before .before .before .put .ensures)
+returns c =
+    let put = c .before .before .before .before .before .before .put in
+    λ at. c .before .before .store-event .ensures at _ _ _ (put .ensures)
 
 pub put-declaration-spec : {M : Type 1} → statement M
 put-declaration-spec =

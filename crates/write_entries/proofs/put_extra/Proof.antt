@@ -30,7 +30,13 @@ same-length-2 : tie.Need-same-length-2
 same-length-2 c = search needs
 
 returns : tie.Need-returns
-returns c = λ ev. c .before .before .store-attribute .ensures ev _ _ _ _ _ (rw (c .before .before .before .before .before .before .before .before .before .before .before .before .part-of .ensures, c .before .before .before .before .before .before .before .before .before .before .before .before .before .before .field .ensures, c .before .before .before .before .before .before .before .before .before .before .before .before .before .field2 .ensures) at (c .before .before .before .before .before .before .before .before .before .before .put .ensures)) (c .before .before .before .before .before .before .put-text-at .ensures)
+returns c =
+    let field = c .before .before .before .before .before .before .before .before .before .before .before .before .before .before .field in
+    let field2 = c .before .before .before .before .before .before .before .before .before .before .before .before .before .field2 in
+    let part-of = c .before .before .before .before .before .before .before .before .before .before .before .before .part-of in
+    let put = c .before .before .before .before .before .before .before .before .before .before .put in
+    let put-text-at = c .before .before .before .before .before .before .put-text-at in
+    λ ev. c .before .before .store-attribute .ensures ev _ _ _ _ _ (rw (part-of .ensures, field .ensures, field2 .ensures) at (put .ensures)) (put-text-at .ensures)
 
 pub put-extra-spec : {M : Type 1} → statement M
 put-extra-spec =

@@ -15,7 +15,9 @@ same-length-2 : tie.Need-same-length-2
 same-length-2 c = search needs
 
 returns : tie.Need-returns
-returns c = λ at. c .before .before .store-event .ensures at _ _ _ (c .before .before .before .before .before .before .put-tag-name .ensures)
+returns c =
+    let put-tag-name = c .before .before .before .before .before .before .put-tag-name in
+    λ at. c .before .before .store-event .ensures at _ _ _ (put-tag-name .ensures)
 
 pub put-tag-spec : {M : Type 1} → statement M
 put-tag-spec =

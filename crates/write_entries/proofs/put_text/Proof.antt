@@ -15,7 +15,9 @@ same-length-2 : tie.Need-same-length-2
 same-length-2 c = search needs
 
 returns : tie.Need-returns
-returns c = λ at. c .before .before .store-event .ensures at _ _ _ (c .before .before .before .before .before .before .put-text-at .ensures)
+returns c =
+    let put-text-at = c .before .before .before .before .before .before .put-text-at in
+    λ at. c .before .before .store-event .ensures at _ _ _ (put-text-at .ensures)
 
 pub put-text-spec : {M : Type 1} → statement M
 put-text-spec =

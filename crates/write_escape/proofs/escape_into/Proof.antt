@@ -42,13 +42,21 @@ enum-told : tie.Need-enum-told Inv-loop μ-loop
 enum-told c = search needs
 
 returns : tie.Need-returns Inv-loop μ-loop
-returns c = byte-full _ _ (c .before .before .before .before .before .before .before .before .loop .inv .1) (c .before .before .before .before .before .before .before .loop-test .taken) _ _ (c .before .before .before .before .put-byte .ensures .0) (c .before .before .before .before .put-byte .ensures .1) (c .enum-told .given .1)
+returns c =
+    let loop = c .before .before .before .before .before .before .before .before .loop in
+    let loop-test = c .before .before .before .before .before .before .before .loop-test in
+    let put-byte = c .before .before .before .before .put-byte in
+    byte-full _ _ (loop .inv .1) (loop-test .taken) _ _ (put-byte .ensures .0) (put-byte .ensures .1) (c .enum-told .given .1)
 
 same-length : tie.Need-same-length Inv-loop μ-loop
 same-length c = let a = c .before .before .before .before .before .before .before .before .before .before .before .args in ap length (returns c .1) ∙ length-laid (a .out .now) (escaped (a .s .now))
 
 add-k : tie.Need-add-k Inv-loop μ-loop
-add-k c = let h = byte-fits _ _ (c .before .before .before .before .before .before .before .before .before .loop .inv .1) (c .before .before .before .before .before .before .before .before .loop-test .taken) _ _ (c .before .before .before .before .before .put-byte .ensures .0) (c .before .before .before .before .before .put-byte .ensures .1) _ (c .before .put .given .1) in omega arith
+add-k c =
+    let loop = c .before .before .before .before .before .before .before .before .before .loop in
+    let loop-test = c .before .before .before .before .before .before .before .before .loop-test in
+    let put-byte = c .before .before .before .before .before .put-byte in
+    let h = byte-fits _ _ (loop .inv .1) (loop-test .taken) _ _ (put-byte .ensures .0) (put-byte .ensures .1) _ (c .before .put .given .1) in omega arith
 
 add-i : tie.Need-add-i Inv-loop μ-loop
 add-i c = omega arith
@@ -57,7 +65,11 @@ loop-less : tie.Need-loop-less Inv-loop μ-loop
 loop-less c = omega arith
 
 loop-again : tie.Need-loop-again Inv-loop μ-loop
-loop-again c = (omega arith, byte-put _ _ (c .before .before .before .before .before .before .before .before .before .loop .inv .1) (c .before .before .before .before .before .before .before .before .loop-test .taken) _ _ (c .before .before .before .before .before .put-byte .ensures .0) (c .before .before .before .before .before .put-byte .ensures .1) _ (c .before .put .given .1))
+loop-again c =
+    let loop = c .before .before .before .before .before .before .before .before .before .loop in
+    let loop-test = c .before .before .before .before .before .before .before .before .loop-test in
+    let put-byte = c .before .before .before .before .before .put-byte in
+    (omega arith, byte-put _ _ (loop .inv .1) (loop-test .taken) _ _ (put-byte .ensures .0) (put-byte .ensures .1) _ (c .before .put .given .1))
 
 same-length-2 : tie.Need-same-length-2 Inv-loop μ-loop
 same-length-2 c = c .before .loop .inv .1 .same

@@ -36,7 +36,8 @@ copy-into-requires-5 : tie.Need-copy-into-requires-5
 copy-into-requires-5 c κs = search needs
 
 returns : tie.Need-returns
-returns c = let n = c .before .match .rest in plain-full (c .before .before .before .args .b) (n .0 .0 .0 .0 .1) (n .0 .0 .0 .1) (n .0 .0 .1) (n .0 .1) (n .1) (c .before .before .before .args .out .now) (omega arith)
+returns c = let n = c .before .match .rest in
+    plain-full (c .before .before .before .args .b) (n .0 .0 .0 .0 .1) (n .0 .0 .0 .1) (n .0 .0 .1) (n .0 .1) (n .1) (c .before .before .before .args .out .now) (omega arith)
 
 slice-write-out : tie.Need-slice-write-out
 slice-write-out c = search needs
@@ -46,41 +47,52 @@ same-length c = search needs
 
 returns-2 : tie.Need-returns-2
 unfolding written
-returns-2 c = rw (c .before .before .before .before .before .match .keys1) (c .before .before .copy-into .ensures)
+returns-2 c =
+    let match = c .before .before .before .before .before .match in
+    rw (match .keys1) (c .before .before .copy-into .ensures)
 
 same-length-2 : tie.Need-same-length-2
 same-length-2 c = search needs
 
 returns-3 : tie.Need-returns-3
 unfolding written
-returns-3 c = rw (c .before .before .before .before .before .match .keys2) (c .before .before .copy-into2 .ensures)
+returns-3 c =
+    let match = c .before .before .before .before .before .match in
+    rw (match .keys2) (c .before .before .copy-into2 .ensures)
 
 same-length-3 : tie.Need-same-length-3
 same-length-3 c = search needs
 
 returns-4 : tie.Need-returns-4
 unfolding written
-returns-4 c = rw (c .before .before .before .before .before .match .keys3) (c .before .before .copy-into3 .ensures)
+returns-4 c =
+    let match = c .before .before .before .before .before .match in
+    rw (match .keys3) (c .before .before .copy-into3 .ensures)
 
 same-length-4 : tie.Need-same-length-4
 same-length-4 c = search needs
 
 returns-5 : tie.Need-returns-5
 unfolding written
-returns-5 c = rw (c .before .before .before .before .before .match .keys4) (c .before .before .copy-into4 .ensures)
+returns-5 c =
+    let match = c .before .before .before .before .before .match in
+    rw (match .keys4) (c .before .before .copy-into4 .ensures)
 
 same-length-5 : tie.Need-same-length-5
 same-length-5 c = search needs
 
 returns-6 : tie.Need-returns-6
 unfolding written
-returns-6 c = rw (c .before .before .before .before .before .match .keys5) (c .before .before .copy-into5 .ensures)
+returns-6 c =
+    let match = c .before .before .before .before .before .match in
+    rw (match .keys5) (c .before .before .copy-into5 .ensures)
 
 same-length-6 : tie.Need-same-length-6
 same-length-6 c = search needs
 
 returns-7 : tie.Need-returns-7
-returns-7 c = let n = c .before .match .rest in plain-put (c .before .before .before .args .b) (n .0 .0 .0 .0 .1) (n .0 .0 .0 .1) (n .0 .0 .1) (n .0 .1) (n .1) (c .before .before .before .args .out .now) (omega arith)
+returns-7 c = let n = c .before .match .rest in
+    plain-put (c .before .before .before .args .b) (n .0 .0 .0 .0 .1) (n .0 .0 .0 .1) (n .0 .0 .1) (n .0 .1) (n .1) (c .before .before .before .args .out .now) (omega arith)
 
 pub put-byte-spec : {M : Type 1} → statement M
 put-byte-spec =

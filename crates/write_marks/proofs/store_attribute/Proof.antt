@@ -28,7 +28,11 @@ shut-requires : tie.Need-shut-requires
 shut-requires c κs = search needs
 
 returns-2 : tie.Need-returns-2
-returns-2 c = λ ev by by′ by″ key value w v. no-key (c .before .before .before .before .before .before .before .args .k .bytes) (c .before .before .before .before .before .before .before .args .middle) (c .before .before .before .before .before .before .before .args .to) (c .before .before .before .before .mark .given .0 .0) (c .before .before .before .before .before .before .before .args .k .events) (c .before .before .before .before .before .before .before .args .k .attributes) ev (c .before .before .before .before .before .before .before .args .attributes .now) by by′ by″ key value (c .before .before .before .before .mark .given .1) w v _ (c .before .enum-told2 .given .1) (ap (λ (x : Marks). x .bytes) (c .shut .ensures))
+returns-2 c =
+    let args = c .before .before .before .before .before .before .before .args in
+    let mark = c .before .before .before .before .mark in
+    λ ev by by′ by″ key value w v. no-key (args .k .bytes) (args .middle) (args .to) (mark .given .0 .0) (args .k .events) (args .k .attributes) ev
+    (args .attributes .now) by by′ by″ key value (mark .given .1) w v _ (c .before .enum-told2 .given .1) (ap (λ (x : Marks). x .bytes) (c .shut .ensures))
 
 enum-known-to : tie.Need-enum-known-to
 enum-known-to c = search needs
@@ -40,7 +44,11 @@ shut-requires-2 : tie.Need-shut-requires-2
 shut-requires-2 c κs = search needs
 
 returns-3 : tie.Need-returns-3
-returns-3 c = λ ev by by′ by″ key value w v. no-pair (c .before .before .before .before .before .before .before .before .before .before .args .k .bytes) (c .before .before .before .before .before .before .before .before .before .before .args .middle) (c .before .before .before .before .before .before .before .before .before .before .args .to) (c .before .before .before .before .before .before .before .mark .given .0 .0) (c .before .before .before .before .before .before .before .before .before .before .args .k .events) (c .before .before .before .before .before .before .before .before .before .before .args .k .attributes) ev (c .before .before .before .before .before .before .before .before .before .before .args .attributes .now) by by′ by″ key value (c .before .before .before .before .before .before .before .mark .given .1) w v _ (c .before .enum-told3 .given .1) (ap (λ (x : Marks). x .bytes) (c .shut2 .ensures))
+returns-3 c =
+    let args = c .before .before .before .before .before .before .before .before .before .before .args in
+    let mark = c .before .before .before .before .before .before .before .mark in
+    λ ev by by′ by″ key value w v. no-pair (args .k .bytes) (args .middle) (args .to) (mark .given .0 .0) (args .k .events) (args .k .attributes) ev
+    (args .attributes .now) by by′ by″ key value (mark .given .1) w v _ (c .before .enum-told3 .given .1) (ap (λ (x : Marks). x .bytes) (c .shut2 .ensures))
 
 has-pair-room-requires : tie.Need-has-pair-room-requires
 has-pair-room-requires c κs = search needs
@@ -49,7 +57,14 @@ shut-requires-3 : tie.Need-shut-requires-3
 shut-requires-3 c κs = search needs
 
 returns-4 : tie.Need-returns-4
-returns-4 c = λ ev by by′ by″ key value w v. no-pair-limits (c .before .before .before .before .before .before .before .before .before .before .before .before .before .args .k .bytes) (c .before .before .before .before .before .before .before .before .before .before .before .before .before .args .middle) (c .before .before .before .before .before .before .before .before .before .before .before .before .before .args .to) (c .before .before .before .before .before .before .before .before .before .before .mark .given .0 .0) (c .before .before .before .before .before .before .before .before .before .before .before .before .before .args .k .events) (c .before .before .before .before .before .before .before .before .before .before .before .before .before .args .k .attributes) ev (c .before .before .before .before .before .before .before .before .before .before .before .before .before .args .attributes .now) by by′ by″ key value (c .before .before .before .before .before .before .before .before .before .before .mark .given .1) w v (c .before .before .before .before .before .before .before .middle .given .0 .0) (c .before .before .before .before .to .given .0 .0) (c .before .before .before .before .before .before .before .middle .given .1) (c .before .before .before .before .to .given .1) _ (sym (c .before .before .has-pair-room .ensures) ∙ not-true _ (c .before .if1 .taken)) (ap (λ (x : Marks). x .bytes) (c .shut3 .ensures))
+returns-4 c =
+    let args = c .before .before .before .before .before .before .before .before .before .before .before .before .before .args in
+    let mark = c .before .before .before .before .before .before .before .before .before .before .mark in
+    let middle = c .before .before .before .before .before .before .before .middle in
+    let to = c .before .before .before .before .to in
+    λ ev by by′ by″ key value w v. no-pair-limits (args .k .bytes) (args .middle) (args .to) (mark .given .0 .0) (args .k .events) (args .k .attributes)
+    ev (args .attributes .now) by by′ by″ key value (mark .given .1) w v (middle .given .0 .0) (to .given .0 .0) (middle .given .1) (to .given .1)
+    _ (sym (c .before .before .has-pair-room .ensures) ∙ not-true _ (c .before .if1 .taken)) (ap (λ (x : Marks). x .bytes) (c .shut3 .ensures))
 
 less-requires : tie.Need-less-requires
 less-requires c κs = search needs
@@ -70,7 +85,12 @@ word-requires-2 : tie.Need-word-requires-2
 word-requires-2 c κs = search needs
 
 mul-t21 : tie.Need-mul-t21
-mul-t21 c = let l = pair-limits (c .before .before .before .before .before .before .before .before .before .before .before .before .before .before .before .before .before .before .before .before .args .k .attributes) (c .before .before .before .before .before .before .before .before .before .before .before .to .given .0 .0) (sym (c .before .before .before .before .before .before .before .before .before .has-pair-room .ensures) ∙ not-false _ (c .before .before .before .before .before .before .before .before .if1 .left)) in omega (arith, l .0)
+mul-t21 c =
+    let args = c .before .before .before .before .before .before .before .before .before .before .before .before .before .before .before .before .before .before .before .before .args in
+    let to = c .before .before .before .before .before .before .before .before .before .before .before .to in
+    let has-pair-room = c .before .before .before .before .before .before .before .before .before .has-pair-room in
+    let if1 = c .before .before .before .before .before .before .before .before .if1 in
+    let l = pair-limits (args .k .attributes) (to .given .0 .0) (sym (has-pair-room .ensures) ∙ not-false _ (if1 .left)) in omega (arith, l .0)
 
 slice-aggregate-put-words : tie.Need-slice-aggregate-put-words
 slice-aggregate-put-words c = search needs
@@ -91,20 +111,62 @@ same-length : tie.Need-same-length
 same-length c = search needs
 
 returns-5 : tie.Need-returns-5
-returns-5 c = λ ev by by′ by″ key value w v.
-    let x = other (c .before .before .before .before .before .put-words .ensures) (pair-words (c .before .before .before .before .before .before .before .before .before .before .before .before .before .before .before .before .before .before .before .before .before .before .before .before .before .before .before .args .k .bytes) (c .before .before .before .before .before .before .before .before .before .before .before .before .before .before .before .before .before .before .before .before .before .before .before .before .before .before .before .args .middle) (c .before .before .before .before .before .before .before .before .before .before .before .before .before .before .before .before .before .before .before .before .before .before .before .before .before .before .before .args .to) (c .before .before .before .before .before .before .before .before .before .before .before .before .before .before .before .before .before .before .before .before .before .before .before .before .mark .given .0 .0) (c .before .before .before .before .before .before .before .before .before .before .before .before .before .before .before .before .before .before .before .before .before .before .before .before .before .before .before .args .k .events) (c .before .before .before .before .before .before .before .before .before .before .before .before .before .before .before .before .before .before .before .before .before .before .before .before .before .before .before .args .k .attributes) ev (c .before .before .before .before .before .before .before .before .before .before .before .before .before .before .before .before .before .before .before .before .before .before .before .before .before .before .before .args .attributes .now) by by′ by″ key value (c .before .before .before .before .before .before .before .before .before .before .before .before .before .before .before .before .before .before .before .before .before .before .before .before .mark .given .1) w v (c .before .before .before .before .before .before .before .before .before .before .before .before .before .before .before .before .before .before .before .before .before .middle .given .0 .0) (c .before .before .before .before .before .before .before .before .before .before .before .before .before .before .before .before .before .before .to .given .0 .0) (c .before .before .before .before .before .before .before .before .before .before .before .before .before .before .before .before .before .before .before .before .before .middle .given .1) (c .before .before .before .before .before .before .before .before .before .before .before .before .before .before .before .before .before .before .to .given .1) _ _ _ _ _ _ (sym (c .before .before .before .before .before .before .before .before .before .before .before .before .before .before .before .before .has-pair-room .ensures) ∙ not-false _ (c .before .before .before .before .before .before .before .before .before .before .before .before .before .before .before .if1 .left)) (c .before .before .before .before .before .before .before .before .before .before .before .before .before .before .less .ensures) (c .before .before .before .before .before .before .before .before .before .before .before .before .before .less2 .ensures) (c .before .before .before .before .before .before .before .before .before .before .before .before .place .ensures) (c .before .before .before .before .before .before .before .before .before .before .word .ensures) (c .before .before .before .before .before .before .before .before .before .before .before .place2 .ensures) (c .before .before .before .before .before .before .before .before .before .word2 .ensures)) in
-    no-pair-words (c .before .before .before .before .before .before .before .before .before .before .before .before .before .before .before .before .before .before .before .before .before .before .before .before .before .before .before .args .k .bytes) (c .before .before .before .before .before .before .before .before .before .before .before .before .before .before .before .before .before .before .before .before .before .before .before .before .before .before .before .args .middle) (c .before .before .before .before .before .before .before .before .before .before .before .before .before .before .before .before .before .before .before .before .before .before .before .before .before .before .before .args .to) (c .before .before .before .before .before .before .before .before .before .before .before .before .before .before .before .before .before .before .before .before .before .before .before .before .mark .given .0 .0) (c .before .before .before .before .before .before .before .before .before .before .before .before .before .before .before .before .before .before .before .before .before .before .before .before .before .before .before .args .k .events) (c .before .before .before .before .before .before .before .before .before .before .before .before .before .before .before .before .before .before .before .before .before .before .before .before .before .before .before .args .k .attributes) ev (c .before .before .before .before .before .before .before .before .before .before .before .before .before .before .before .before .before .before .before .before .before .before .before .before .before .before .before .args .attributes .now) by by′ by″ key value (c .before .before .before .before .before .before .before .before .before .before .before .before .before .before .before .before .before .before .before .before .before .before .before .before .mark .given .1) w v (c .before .before .before .before .before .before .before .before .before .before .before .before .before .before .before .before .before .before .before .before .before .middle .given .0 .0) (c .before .before .before .before .before .before .before .before .before .before .before .before .before .before .before .before .before .before .to .given .0 .0) (c .before .before .before .before .before .before .before .before .before .before .before .before .before .before .before .before .before .before .before .before .before .middle .given .1) (c .before .before .before .before .before .before .before .before .before .before .before .before .before .before .before .before .before .before .to .given .1) _ _ (rw (c .before .enum-told5 .given .1) at x) (ap (λ (x : Marks). x .bytes) (c .shut4 .ensures))
+returns-5 c =
+    let at-to = c .before .before .before .before .before .before .before .before .before .before .before .before .before .before .before .before .before .before in
+    let at-middle = at-to .before .before .before in
+    let at-mark = at-middle .before .before .before in
+    let args = at-mark .before .before .before .args in
+    let has-pair-room = c .before .before .before .before .before .before .before .before .before .before .before .before .before .before .before .before .has-pair-room in
+    let if1 = c .before .before .before .before .before .before .before .before .before .before .before .before .before .before .before .if1 in
+    let less = c .before .before .before .before .before .before .before .before .before .before .before .before .before .before .less in
+    let less2 = c .before .before .before .before .before .before .before .before .before .before .before .before .before .less2 in
+    let place = c .before .before .before .before .before .before .before .before .before .before .before .before .place in
+    let place2 = c .before .before .before .before .before .before .before .before .before .before .before .place2 in
+    let word = c .before .before .before .before .before .before .before .before .before .before .word in
+    let word2 = c .before .before .before .before .before .before .before .before .before .word2 in
+    let put-words = c .before .before .before .before .before .put-words in
+    λ ev by by′ by″ key value w v.
+    let x = other (put-words .ensures) (pair-words (args .k .bytes) (args .middle) (args .to) (at-mark .mark .given .0 .0) (args .k .events) (args .k .attributes) ev (args .attributes .now)
+    by by′ by″ key value (at-mark .mark .given .1) w v (at-middle .middle .given .0 .0) (at-to .to .given .0 .0) (at-middle .middle .given .1) (at-to .to .given .1) _ _ _
+    _ _ _ (sym (has-pair-room .ensures) ∙ not-false _ (if1 .left)) (less .ensures) (less2 .ensures) (place .ensures) (word .ensures) (place2 .ensures) (word2 .ensures)) in
+    no-pair-words (args .k .bytes) (args .middle) (args .to) (at-mark .mark .given .0 .0) (args .k .events) (args .k .attributes) ev
+    (args .attributes .now) by by′ by″ key value (at-mark .mark .given .1) w v (at-middle .middle .given .0 .0) (at-to .to .given .0 .0)
+    (at-middle .middle .given .1) (at-to .to .given .1) _ _ (rw (c .before .enum-told5 .given .1) at x) (ap (λ (x : Marks). x .bytes) (c .shut4 .ensures))
 
 attribute-more-requires : tie.Need-attribute-more-requires
-attribute-more-requires c κs = let l = pair-limits (c .before .before .before .before .before .before .before .before .before .before .before .before .before .before .before .before .before .before .before .before .before .before .before .before .before .before .args .k .attributes) (c .before .before .before .before .before .before .before .before .before .before .before .before .before .before .before .before .before .to .given .0 .0) (sym (c .before .before .before .before .before .before .before .before .before .before .before .before .before .before .before .has-pair-room .ensures) ∙ not-false _ (c .before .before .before .before .before .before .before .before .before .before .before .before .before .before .if1 .left)) in omega (arith, l .0)
+attribute-more-requires c κs =
+    let args = c .before .before .before .before .before .before .before .before .before .before .before .before .before
+    .before .before .before .before .before .before .before .before .before .before .before .before .before .args in
+    let to = c .before .before .before .before .before .before .before .before .before .before .before .before .before .before .before .before .before .to in
+    let has-pair-room = c .before .before .before .before .before .before .before .before .before .before .before .before .before .before .before .has-pair-room in
+    let if1 = c .before .before .before .before .before .before .before .before .before .before .before .before .before .before .if1 in
+    let l = pair-limits (args .k .attributes) (to .given .0 .0) (sym (has-pair-room .ensures) ∙ not-false _ (if1 .left)) in omega (arith, l .0)
 
 same-length-2 : tie.Need-same-length-2
 same-length-2 c = search needs
 
 returns-6 : tie.Need-returns-6
-returns-6 c = λ ev by by′ by″ key value w v.
-    let x = other (c .before .before .before .before .before .put-words .ensures) (pair-words (c .before .before .before .before .before .before .before .before .before .before .before .before .before .before .before .before .before .before .before .before .before .before .before .before .before .before .before .args .k .bytes) (c .before .before .before .before .before .before .before .before .before .before .before .before .before .before .before .before .before .before .before .before .before .before .before .before .before .before .before .args .middle) (c .before .before .before .before .before .before .before .before .before .before .before .before .before .before .before .before .before .before .before .before .before .before .before .before .before .before .before .args .to) (c .before .before .before .before .before .before .before .before .before .before .before .before .before .before .before .before .before .before .before .before .before .before .before .before .mark .given .0 .0) (c .before .before .before .before .before .before .before .before .before .before .before .before .before .before .before .before .before .before .before .before .before .before .before .before .before .before .before .args .k .events) (c .before .before .before .before .before .before .before .before .before .before .before .before .before .before .before .before .before .before .before .before .before .before .before .before .before .before .before .args .k .attributes) ev (c .before .before .before .before .before .before .before .before .before .before .before .before .before .before .before .before .before .before .before .before .before .before .before .before .before .before .before .args .attributes .now) by by′ by″ key value (c .before .before .before .before .before .before .before .before .before .before .before .before .before .before .before .before .before .before .before .before .before .before .before .before .mark .given .1) w v (c .before .before .before .before .before .before .before .before .before .before .before .before .before .before .before .before .before .before .before .before .before .middle .given .0 .0) (c .before .before .before .before .before .before .before .before .before .before .before .before .before .before .before .before .before .before .to .given .0 .0) (c .before .before .before .before .before .before .before .before .before .before .before .before .before .before .before .before .before .before .before .before .before .middle .given .1) (c .before .before .before .before .before .before .before .before .before .before .before .before .before .before .before .before .before .before .to .given .1) _ _ _ _ _ _ (sym (c .before .before .before .before .before .before .before .before .before .before .before .before .before .before .before .before .has-pair-room .ensures) ∙ not-false _ (c .before .before .before .before .before .before .before .before .before .before .before .before .before .before .before .if1 .left)) (c .before .before .before .before .before .before .before .before .before .before .before .before .before .before .less .ensures) (c .before .before .before .before .before .before .before .before .before .before .before .before .before .less2 .ensures) (c .before .before .before .before .before .before .before .before .before .before .before .before .place .ensures) (c .before .before .before .before .before .before .before .before .before .before .word .ensures) (c .before .before .before .before .before .before .before .before .before .before .before .place2 .ensures) (c .before .before .before .before .before .before .before .before .before .word2 .ensures)) in
-    rw (c .attribute-more .ensures) (pair-stored (c .before .before .before .before .before .before .before .before .before .before .before .before .before .before .before .before .before .before .before .before .before .before .before .before .before .before .before .args .k .bytes) (c .before .before .before .before .before .before .before .before .before .before .before .before .before .before .before .before .before .before .before .before .before .before .before .before .before .before .before .args .middle) (c .before .before .before .before .before .before .before .before .before .before .before .before .before .before .before .before .before .before .before .before .before .before .before .before .before .before .before .args .to) (c .before .before .before .before .before .before .before .before .before .before .before .before .before .before .before .before .before .before .before .before .before .before .before .before .mark .given .0 .0) (c .before .before .before .before .before .before .before .before .before .before .before .before .before .before .before .before .before .before .before .before .before .before .before .before .before .before .before .args .k .events) (c .before .before .before .before .before .before .before .before .before .before .before .before .before .before .before .before .before .before .before .before .before .before .before .before .before .before .before .args .k .attributes) ev (c .before .before .before .before .before .before .before .before .before .before .before .before .before .before .before .before .before .before .before .before .before .before .before .before .before .before .before .args .attributes .now) by by′ by″ key value (c .before .before .before .before .before .before .before .before .before .before .before .before .before .before .before .before .before .before .before .before .before .before .before .before .mark .given .1) w v (c .before .before .before .before .before .before .before .before .before .before .before .before .before .before .before .before .before .before .before .before .before .middle .given .0 .0) (c .before .before .before .before .before .before .before .before .before .before .before .before .before .before .before .before .before .before .to .given .0 .0) (c .before .before .before .before .before .before .before .before .before .before .before .before .before .before .before .before .before .before .before .before .before .middle .given .1) (c .before .before .before .before .before .before .before .before .before .before .before .before .before .before .before .before .before .before .to .given .1) (c .before .before .before .before .before .put-words .last .0) _ (sym (c .before .before .before .before .before .before .before .before .before .before .before .before .before .before .before .before .has-pair-room .ensures) ∙ not-false _ (c .before .before .before .before .before .before .before .before .before .before .before .before .before .before .before .if1 .left)) (rw (c .before .enum-told4 .given .1) at x))
+returns-6 c =
+    let at-to = c .before .before .before .before .before .before .before .before .before .before .before .before .before .before .before .before .before .before in
+    let at-middle = at-to .before .before .before in
+    let at-mark = at-middle .before .before .before in
+    let args = at-mark .before .before .before .args in
+    let has-pair-room = c .before .before .before .before .before .before .before .before .before .before .before .before .before .before .before .before .has-pair-room in
+    let if1 = c .before .before .before .before .before .before .before .before .before .before .before .before .before .before .before .if1 in
+    let less = c .before .before .before .before .before .before .before .before .before .before .before .before .before .before .less in
+    let less2 = c .before .before .before .before .before .before .before .before .before .before .before .before .before .less2 in
+    let place = c .before .before .before .before .before .before .before .before .before .before .before .before .place in
+    let place2 = c .before .before .before .before .before .before .before .before .before .before .before .place2 in
+    let word = c .before .before .before .before .before .before .before .before .before .before .word in
+    let word2 = c .before .before .before .before .before .before .before .before .before .word2 in
+    let put-words = c .before .before .before .before .before .put-words in
+    λ ev by by′ by″ key value w v.
+    let x = other (put-words .ensures) (pair-words (args .k .bytes) (args .middle) (args .to) (at-mark .mark .given .0 .0) (args .k .events) (args .k .attributes) ev (args .attributes .now)
+    by by′ by″ key value (at-mark .mark .given .1) w v (at-middle .middle .given .0 .0) (at-to .to .given .0 .0) (at-middle .middle .given .1) (at-to .to .given .1) _ _ _
+    _ _ _ (sym (has-pair-room .ensures) ∙ not-false _ (if1 .left)) (less .ensures) (less2 .ensures) (place .ensures) (word .ensures) (place2 .ensures) (word2 .ensures)) in
+    rw (c .attribute-more .ensures) (pair-stored (args .k .bytes) (args .middle) (args .to) (at-mark .mark .given .0 .0) (args .k .events) (args .k .attributes) ev
+    (args .attributes .now) by by′ by″ key value (at-mark .mark .given .1) w v (at-middle .middle .given .0 .0) (at-to .to .given .0 .0) (at-middle .middle .given .1)
+    (at-to .to .given .1) (put-words .last .0) _ (sym (has-pair-room .ensures) ∙ not-false _ (if1 .left)) (rw (c .before .enum-told4 .given .1) at x))
 
 pub store-attribute-spec : {M : Type 1} → statement M
 store-attribute-spec =

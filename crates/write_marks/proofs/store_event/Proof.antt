@@ -28,7 +28,9 @@ shut-requires : tie.Need-shut-requires
 shut-requires c κs = search needs
 
 returns-2 : tie.Need-returns-2
-returns-2 c = λ at by by′ s w. no-bytes _ _ _ _ _ _ _ _ at by by′ s (c .before .before .before .before .mark .given .1) w _ (c .before .enum-told2 .given .1) (ap (λ (x : Marks). x .bytes) (c .shut .ensures))
+returns-2 c =
+    let mark = c .before .before .before .before .mark in
+    λ at by by′ s w. no-bytes _ _ _ _ _ _ _ _ at by by′ s (mark .given .1) w _ (c .before .enum-told2 .given .1) (ap (λ (x : Marks). x .bytes) (c .shut .ensures))
 
 has-entry-room-requires : tie.Need-has-entry-room-requires
 has-entry-room-requires c κs = search needs
@@ -37,7 +39,11 @@ shut-requires-2 : tie.Need-shut-requires-2
 shut-requires-2 c κs = search needs
 
 returns-3 : tie.Need-returns-3
-returns-3 c = λ at by by′ s w. no-limits _ _ _ _ _ _ _ _ at by by′ s (c .before .before .before .before .before .before .before .mark .given .1) w _ (c .before .before .before .before .to .given .1) _ (sym (c .before .before .has-entry-room .ensures) ∙ not-true _ (c .before .if1 .taken)) (ap (λ (x : Marks). x .bytes) (c .shut2 .ensures))
+returns-3 c =
+    let mark = c .before .before .before .before .before .before .before .mark in
+    let to = c .before .before .before .before .to in
+    λ at by by′ s w. no-limits _ _ _ _ _ _ _ _ at by by′ s (mark .given .1) w _ (to .given .1) _
+    (sym (c .before .before .has-entry-room .ensures) ∙ not-true _ (c .before .if1 .taken)) (ap (λ (x : Marks). x .bytes) (c .shut2 .ensures))
 
 less-requires : tie.Need-less-requires
 less-requires c κs = search needs
@@ -55,7 +61,12 @@ word-requires-2 : tie.Need-word-requires-2
 word-requires-2 c κs = search needs
 
 mul-t20 : tie.Need-mul-t20
-mul-t20 c = let l = entry-limits (c .before .before .before .before .before .before .before .before .before .before .before .before .before .before .before .before .args .k .events) (c .before .before .before .before .before .before .before .before .before .before .to .given .0 .0) (c .before .before .before .before .before .before .before .before .before .before .before .before .before .before .before .before .args .k .attributes) (c .before .before .before .before .before .before .before .before .before .before .before .before .before .before .before .before .args .count) (sym (c .before .before .before .before .before .before .before .before .has-entry-room .ensures) ∙ not-false _ (c .before .before .before .before .before .before .before .if1 .left)) in omega (arith, l .0)
+mul-t20 c =
+    let args = c .before .before .before .before .before .before .before .before .before .before .before .before .before .before .before .before .args in
+    let to = c .before .before .before .before .before .before .before .before .before .before .to in
+    let has-entry-room = c .before .before .before .before .before .before .before .before .has-entry-room in
+    let if1 = c .before .before .before .before .before .before .before .if1 in
+    let l = entry-limits (args .k .events) (to .given .0 .0) (args .k .attributes) (args .count) (sym (has-entry-room .ensures) ∙ not-false _ (if1 .left)) in omega (arith, l .0)
 
 slice-aggregate-put-words : tie.Need-slice-aggregate-put-words
 slice-aggregate-put-words c = search needs
@@ -76,20 +87,57 @@ same-length : tie.Need-same-length
 same-length c = search needs
 
 returns-4 : tie.Need-returns-4
-returns-4 c = λ at by by′ s w.
-    let v = other (c .before .before .before .before .before .put-words .ensures) (entry-words (c .before .before .before .before .before .before .before .before .before .before .before .before .before .before .before .before .before .before .before .before .before .before .before .args .k .bytes) (c .before .before .before .before .before .before .before .before .before .before .before .before .before .before .before .before .before .before .before .before .before .before .before .args .to) (c .before .before .before .before .before .before .before .before .before .before .before .before .before .before .before .before .before .before .before .before .mark .given .0 .0) (c .before .before .before .before .before .before .before .before .before .before .before .before .before .before .before .before .before .before .before .before .before .before .before .args .k .events) (c .before .before .before .before .before .before .before .before .before .before .before .before .before .before .before .before .before .before .before .before .before .before .before .args .k .attributes) (c .before .before .before .before .before .before .before .before .before .before .before .before .before .before .before .before .before .before .before .before .before .before .before .args .kind) (c .before .before .before .before .before .before .before .before .before .before .before .before .before .before .before .before .before .before .before .before .before .before .before .args .count) (c .before .before .before .before .before .before .before .before .before .before .before .before .before .before .before .before .before .before .before .before .before .before .before .args .events .now) at by by′ s (c .before .before .before .before .before .before .before .before .before .before .before .before .before .before .before .before .before .before .before .before .mark .given .1) w (c .before .before .before .before .before .before .before .before .before .before .before .before .before .before .before .before .before .to .given .0 .0) (c .before .before .before .before .before .before .before .before .before .before .before .before .before .before .before .before .before .to .given .1) _ _ _ _ _ (sym (c .before .before .before .before .before .before .before .before .before .before .before .before .before .before .before .has-entry-room .ensures) ∙ not-false _ (c .before .before .before .before .before .before .before .before .before .before .before .before .before .before .if1 .left)) (c .before .before .before .before .before .before .before .before .before .before .before .before .before .less .ensures) (c .before .before .before .before .before .before .before .before .before .before .before .before .place .ensures) (c .before .before .before .before .before .before .before .before .before .before .word .ensures) (c .before .before .before .before .before .before .before .before .before .before .before .place2 .ensures) (c .before .before .before .before .before .before .before .before .before .word2 .ensures)) in
-    no-entry (c .before .before .before .before .before .before .before .before .before .before .before .before .before .before .before .before .before .before .before .before .before .before .before .args .k .bytes) (c .before .before .before .before .before .before .before .before .before .before .before .before .before .before .before .before .before .before .before .before .before .before .before .args .to) (c .before .before .before .before .before .before .before .before .before .before .before .before .before .before .before .before .before .before .before .before .mark .given .0 .0) (c .before .before .before .before .before .before .before .before .before .before .before .before .before .before .before .before .before .before .before .before .before .before .before .args .k .events) (c .before .before .before .before .before .before .before .before .before .before .before .before .before .before .before .before .before .before .before .before .before .before .before .args .k .attributes) (c .before .before .before .before .before .before .before .before .before .before .before .before .before .before .before .before .before .before .before .before .before .before .before .args .kind) (c .before .before .before .before .before .before .before .before .before .before .before .before .before .before .before .before .before .before .before .before .before .before .before .args .count) (c .before .before .before .before .before .before .before .before .before .before .before .before .before .before .before .before .before .before .before .before .before .before .before .args .events .now) at by by′ s (c .before .before .before .before .before .before .before .before .before .before .before .before .before .before .before .before .before .before .before .before .mark .given .1) w (c .before .before .before .before .before .before .before .before .before .before .before .before .before .before .before .before .before .to .given .0 .0) (c .before .before .before .before .before .before .before .before .before .before .before .before .before .before .before .before .before .to .given .1) _ _ (rw (c .before .enum-told4 .given .1) at v) (ap (λ (x : Marks). x .bytes) (c .shut3 .ensures))
+returns-4 c =
+    let at-to = c .before .before .before .before .before .before .before .before .before .before .before .before .before .before .before .before .before in
+    let at-mark = at-to .before .before .before in
+    let args = at-mark .before .before .before .args in
+    let has-entry-room = c .before .before .before .before .before .before .before .before .before .before .before .before .before .before .before .has-entry-room in
+    let if1 = c .before .before .before .before .before .before .before .before .before .before .before .before .before .before .if1 in
+    let less = c .before .before .before .before .before .before .before .before .before .before .before .before .before .less in
+    let place = c .before .before .before .before .before .before .before .before .before .before .before .before .place in
+    let place2 = c .before .before .before .before .before .before .before .before .before .before .before .place2 in
+    let word = c .before .before .before .before .before .before .before .before .before .before .word in
+    let word2 = c .before .before .before .before .before .before .before .before .before .word2 in
+    let put-words = c .before .before .before .before .before .put-words in
+    λ at by by′ s w.
+    let v = other (put-words .ensures) (entry-words (args .k .bytes) (args .to) (at-mark .mark .given .0 .0) (args .k .events) (args .k .attributes)
+    (args .kind) (args .count) (args .events .now) at by by′ s (at-mark .mark .given .1) w (at-to .to .given .0 .0) (at-to .to .given .1) _ _ _ _ _
+    (sym (has-entry-room .ensures) ∙ not-false _ (if1 .left)) (less .ensures) (place .ensures) (word .ensures) (place2 .ensures) (word2 .ensures)) in
+    no-entry (args .k .bytes) (args .to) (at-mark .mark .given .0 .0) (args .k .events) (args .k .attributes) (args .kind) (args .count) (args .events .now) at by by′ s
+    (at-mark .mark .given .1) w (at-to .to .given .0 .0) (at-to .to .given .1) _ _ (rw (c .before .enum-told4 .given .1) at v) (ap (λ (x : Marks). x .bytes) (c .shut3 .ensures))
 
 event-more-requires : tie.Need-event-more-requires
-event-more-requires c κs = let l = entry-limits (c .before .before .before .before .before .before .before .before .before .before .before .before .before .before .before .before .before .before .before .before .before .before .args .k .events) (c .before .before .before .before .before .before .before .before .before .before .before .before .before .before .before .before .to .given .0 .0) (c .before .before .before .before .before .before .before .before .before .before .before .before .before .before .before .before .before .before .before .before .before .before .args .k .attributes) (c .before .before .before .before .before .before .before .before .before .before .before .before .before .before .before .before .before .before .before .before .before .before .args .count) (sym (c .before .before .before .before .before .before .before .before .before .before .before .before .before .before .has-entry-room .ensures) ∙ not-false _ (c .before .before .before .before .before .before .before .before .before .before .before .before .before .if1 .left)) in omega (arith, l .0)
+event-more-requires c κs =
+    let args =
+    c .before .before .before .before .before .before .before .before .before .before .before .before .before .before .before .before .before .before .before .before .before .before .args in
+    let to = c .before .before .before .before .before .before .before .before .before .before .before .before .before .before .before .before .to in
+    let has-entry-room = c .before .before .before .before .before .before .before .before .before .before .before .before .before .before .has-entry-room in
+    let if1 = c .before .before .before .before .before .before .before .before .before .before .before .before .before .if1 in
+    let l = entry-limits (args .k .events) (to .given .0 .0) (args .k .attributes) (args .count) (sym (has-entry-room .ensures) ∙ not-false _ (if1 .left)) in omega (arith, l .0)
 
 same-length-2 : tie.Need-same-length-2
 same-length-2 c = search needs
 
 returns-5 : tie.Need-returns-5
-returns-5 c = λ at by by′ s w.
-    let v = other (c .before .before .before .before .before .put-words .ensures) (entry-words (c .before .before .before .before .before .before .before .before .before .before .before .before .before .before .before .before .before .before .before .before .before .before .before .args .k .bytes) (c .before .before .before .before .before .before .before .before .before .before .before .before .before .before .before .before .before .before .before .before .before .before .before .args .to) (c .before .before .before .before .before .before .before .before .before .before .before .before .before .before .before .before .before .before .before .before .mark .given .0 .0) (c .before .before .before .before .before .before .before .before .before .before .before .before .before .before .before .before .before .before .before .before .before .before .before .args .k .events) (c .before .before .before .before .before .before .before .before .before .before .before .before .before .before .before .before .before .before .before .before .before .before .before .args .k .attributes) (c .before .before .before .before .before .before .before .before .before .before .before .before .before .before .before .before .before .before .before .before .before .before .before .args .kind) (c .before .before .before .before .before .before .before .before .before .before .before .before .before .before .before .before .before .before .before .before .before .before .before .args .count) (c .before .before .before .before .before .before .before .before .before .before .before .before .before .before .before .before .before .before .before .before .before .before .before .args .events .now) at by by′ s (c .before .before .before .before .before .before .before .before .before .before .before .before .before .before .before .before .before .before .before .before .mark .given .1) w (c .before .before .before .before .before .before .before .before .before .before .before .before .before .before .before .before .before .to .given .0 .0) (c .before .before .before .before .before .before .before .before .before .before .before .before .before .before .before .before .before .to .given .1) _ _ _ _ _ (sym (c .before .before .before .before .before .before .before .before .before .before .before .before .before .before .before .has-entry-room .ensures) ∙ not-false _ (c .before .before .before .before .before .before .before .before .before .before .before .before .before .before .if1 .left)) (c .before .before .before .before .before .before .before .before .before .before .before .before .before .less .ensures) (c .before .before .before .before .before .before .before .before .before .before .before .before .place .ensures) (c .before .before .before .before .before .before .before .before .before .before .word .ensures) (c .before .before .before .before .before .before .before .before .before .before .before .place2 .ensures) (c .before .before .before .before .before .before .before .before .before .word2 .ensures)) in
-    rw (c .event-more .ensures) (entry-stored (c .before .before .before .before .before .before .before .before .before .before .before .before .before .before .before .before .before .before .before .before .before .before .before .args .k .bytes) (c .before .before .before .before .before .before .before .before .before .before .before .before .before .before .before .before .before .before .before .before .before .before .before .args .to) (c .before .before .before .before .before .before .before .before .before .before .before .before .before .before .before .before .before .before .before .before .mark .given .0 .0) (c .before .before .before .before .before .before .before .before .before .before .before .before .before .before .before .before .before .before .before .before .before .before .before .args .k .events) (c .before .before .before .before .before .before .before .before .before .before .before .before .before .before .before .before .before .before .before .before .before .before .before .args .k .attributes) (c .before .before .before .before .before .before .before .before .before .before .before .before .before .before .before .before .before .before .before .before .before .before .before .args .kind) (c .before .before .before .before .before .before .before .before .before .before .before .before .before .before .before .before .before .before .before .before .before .before .before .args .count) (c .before .before .before .before .before .before .before .before .before .before .before .before .before .before .before .before .before .before .before .before .before .before .before .args .events .now) at by by′ s (c .before .before .before .before .before .before .before .before .before .before .before .before .before .before .before .before .before .before .before .before .mark .given .1) w (c .before .before .before .before .before .before .before .before .before .before .before .before .before .before .before .before .before .to .given .0 .0) (c .before .before .before .before .before .before .before .before .before .before .before .before .before .before .before .before .before .to .given .1) (c .before .before .before .before .before .put-words .last .0) _ (sym (c .before .before .before .before .before .before .before .before .before .before .before .before .before .before .before .has-entry-room .ensures) ∙ not-false _ (c .before .before .before .before .before .before .before .before .before .before .before .before .before .before .if1 .left)) (rw (c .before .enum-told3 .given .1) at v))
+returns-5 c =
+    let at-to = c .before .before .before .before .before .before .before .before .before .before .before .before .before .before .before .before .before in
+    let at-mark = at-to .before .before .before in
+    let args = at-mark .before .before .before .args in
+    let has-entry-room = c .before .before .before .before .before .before .before .before .before .before .before .before .before .before .before .has-entry-room in
+    let if1 = c .before .before .before .before .before .before .before .before .before .before .before .before .before .before .if1 in
+    let less = c .before .before .before .before .before .before .before .before .before .before .before .before .before .less in
+    let place = c .before .before .before .before .before .before .before .before .before .before .before .before .place in
+    let place2 = c .before .before .before .before .before .before .before .before .before .before .before .place2 in
+    let word = c .before .before .before .before .before .before .before .before .before .before .word in
+    let word2 = c .before .before .before .before .before .before .before .before .before .word2 in
+    let put-words = c .before .before .before .before .before .put-words in
+    λ at by by′ s w.
+    let v = other (put-words .ensures) (entry-words (args .k .bytes) (args .to) (at-mark .mark .given .0 .0) (args .k .events) (args .k .attributes)
+    (args .kind) (args .count) (args .events .now) at by by′ s (at-mark .mark .given .1) w (at-to .to .given .0 .0) (at-to .to .given .1) _ _ _ _ _
+    (sym (has-entry-room .ensures) ∙ not-false _ (if1 .left)) (less .ensures) (place .ensures) (word .ensures) (place2 .ensures) (word2 .ensures)) in
+    rw (c .event-more .ensures) (entry-stored (args .k .bytes) (args .to) (at-mark .mark .given .0 .0) (args .k .events) (args .k .attributes)
+    (args .kind) (args .count) (args .events .now) at by by′ s (at-mark .mark .given .1) w (at-to .to .given .0 .0) (at-to .to .given .1)
+    (put-words .last .0) _ (sym (has-entry-room .ensures) ∙ not-false _ (if1 .left)) (rw (c .before .enum-told3 .given .1) at v))
 
 pub store-event-spec : {M : Type 1} → statement M
 store-event-spec =

@@ -64,7 +64,32 @@ put-two-requires-11 : tie.Need-put-two-requires-11
 put-two-requires-11 c κs = search needs
 
 returns : tie.Need-returns
-returns c = rw (c .put-two11 .ensures, c .before .before .put-two10 .ensures, c .before .before .before .before .before .put-two9 .ensures, c .before .before .before .before .before .before .before .put-two8 .ensures, c .before .before .before .before .before .before .before .before .before .put-two7 .ensures, c .before .before .before .before .before .before .before .before .before .before .before .before .put-two6 .ensures, c .before .before .before .before .before .before .before .before .before .before .before .before .before .before .before .put-two5 .ensures, c .before .before .before .before .before .before .before .before .before .before .before .before .before .before .before .before .before .before .put-two4 .ensures, c .before .before .before .before .before .before .before .before .before .before .before .before .before .before .before .before .before .before .before .before .before .put-two3 .ensures, c .before .before .before .before .before .before .before .before .before .before .before .before .before .before .before .before .before .before .before .before .before .before .before .before .put-two2 .ensures, c .before .before .before .before .before .before .before .before .before .before .before .before .before .before .before .before .before .before .before .before .before .before .before .before .before .before .put-two .ensures) (moment-stored (c .before .before .before .before .before .before .before .before .before .before .before .before .before .before .before .before .before .before .before .before .before .before .before .before .before .before .before .before .before .before .before .before .before .args .m) _ _ (c .before .before .before .before .sign-of .ensures) (c .before .before .before .before .before .before .before .before .before .before .before .before .before .before .before .before .before .before .before .before .before .before .before .before .before .before .before .before .away-of .ensures))
+returns c =
+    let at-put-two4 = c .before .before .before .before .before .before .before .before .before .before .before .before .before .before .before .before .before .before in
+    let at-put-two3 = at-put-two4 .before .before .before in
+    let at-put-two2 = at-put-two3 .before .before .before in
+    let at-put-two = at-put-two2 .before .before in
+    let at-away-of = at-put-two .before .before in
+    let args = at-away-of .before .before .before .before .before .args in
+    let put-two5 = c .before .before .before .before .before .before .before .before .before .before .before .before .before .before .before .put-two5 in
+    let put-two6 = c .before .before .before .before .before .before .before .before .before .before .before .before .put-two6 in
+    let put-two7 = c .before .before .before .before .before .before .before .before .before .put-two7 in
+    let put-two8 = c .before .before .before .before .before .before .before .put-two8 in
+    let put-two9 = c .before .before .before .before .before .put-two9 in
+    let sign-of = c .before .before .before .before .sign-of in
+    rw (
+      c .put-two11 .ensures,
+      c .before .before .put-two10 .ensures,
+      put-two9 .ensures,
+      put-two8 .ensures,
+      put-two7 .ensures,
+      put-two6 .ensures,
+      put-two5 .ensures,
+      at-put-two4 .put-two4 .ensures,
+      at-put-two3 .put-two3 .ensures,
+      at-put-two2 .put-two2 .ensures,
+      at-put-two .put-two .ensures,
+    ) (moment-stored (args .m) _ _ (sign-of .ensures) (at-away-of .away-of .ensures))
 
 pub spell-spec : {M : Type 1} → statement M
 spell-spec =

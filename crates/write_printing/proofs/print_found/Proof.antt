@@ -13,18 +13,25 @@ enum-known-found : tie.Need-enum-known-found
 enum-known-found c = search needs
 
 add-end : tie.Need-add-end
-add-end c = let a = c .before .before .before .before .before .before .before .before .args in
-    let l = found-lies (a .found) _ (c .before .before .found .given .1) (length (a .events .now)) (length (a .attributes .now)) (length (a .input .now)) (c .before .before .before .before .before .before .before .before .pre) in
+add-end c =
+    let pre = c .before .before .before .before .before .before .before .before .pre in
+    let a = c .before .before .before .before .before .before .before .before .args in
+    let l = found-lies (a .found) _ (c .before .before .found .given .1) (length (a .events .now)) (length (a .attributes .now)) (length (a .input .now)) pre in
     omega arith
 
 slice-aggregate-print-report : tie.Need-slice-aggregate-print-report
-slice-aggregate-print-report c = let a = c .before .before .before .before .before .before .before .before .before .args in
-    let l = found-lies (a .found) _ (c .before .before .before .found .given .1) (length (a .events .now)) (length (a .attributes .now)) (length (a .input .now)) (c .before .before .before .before .before .before .before .before .before .pre) in
+slice-aggregate-print-report c =
+    let start = c .before .before .before .before .before .before .before .before .before in
+    let a = start .args in
+    let l = found-lies (a .found) _ (c .before .before .before .found .given .1) (length (a .events .now)) (length (a .attributes .now)) (length (a .input .now)) (start .pre) in
     sym (length-take-le _ _ (l .0))
 
 slice-aggregate-print-report-2 : tie.Need-slice-aggregate-print-report-2
-slice-aggregate-print-report-2 c = let a = c .before .before .before .before .before .before .before .before .before .before .args in
-    let l = found-lies (a .found) _ (c .before .before .before .before .found .given .1) (length (a .events .now)) (length (a .attributes .now)) (length (a .input .now)) (c .before .before .before .before .before .before .before .before .before .before .pre) in
+slice-aggregate-print-report-2 c =
+    let start = c .before .before .before .before .before .before .before .before .before .before in
+    let found = c .before .before .before .before .found in
+    let a = start .args in
+    let l = found-lies (a .found) _ (found .given .1) (length (a .events .now)) (length (a .attributes .now)) (length (a .input .now)) (start .pre) in
     sym (length-take-le _ _ (l .1 .0))
 
 sub-print-report : tie.Need-sub-print-report
@@ -34,8 +41,11 @@ part-print-report-start : tie.Need-part-print-report-start
 part-print-report-start c = search needs
 
 part-print-report-end : tie.Need-part-print-report-end
-part-print-report-end c = let a = c .before .before .before .before .before .before .before .before .before .before .args in
-    let l = found-lies (a .found) _ (c .before .before .before .before .found .given .1) (length (a .events .now)) (length (a .attributes .now)) (length (a .input .now)) (c .before .before .before .before .before .before .before .before .before .before .pre) in
+part-print-report-end c =
+    let pre = c .before .before .before .before .before .before .before .before .before .before .pre in
+    let found = c .before .before .before .before .found in
+    let a = c .before .before .before .before .before .before .before .before .before .before .args in
+    let l = found-lies (a .found) _ (found .given .1) (length (a .events .now)) (length (a .attributes .now)) (length (a .input .now)) pre in
     omega arith
 
 print-report-requires : tie.Need-print-report-requires
@@ -51,15 +61,19 @@ same-length : tie.Need-same-length
 same-length c = search needs
 
 returns : tie.Need-returns
-returns c = let a = c .before .before .before .before .before .before .before .before .before .before .before .before .before .before .before .args in
-    same-text (length (a .out .now)) (found-table _ _ (found-is (a .found) _ (c .before .before .before .before .before .before .before .before .before .found .given .1) (a .events .now) (a .attributes .now) (a .input .now))) (c .before .before .print-report .ensures)
+returns c =
+    let found = c .before .before .before .before .before .before .before .before .before .found in
+    let a = c .before .before .before .before .before .before .before .before .before .before .before .before .before .before .before .args in
+    same-text (length (a .out .now)) (found-table _ _ (found-is (a .found) _ (found .given .1) (a .events .now) (a .attributes .now) (a .input .now))) (c .before .before .print-report .ensures)
 
 same-length-2 : tie.Need-same-length-2
 same-length-2 c = search needs
 
 returns-2 : tie.Need-returns-2
-returns-2 c = let a = c .before .before .before .before .before .before .before .before .before .before .args in
-    same-text (length (a .out .now)) (found-none _ (found-not (a .found) (c .before .before .before .before .enum-told .given .1) (a .events .now) (a .attributes .now) (a .input .now))) (c .before .before .refuse .ensures)
+returns-2 c =
+    let enum-told-step = c .before .before .before .before .enum-told in
+    let a = c .before .before .before .before .before .before .before .before .before .before .args in
+    same-text (length (a .out .now)) (found-none _ (found-not (a .found) (enum-told-step .given .1) (a .events .now) (a .attributes .now) (a .input .now))) (c .before .before .refuse .ensures)
 
 pub print-found-spec : {M : Type 1} → statement M
 print-found-spec =

@@ -23,10 +23,14 @@ enum-told : tie.Need-enum-told
 enum-told c = c .match .keys1
 
 slice-aggregate-print-tree : tie.Need-slice-aggregate-print-tree
-slice-aggregate-print-tree c = sym (c .before .before .before .before .before .before .read .kept .1 .1 .1 .0 ∙ length-replicate {A = ℕ} 16384 0)
+slice-aggregate-print-tree c =
+    let read = c .before .before .before .before .before .before .read in
+    sym (read .kept .1 .1 .1 .0 ∙ length-replicate {A = ℕ} 16384 0)
 
 slice-aggregate-print-tree-2 : tie.Need-slice-aggregate-print-tree-2
-slice-aggregate-print-tree-2 c = sym (c .before .before .before .before .before .before .before .read .kept .1 .1 .1 .1 .0 ∙ length-replicate {A = ℕ} 65536 0)
+slice-aggregate-print-tree-2 c =
+    let read = c .before .before .before .before .before .before .before .read in
+    sym (read .kept .1 .1 .1 .1 .0 ∙ length-replicate {A = ℕ} 65536 0)
 
 print-tree-requires : tie.Need-print-tree-requires
 print-tree-requires c κs = tt
@@ -41,18 +45,25 @@ same-length : tie.Need-same-length
 same-length c = c .before .before .print-tree .kept .1 .1 .0
 
 returns : tie.Need-returns
-returns c = let a = c .before .before .before .before .before .before .before .before .before .before .before .before .before .before .before .before .before .before .before .args in
+returns c =
+    let enum-told-step = c .before .before .before .before .before .before .enum-told in
+    let a = c .before .before .before .before .before .before .before .before .before .before .before .before .before .before .before .before .before .before .before .args in
     let r = c .before .before .before .before .before .before .before .before .before .before .before .read in
-    same-text (length (a .out .now)) (report-read (a .events .now) (a .attributes .now) (a .source .now) _ _ _ (length-replicate {A = ℕ} 16384 0) (length-replicate {A = ℕ} 65536 0) (length-replicate {A = ℕ} 65536 0) _ _ (read-accepted (r .result) _ (r .ensures .0) (c .before .before .before .before .before .before .enum-told .given .1)) (r .ensures .1 .0) (r .ensures .1 .1 .0)) (c .before .before .print-tree .ensures)
+    same-text (length (a .out .now)) (report-read (a .events .now) (a .attributes .now) (a .source .now) _ _ _ (length-replicate {A = ℕ} 16384 0) (length-replicate {A = ℕ} 65536 0)
+    (length-replicate {A = ℕ} 65536 0) _ _ (read-accepted (r .result) _ (r .ensures .0) (enum-told-step .given .1)) (r .ensures .1 .0) (r .ensures .1 .1 .0))
+    (c .before .before .print-tree .ensures)
 
 same-length-2 : tie.Need-same-length-2
 same-length-2 c = c .before .before .refuse .kept .0
 
 returns-2 : tie.Need-returns-2
-returns-2 c = let a = c .before .before .before .before .before .before .before .before .before .before .before .before .before .before .before .before .before .args in
+returns-2 c =
+    let enum-told2 = c .before .before .before .before .enum-told2 in
+    let a = c .before .before .before .before .before .before .before .before .before .before .before .before .before .before .before .before .before .args in
     let r = c .before .before .before .before .before .before .before .before .before .read in
-    let q = read-refused (r .result) _ (r .ensures .0) (c .before .before .before .before .enum-told2 .given .1) in
-    same-text (length (a .out .now)) (report-refused (a .events .now) (a .attributes .now) (a .source .now) _ _ _ (length-replicate {A = ℕ} 16384 0) (length-replicate {A = ℕ} 65536 0) (length-replicate {A = ℕ} 65536 0) (q .0) (q .1)) (c .before .before .refuse .ensures)
+    let q = read-refused (r .result) _ (r .ensures .0) (enum-told2 .given .1) in
+    same-text (length (a .out .now)) (report-refused (a .events .now) (a .attributes .now) (a .source .now) _ _ _ (length-replicate {A = ℕ} 16384 0)
+    (length-replicate {A = ℕ} 65536 0) (length-replicate {A = ℕ} 65536 0) (q .0) (q .1)) (c .before .before .refuse .ensures)
 
 pub print-report-spec : {M : Type 1} → statement M
 print-report-spec =

@@ -19,13 +19,21 @@ same-length : tie.Need-same-length
 same-length c = search needs
 
 returns : tie.Need-returns
-returns c = whole-printed (c .before .before .before .before .before .before .before .before .before .before .before .before .before .before .before .args .out .now) _ _ _ (c .before .before .before .before .before .before .before .before .before .clear .ensures) _ (c .before .before .before .before .before .put-table .ensures) _ (c .before .put .given .1)
+returns c =
+    let args = c .before .before .before .before .before .before .before .before .before .before .before .before .before .before .before .args in
+    let clear = c .before .before .before .before .before .before .before .before .before .clear in
+    let put-table = c .before .before .before .before .before .put-table in
+    whole-printed (args .out .now) _ _ _ (clear .ensures) _ (put-table .ensures) _ (c .before .put .given .1)
 
 same-length-2 : tie.Need-same-length-2
 same-length-2 c = search needs
 
 returns-2 : tie.Need-returns-2
-returns-2 c = part-printed (c .before .before .before .before .before .before .before .before .before .before .before .before .before .before .args .out .now) _ _ _ (c .before .before .before .before .before .before .before .before .clear .ensures) _ (c .before .before .before .before .put-table .ensures) (c .enum-told .given .1)
+returns-2 c =
+    let args = c .before .before .before .before .before .before .before .before .before .before .before .before .before .before .args in
+    let clear = c .before .before .before .before .before .before .before .before .clear in
+    let put-table = c .before .before .before .before .put-table in
+    part-printed (args .out .now) _ _ _ (clear .ensures) _ (put-table .ensures) (c .enum-told .given .1)
 
 pub print-table-spec : {M : Type 1} → statement M
 print-table-spec =

@@ -13,16 +13,23 @@ sizes : (c : tie.After-enum-told) → let w = c .before .before .before .before 
 sizes c =
     let a = c .before .before .before .before .before .before .before .before .before .before .before .before .args in
     let w = c .before .before .before .before .before .write in
-    within (a .records .now) (a .text .now) _ _ _ (length-replicate {A = ℕ} 16384 0) (length-replicate {A = ℕ} 16384 0) (length-replicate {A = ℕ} 65536 0) (w .result) (w .ensures .0) (c .enum-told .given .1)
+    within (a .records .now) (a .text .now) _ _ _ (length-replicate {A = ℕ} 16384 0) (length-replicate {A = ℕ} 16384 0)
+    (length-replicate {A = ℕ} 65536 0) (w .result) (w .ensures .0) (c .enum-told .given .1)
 
 event-room : (c : tie.After-enum-told) → let w = c .before .before .before .before .before .write in w .result .events * 5 ≤ length (w .last .1 .1 .0)
-event-room c = omega (arith, sizes c .0, c .before .before .before .before .before .write .kept .1 .1 .0, length-replicate {A = ℕ} 16384 0)
+event-room c =
+    let write = c .before .before .before .before .before .write in
+    omega (arith, sizes c .0, write .kept .1 .1 .0, length-replicate {A = ℕ} 16384 0)
 
 attribute-room : (c : tie.After-enum-told) → let w = c .before .before .before .before .before .write in w .result .attributes * 5 ≤ length (w .last .1 .1 .1 .0)
-attribute-room c = omega (arith, sizes c .1, c .before .before .before .before .before .write .kept .1 .1 .1 .0, length-replicate {A = ℕ} 16384 0)
+attribute-room c =
+    let write = c .before .before .before .before .before .write in
+    omega (arith, sizes c .1, write .kept .1 .1 .1 .0, length-replicate {A = ℕ} 16384 0)
 
 byte-room : (c : tie.After-enum-told) → let w = c .before .before .before .before .before .write in w .result .bytes ≤ length (w .last .1 .1 .1 .1 .0)
-byte-room c = omega (arith, sizes c .2, c .before .before .before .before .before .write .kept .1 .1 .1 .1 .0, length-replicate {A = ℕ} 65536 0)
+byte-room c =
+    let write = c .before .before .before .before .before .write in
+    omega (arith, sizes c .2, write .kept .1 .1 .1 .1 .0, length-replicate {A = ℕ} 65536 0)
 
 slice-aggregate-write : tie.Need-slice-aggregate-write
 slice-aggregate-write c = sym (length-replicate {A = ℕ} 16384 0)
@@ -55,13 +62,19 @@ array-share-prefix-attributes : tie.Need-array-share-prefix-attributes
 array-share-prefix-attributes c = attribute-room (c .before .before .before)
 
 slice-aggregate-print-table-2 : tie.Need-slice-aggregate-print-table-2
-slice-aggregate-print-table-2 c = sym (length-take-le _ _ (attribute-room (c .before .before .before .before)))
+slice-aggregate-print-table-2 c =
+    let after-enum-told = c .before .before .before .before in
+    sym (length-take-le _ _ (attribute-room after-enum-told))
 
 array-share-prefix-bytes : tie.Need-array-share-prefix-bytes
-array-share-prefix-bytes c = byte-room (c .before .before .before .before)
+array-share-prefix-bytes c =
+    let after-enum-told = c .before .before .before .before in
+    byte-room after-enum-told
 
 slice-aggregate-print-table-3 : tie.Need-slice-aggregate-print-table-3
-slice-aggregate-print-table-3 c = sym (length-take-le _ _ (byte-room (c .before .before .before .before .before)))
+slice-aggregate-print-table-3 c =
+    let after-enum-told = c .before .before .before .before .before in
+    sym (length-take-le _ _ (byte-room after-enum-told))
 
 print-table-requires : tie.Need-print-table-requires
 print-table-requires c κs = tt
@@ -76,17 +89,23 @@ same-length : tie.Need-same-length
 same-length c = c .before .before .print-table .kept .1 .1 .1 .0
 
 returns : tie.Need-returns
-returns c = let a = c .before .before .before .before .before .before .before .before .before .before .before .before .before .before .before .before .before .before .before .before .before .args in
+returns c =
+    let enum-told-step = c .before .before .before .before .before .before .before .before .before .enum-told in
+    let a = c .before .before .before .before .before .before .before .before .before .before .before .before .before .before .before .before .before .before .before .before .before .args in
     let w = c .before .before .before .before .before .before .before .before .before .before .before .before .before .before .write in
-    same-text (length (a .out .now)) (tree-written (a .records .now) (a .text .now) _ _ _ (length-replicate {A = ℕ} 16384 0) (length-replicate {A = ℕ} 16384 0) (length-replicate {A = ℕ} 65536 0) (w .result) (w .ensures .0) (c .before .before .before .before .before .before .before .before .before .enum-told .given .1) _ _ _ (w .ensures .1 .0) (w .ensures .1 .1 .0) (w .ensures .1 .1 .1)) (c .before .before .print-table .ensures)
+    same-text (length (a .out .now)) (tree-written (a .records .now) (a .text .now) _ _ _ (length-replicate {A = ℕ} 16384 0) (length-replicate {A = ℕ} 16384 0) (length-replicate {A = ℕ} 65536 0)
+    (w .result) (w .ensures .0) (enum-told-step .given .1) _ _ _ (w .ensures .1 .0) (w .ensures .1 .1 .0) (w .ensures .1 .1 .1)) (c .before .before .print-table .ensures)
 
 same-length-2 : tie.Need-same-length-2
 same-length-2 c = c .before .before .refuse .kept .0
 
 returns-2 : tie.Need-returns-2
-returns-2 c = let a = c .before .before .before .before .before .before .before .before .before .before .before .before .before .before .before .before .args in
+returns-2 c =
+    let enum-told2 = c .before .before .before .before .enum-told2 in
+    let a = c .before .before .before .before .before .before .before .before .before .before .before .before .before .before .before .before .args in
     let w = c .before .before .before .before .before .before .before .before .before .write in
-    same-text (length (a .out .now)) (tree-refused (a .records .now) (a .text .now) _ _ _ (length-replicate {A = ℕ} 16384 0) (length-replicate {A = ℕ} 16384 0) (length-replicate {A = ℕ} 65536 0) (w .result) (w .ensures .0) (c .before .before .before .before .enum-told2 .given .1)) (c .before .before .refuse .ensures)
+    same-text (length (a .out .now)) (tree-refused (a .records .now) (a .text .now) _ _ _ (length-replicate {A = ℕ} 16384 0) (length-replicate {A = ℕ} 16384 0)
+    (length-replicate {A = ℕ} 65536 0) (w .result) (w .ensures .0) (enum-told2 .given .1)) (c .before .before .refuse .ensures)
 
 pub print-tree-spec : {M : Type 1} → statement M
 print-tree-spec =

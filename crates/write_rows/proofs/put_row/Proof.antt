@@ -20,7 +20,12 @@ same-length-3 : tie.Need-same-length-3
 same-length-3 c = search needs
 
 returns : tie.Need-returns
-returns c = said (c .before .before .before .before .before .before .put-property .ensures) (row-property (c .before .before .before .before .before .before .before .before .before .before .before .before .before .before .before .before .before .args .text .now) (c .before .before .before .before .before .before .before .before .before .before .before .before .before .before .before .before .before .args .flaky) (c .before .before .before .before .before .before .before .before .before .before .before .before .before .before .before .before .before .args .r .now) (rw (c .before .before .before .before .before .before .before .before .before .before .before .field .ensures) at (c .before .before .before .before .before .before .before .before .before .before .if1 .taken)))
+returns c =
+    let args = c .before .before .before .before .before .before .before .before .before .before .before .before .before .before .before .before .before .args in
+    let field = c .before .before .before .before .before .before .before .before .before .before .before .field in
+    let if1 = c .before .before .before .before .before .before .before .before .before .before .if1 in
+    let put-property = c .before .before .before .before .before .before .put-property in
+    said (put-property .ensures) (row-property (args .text .now) (args .flaky) (args .r .now) (rw (field .ensures) at (if1 .taken)))
 
 put-extra-requires : tie.Need-put-extra-requires
 put-extra-requires c κs = search needs
@@ -32,7 +37,13 @@ same-length-5 : tie.Need-same-length-5
 same-length-5 c = search needs
 
 returns-2 : tie.Need-returns-2
-returns-2 c = said (c .before .before .before .before .put-extra .ensures _) (row-extra (c .before .before .before .before .before .before .before .before .before .before .before .before .before .before .before .args .text .now) (c .before .before .before .before .before .before .before .before .before .before .before .before .before .before .before .args .flaky) (c .before .before .before .before .before .before .before .before .before .before .before .before .before .before .before .args .r .now) (rw (c .before .before .before .before .before .before .before .before .before .field .ensures) at (c .before .before .before .before .before .before .before .before .if1 .left)) (rw (c .before .before .before .before .before .before .before .before .before .field .ensures) at (c .before .before .before .before .before .before .before .if2 .taken)))
+returns-2 c =
+    let args = c .before .before .before .before .before .before .before .before .before .before .before .before .before .before .before .args in
+    let field = c .before .before .before .before .before .before .before .before .before .field in
+    let if1 = c .before .before .before .before .before .before .before .before .if1 in
+    let if2 = c .before .before .before .before .before .before .before .if2 in
+    let put-extra = c .before .before .before .before .put-extra in
+    said (put-extra .ensures _) (row-extra (args .text .now) (args .flaky) (args .r .now) (rw (field .ensures) at (if1 .left)) (rw (field .ensures) at (if2 .taken)))
 
 put-run-requires : tie.Need-put-run-requires
 put-run-requires c κs = search needs
@@ -47,7 +58,13 @@ same-length-8 : tie.Need-same-length-8
 same-length-8 c = search needs
 
 returns-3 : tie.Need-returns-3
-returns-3 c = said (c .before .before .before .before .before .before .put-run .ensures) (row-run (c .before .before .before .before .before .before .before .before .before .before .before .before .before .before .before .before .before .before .args .text .now) (c .before .before .before .before .before .before .before .before .before .before .before .before .before .before .before .before .before .before .args .flaky) (c .before .before .before .before .before .before .before .before .before .before .before .before .before .before .before .before .before .before .args .r .now) (rw (c .before .before .before .before .before .before .before .before .before .before .before .before .field .ensures) at (c .before .before .before .before .before .before .before .before .before .before .before .if1 .left)) (rw (c .before .before .before .before .before .before .before .before .before .before .before .before .field .ensures) at (c .before .before .before .before .before .before .before .before .before .before .if2 .left)))
+returns-3 c =
+    let args = c .before .before .before .before .before .before .before .before .before .before .before .before .before .before .before .before .before .before .args in
+    let field = c .before .before .before .before .before .before .before .before .before .before .before .before .field in
+    let if1 = c .before .before .before .before .before .before .before .before .before .before .before .if1 in
+    let if2 = c .before .before .before .before .before .before .before .before .before .before .if2 in
+    let put-run = c .before .before .before .before .before .before .put-run in
+    said (put-run .ensures) (row-run (args .text .now) (args .flaky) (args .r .now) (rw (field .ensures) at (if1 .left)) (rw (field .ensures) at (if2 .left)))
 
 pub put-row-spec : {M : Type 1} → statement M
 put-row-spec =

@@ -13,13 +13,16 @@ use Rattle.write_rows.proofs.put_rows.Statement.{statement}
 use Rattle.write_rows.proofs.put_rows.Tie as tie
 
 abbrev Inv-loop : tie.InvT-loop
-Inv-loop events₀ attributes₀ bytes₀ text words level low high flaky at₀ mark₀ events attributes bytes at mark = Going (rowsItems text flaky level low high) (kept mark₀ events₀ attributes₀ bytes₀) words (kept mark events attributes bytes) at
+Inv-loop events₀ attributes₀ bytes₀ text words level low high flaky at₀ mark₀ events attributes bytes at mark =
+    Going (rowsItems text flaky level low high) (kept mark₀ events₀ attributes₀ bytes₀) words (kept mark events attributes bytes) at
 
 abbrev μ-loop : tie.MeasureT-loop
 μ-loop events₀ attributes₀ bytes₀ text words level low high flaky at₀ mark₀ events attributes bytes at mark = length words - at
 
 loop-holds : tie.Need-loop-holds Inv-loop μ-loop
-loop-holds c = going-start (rowsItems (c .before .before .before .before .before .args .text .now) (c .before .before .before .before .before .args .flaky) (c .before .before .before .before .before .args .level) (c .before .before .before .before .before .args .low) (c .before .before .before .before .before .args .high)) _ _
+loop-holds c =
+    let args = c .before .before .before .before .before .args in
+    going-start (rowsItems (args .text .now) (args .flaky) (args .level) (args .low) (args .high)) _ _
 
 is-open-requires : tie.Need-is-open-requires Inv-loop μ-loop
 is-open-requires c κs = search needs
@@ -40,10 +43,16 @@ stands-here-requires : tie.Need-stands-here-requires Inv-loop μ-loop
 stands-here-requires c κs = search needs
 
 add-end : tie.Need-add-end Inv-loop μ-loop
-add-end c = omega (arith, stands-room (c .before .before .before .before .before .before .before .before .before .before .args .words .now) (c .before .before .before .before .loop .at) (goes-on (c .before .before .before .is-open .result) (c .before .stands-here .result) (c .if1 .taken) (c .before .stands-here .ensures)))
+add-end c =
+    let args = c .before .before .before .before .before .before .before .before .before .before .args in
+    let loop = c .before .before .before .before .loop in
+    omega (arith, stands-room (args .words .now) (loop .at) (goes-on (c .before .before .before .is-open .result) (c .before .stands-here .result) (c .if1 .taken) (c .before .stands-here .ensures)))
 
 mul-r : tie.Need-mul-r Inv-loop μ-loop
-mul-r c = omega (arith, stands-room (c .before .before .before .before .before .before .before .before .before .before .args .words .now) (c .before .before .before .before .loop .at) (goes-on (c .before .before .before .is-open .result) (c .before .stands-here .result) (c .if1 .taken) (c .before .stands-here .ensures)))
+mul-r c =
+    let args = c .before .before .before .before .before .before .before .before .before .before .args in
+    let loop = c .before .before .before .before .loop in
+    omega (arith, stands-room (args .words .now) (loop .at) (goes-on (c .before .before .before .is-open .result) (c .before .stands-here .result) (c .if1 .taken) (c .before .stands-here .ensures)))
 
 sub-r : tie.Need-sub-r Inv-loop μ-loop
 sub-r c = omega arith
@@ -52,7 +61,10 @@ part-r-start : tie.Need-part-r-start Inv-loop μ-loop
 part-r-start c = omega arith
 
 part-r-end : tie.Need-part-r-end Inv-loop μ-loop
-part-r-end c = omega (arith, stands-room (c .before .before .before .before .before .before .before .before .before .before .args .words .now) (c .before .before .before .before .loop .at) (goes-on (c .before .before .before .is-open .result) (c .before .stands-here .result) (c .if1 .taken) (c .before .stands-here .ensures)))
+part-r-end c =
+    let args = c .before .before .before .before .before .before .before .before .before .before .args in
+    let loop = c .before .before .before .before .loop in
+    omega (arith, stands-room (args .words .now) (loop .at) (goes-on (c .before .before .before .is-open .result) (c .before .stands-here .result) (c .if1 .taken) (c .before .stands-here .ensures)))
 
 field-requires : tie.Need-field-requires Inv-loop μ-loop
 field-requires c κs = search needs
@@ -61,16 +73,30 @@ ends-requires : tie.Need-ends-requires Inv-loop μ-loop
 ends-requires c κs = search needs
 
 same-length : tie.Need-same-length Inv-loop μ-loop
-same-length c = c .before .before .before .before .before .before .before .before .loop .inv .sameEvents
+same-length c =
+    let loop = c .before .before .before .before .before .before .before .before .loop in
+    loop .inv .sameEvents
 
 same-length-2 : tie.Need-same-length-2 Inv-loop μ-loop
-same-length-2 c = c .before .before .before .before .before .before .before .before .loop .inv .sameAttributes
+same-length-2 c =
+    let loop = c .before .before .before .before .before .before .before .before .loop in
+    loop .inv .sameAttributes
 
 same-length-3 : tie.Need-same-length-3 Inv-loop μ-loop
-same-length-3 c = c .before .before .before .before .before .before .before .before .loop .inv .sameBytes
+same-length-3 c =
+    let loop = c .before .before .before .before .before .before .before .before .loop in
+    loop .inv .sameBytes
 
 returns : tie.Need-returns Inv-loop μ-loop
-returns c = going-end (rowsItems (c .before .before .before .before .before .before .before .before .before .before .before .before .before .before .args .text .now) (c .before .before .before .before .before .before .before .before .before .before .before .before .before .before .args .flaky) (c .before .before .before .before .before .before .before .before .before .before .before .before .before .before .args .level) (c .before .before .before .before .before .before .before .before .before .before .before .before .before .before .args .low) (c .before .before .before .before .before .before .before .before .before .before .before .before .before .before .args .high)) (c .before .before .before .before .before .before .before .before .loop .inv) (goes-on (c .before .before .before .before .before .before .before .is-open .result) (c .before .before .before .before .before .stands-here .result) (c .before .before .before .before .if1 .taken) (c .before .before .before .before .before .stands-here .ensures)) (rows-end (c .before .before .before .before .before .before .before .before .before .before .before .before .before .before .args .text .now) (c .before .before .before .before .before .before .before .before .before .before .before .before .before .before .args .flaky) (c .before .before .before .before .before .before .before .before .before .before .before .before .before .before .args .level) (c .before .before .before .before .before .before .before .before .before .before .before .before .before .before .args .low) (c .before .before .before .before .before .before .before .before .before .before .before .before .before .before .args .high) (take (c .before .before .before .before .before .before .before .before .loop .at + 32 - c .before .before .before .before .before .before .before .before .loop .at) (drop (c .before .before .before .before .before .before .before .before .loop .at) (c .before .before .before .before .before .before .before .before .before .before .before .before .before .before .args .words .now))) (recordsIn (drop (c .before .before .before .before .before .before .before .before .loop .at + 32) (c .before .before .before .before .before .before .before .before .before .before .before .before .before .before .args .words .now))) (rw (c .before .before .field .ensures) at (sym (c .before .ends .ensures) ∙ c .if2 .taken)))
+returns c =
+    let args = c .before .before .before .before .before .before .before .before .before .before .before .before .before .before .args in
+    let loop = c .before .before .before .before .before .before .before .before .loop in
+    let is-open = c .before .before .before .before .before .before .before .is-open in
+    let stands-here = c .before .before .before .before .before .stands-here in
+    let if1 = c .before .before .before .before .if1 in
+    going-end (rowsItems (args .text .now) (args .flaky) (args .level) (args .low) (args .high)) (loop .inv) (goes-on (is-open .result) (stands-here .result) (if1 .taken) (stands-here .ensures))
+    (rows-end (args .text .now) (args .flaky) (args .level) (args .low) (args .high) (take (loop .at + 32 - loop .at) (drop (loop .at) (args .words .now)))
+    (recordsIn (drop (loop .at + 32) (args .words .now))) (rw (c .before .before .field .ensures) at (sym (c .before .ends .ensures) ∙ c .if2 .taken)))
 
 is-between-requires : tie.Need-is-between-requires Inv-loop μ-loop
 is-between-requires c κs = search needs
@@ -79,28 +105,77 @@ put-row-requires : tie.Need-put-row-requires Inv-loop μ-loop
 put-row-requires c κs = search needs
 
 loop-less : tie.Need-loop-less Inv-loop μ-loop
-loop-less c = omega (arith, stands-room (c .before .before .before .before .before .before .before .before .before .before .before .before .before .before .before .before .before .before .before .before .before .before .before .before .before .before .args .words .now) (c .before .before .before .before .before .before .before .before .before .before .before .before .before .before .before .before .before .before .before .before .loop .at) (goes-on (c .before .before .before .before .before .before .before .before .before .before .before .before .before .before .before .before .before .before .before .is-open .result) (c .before .before .before .before .before .before .before .before .before .before .before .before .before .before .before .before .before .stands-here .result) (c .before .before .before .before .before .before .before .before .before .before .before .before .before .before .before .before .if1 .taken) (c .before .before .before .before .before .before .before .before .before .before .before .before .before .before .before .before .before .stands-here .ensures)))
+loop-less c =
+    let args = c .before .before .before .before .before .before .before .before .before .before .before .before .before
+    .before .before .before .before .before .before .before .before .before .before .before .before .before .args in
+    let loop = c .before .before .before .before .before .before .before .before .before .before .before .before .before .before .before .before .before .before .before .before .loop in
+    let is-open = c .before .before .before .before .before .before .before .before .before .before .before .before .before .before .before .before .before .before .before .is-open in
+    let stands-here = c .before .before .before .before .before .before .before .before .before .before .before .before .before .before .before .before .before .stands-here in
+    let if1 = c .before .before .before .before .before .before .before .before .before .before .before .before .before .before .before .before .if1 in
+    omega (arith, stands-room (args .words .now) (loop .at) (goes-on (is-open .result) (stands-here .result) (if1 .taken) (stands-here .ensures)))
 
 loop-again : tie.Need-loop-again Inv-loop μ-loop
-loop-again c = going-wrote (rowsItems (c .before .before .before .before .before .before .before .before .before .before .before .before .before .before .before .before .before .before .before .before .before .before .before .before .before .before .args .text .now) (c .before .before .before .before .before .before .before .before .before .before .before .before .before .before .before .before .before .before .before .before .before .before .before .before .before .before .args .flaky) (c .before .before .before .before .before .before .before .before .before .before .before .before .before .before .before .before .before .before .before .before .before .before .before .before .before .before .args .level) (c .before .before .before .before .before .before .before .before .before .before .before .before .before .before .before .before .before .before .before .before .before .before .before .before .before .before .args .low) (c .before .before .before .before .before .before .before .before .before .before .before .before .before .before .before .before .before .before .before .before .before .before .before .before .before .before .args .high)) (c .before .before .before .before .before .before .before .before .before .before .before .before .before .before .before .before .before .before .before .before .loop .inv) (goes-on (c .before .before .before .before .before .before .before .before .before .before .before .before .before .before .before .before .before .before .before .is-open .result) (c .before .before .before .before .before .before .before .before .before .before .before .before .before .before .before .before .before .stands-here .result) (c .before .before .before .before .before .before .before .before .before .before .before .before .before .before .before .before .if1 .taken) (c .before .before .before .before .before .before .before .before .before .before .before .before .before .before .before .before .before .stands-here .ensures)) _ (rows-row (c .before .before .before .before .before .before .before .before .before .before .before .before .before .before .before .before .before .before .before .before .before .before .before .before .before .before .args .text .now) (c .before .before .before .before .before .before .before .before .before .before .before .before .before .before .before .before .before .before .before .before .before .before .before .before .before .before .args .flaky) (c .before .before .before .before .before .before .before .before .before .before .before .before .before .before .before .before .before .before .before .before .before .before .before .before .before .before .args .level) (c .before .before .before .before .before .before .before .before .before .before .before .before .before .before .before .before .before .before .before .before .before .before .before .before .before .before .args .low) (c .before .before .before .before .before .before .before .before .before .before .before .before .before .before .before .before .before .before .before .before .before .before .before .before .before .before .args .high) (take (c .before .before .before .before .before .before .before .before .before .before .before .before .before .before .before .before .before .before .before .before .loop .at + 32 - c .before .before .before .before .before .before .before .before .before .before .before .before .before .before .before .before .before .before .before .before .loop .at) (drop (c .before .before .before .before .before .before .before .before .before .before .before .before .before .before .before .before .before .before .before .before .loop .at) (c .before .before .before .before .before .before .before .before .before .before .before .before .before .before .before .before .before .before .before .before .before .before .before .before .before .before .args .words .now))) (recordsIn (drop (c .before .before .before .before .before .before .before .before .before .before .before .before .before .before .before .before .before .before .before .before .loop .at + 32) (c .before .before .before .before .before .before .before .before .before .before .before .before .before .before .before .before .before .before .before .before .before .before .before .before .before .before .args .words .now))) (rw (c .before .before .before .before .before .before .before .before .before .before .before .before .before .before .field .ensures) at (sym (c .before .before .before .before .before .before .before .before .before .before .before .before .before .ends .ensures) ∙ c .before .before .before .before .before .before .before .before .before .before .before .before .if2 .left)) (rw (c .before .before .before .before .before .before .before .before .before .before .before .before .before .before .field .ensures) at (sym (c .before .before .before .before .before .before .before .before .before .before .before .is-between .ensures) ∙ c .before .before .before .before .before .before .before .before .before .before .if3 .taken))) (c .before .before .before .before .before .before .put-row .ensures) (search needs) (search needs) (search needs)
+loop-again c =
+    let args = c .before .before .before .before .before .before .before .before .before .before .before .before .before
+    .before .before .before .before .before .before .before .before .before .before .before .before .before .args in
+    let loop = c .before .before .before .before .before .before .before .before .before .before .before .before .before .before .before .before .before .before .before .before .loop in
+    let is-open = c .before .before .before .before .before .before .before .before .before .before .before .before .before .before .before .before .before .before .before .is-open in
+    let stands-here = c .before .before .before .before .before .before .before .before .before .before .before .before .before .before .before .before .before .stands-here in
+    let if1 = c .before .before .before .before .before .before .before .before .before .before .before .before .before .before .before .before .if1 in
+    let field = c .before .before .before .before .before .before .before .before .before .before .before .before .before .before .field in
+    let ends = c .before .before .before .before .before .before .before .before .before .before .before .before .before .ends in
+    let if2 = c .before .before .before .before .before .before .before .before .before .before .before .before .if2 in
+    let is-between = c .before .before .before .before .before .before .before .before .before .before .before .is-between in
+    let if3 = c .before .before .before .before .before .before .before .before .before .before .if3 in
+    let put-row = c .before .before .before .before .before .before .put-row in
+    going-wrote (rowsItems (args .text .now) (args .flaky) (args .level) (args .low) (args .high)) (loop .inv) (goes-on (is-open .result) (stands-here .result) (if1 .taken) (stands-here .ensures))
+    _ (rows-row (args .text .now) (args .flaky) (args .level) (args .low) (args .high) (take (loop .at + 32 - loop .at) (drop (loop .at) (args .words .now)))
+    (recordsIn (drop (loop .at + 32) (args .words .now))) (rw (field .ensures) at (sym (ends .ensures) ∙ if2 .left)) (rw (field .ensures) at (sym (is-between .ensures) ∙ if3 .taken)))
+    (put-row .ensures) (search needs) (search needs) (search needs)
 
 loop-less-2 : tie.Need-loop-less-2 Inv-loop μ-loop
-loop-less-2 c = omega (arith, stands-room (c .before .before .before .before .before .before .before .before .before .before .before .before .before .before .before .before .args .words .now) (c .before .before .before .before .before .before .before .before .before .before .loop .at) (goes-on (c .before .before .before .before .before .before .before .before .before .is-open .result) (c .before .before .before .before .before .before .before .stands-here .result) (c .before .before .before .before .before .before .if1 .taken) (c .before .before .before .before .before .before .before .stands-here .ensures)))
+loop-less-2 c =
+    let args = c .before .before .before .before .before .before .before .before .before .before .before .before .before .before .before .before .args in
+    let loop = c .before .before .before .before .before .before .before .before .before .before .loop in
+    let is-open = c .before .before .before .before .before .before .before .before .before .is-open in
+    let stands-here = c .before .before .before .before .before .before .before .stands-here in
+    let if1 = c .before .before .before .before .before .before .if1 in
+    omega (arith, stands-room (args .words .now) (loop .at) (goes-on (is-open .result) (stands-here .result) (if1 .taken) (stands-here .ensures)))
 
 loop-again-2 : tie.Need-loop-again-2 Inv-loop μ-loop
-loop-again-2 c = going-pass (rowsItems (c .before .before .before .before .before .before .before .before .before .before .before .before .before .before .before .before .args .text .now) (c .before .before .before .before .before .before .before .before .before .before .before .before .before .before .before .before .args .flaky) (c .before .before .before .before .before .before .before .before .before .before .before .before .before .before .before .before .args .level) (c .before .before .before .before .before .before .before .before .before .before .before .before .before .before .before .before .args .low) (c .before .before .before .before .before .before .before .before .before .before .before .before .before .before .before .before .args .high)) (c .before .before .before .before .before .before .before .before .before .before .loop .inv) (goes-on (c .before .before .before .before .before .before .before .before .before .is-open .result) (c .before .before .before .before .before .before .before .stands-here .result) (c .before .before .before .before .before .before .if1 .taken) (c .before .before .before .before .before .before .before .stands-here .ensures)) (rows-pass (c .before .before .before .before .before .before .before .before .before .before .before .before .before .before .before .before .args .text .now) (c .before .before .before .before .before .before .before .before .before .before .before .before .before .before .before .before .args .flaky) (c .before .before .before .before .before .before .before .before .before .before .before .before .before .before .before .before .args .level) (c .before .before .before .before .before .before .before .before .before .before .before .before .before .before .before .before .args .low) (c .before .before .before .before .before .before .before .before .before .before .before .before .before .before .before .before .args .high) (take (c .before .before .before .before .before .before .before .before .before .before .loop .at + 32 - c .before .before .before .before .before .before .before .before .before .before .loop .at) (drop (c .before .before .before .before .before .before .before .before .before .before .loop .at) (c .before .before .before .before .before .before .before .before .before .before .before .before .before .before .before .before .args .words .now))) (recordsIn (drop (c .before .before .before .before .before .before .before .before .before .before .loop .at + 32) (c .before .before .before .before .before .before .before .before .before .before .before .before .before .before .before .before .args .words .now))) (rw (c .before .before .before .before .field .ensures) at (sym (c .before .before .before .ends .ensures) ∙ c .before .before .if2 .left)) (rw (c .before .before .before .before .field .ensures) at (sym (c .before .is-between .ensures) ∙ c .if3 .left)))
+loop-again-2 c =
+    let args = c .before .before .before .before .before .before .before .before .before .before .before .before .before .before .before .before .args in
+    let loop = c .before .before .before .before .before .before .before .before .before .before .loop in
+    let is-open = c .before .before .before .before .before .before .before .before .before .is-open in
+    let stands-here = c .before .before .before .before .before .before .before .stands-here in
+    let if1 = c .before .before .before .before .before .before .if1 in
+    let field = c .before .before .before .before .field in
+    going-pass (rowsItems (args .text .now) (args .flaky) (args .level) (args .low) (args .high)) (loop .inv)
+    (goes-on (is-open .result) (stands-here .result) (if1 .taken) (stands-here .ensures)) (rows-pass (args .text .now) (args .flaky) (args .level)
+    (args .low) (args .high) (take (loop .at + 32 - loop .at) (drop (loop .at) (args .words .now))) (recordsIn (drop (loop .at + 32) (args .words .now)))
+    (rw (field .ensures) at (sym (c .before .before .before .ends .ensures) ∙ c .before .before .if2 .left)) (rw (field .ensures) at (sym (c .before .is-between .ensures) ∙ c .if3 .left)))
 
 same-length-4 : tie.Need-same-length-4 Inv-loop μ-loop
-same-length-4 c = c .before .before .before .before .loop .inv .sameEvents
+same-length-4 c =
+    let loop = c .before .before .before .before .loop in
+    loop .inv .sameEvents
 
 same-length-5 : tie.Need-same-length-5 Inv-loop μ-loop
-same-length-5 c = c .before .before .before .before .loop .inv .sameAttributes
+same-length-5 c =
+    let loop = c .before .before .before .before .loop in
+    loop .inv .sameAttributes
 
 same-length-6 : tie.Need-same-length-6 Inv-loop μ-loop
-same-length-6 c = c .before .before .before .before .loop .inv .sameBytes
+same-length-6 c =
+    let loop = c .before .before .before .before .loop in
+    loop .inv .sameBytes
 
 returns-2 : tie.Need-returns-2 Inv-loop μ-loop
-returns-2 c = going-stop (rowsItems (c .before .before .before .before .before .before .before .before .before .before .args .text .now) (c .before .before .before .before .before .before .before .before .before .before .args .flaky) (c .before .before .before .before .before .before .before .before .before .before .args .level) (c .before .before .before .before .before .before .before .before .before .before .args .low) (c .before .before .before .before .before .before .before .before .before .before .args .high)) (c .before .before .before .before .loop .inv) (c .before .before .before .is-open .result) (c .before .stands-here .result) (rows-over (c .before .before .before .before .before .before .before .before .before .before .args .text .now) (c .before .before .before .before .before .before .before .before .before .before .args .flaky) (c .before .before .before .before .before .before .before .before .before .before .args .level) (c .before .before .before .before .before .before .before .before .before .before .args .low) (c .before .before .before .before .before .before .before .before .before .before .args .high)) (c .if1 .left) (c .before .before .before .is-open .ensures) (c .before .stands-here .ensures)
+returns-2 c =
+    let args = c .before .before .before .before .before .before .before .before .before .before .args in
+    let loop = c .before .before .before .before .loop in
+    going-stop (rowsItems (args .text .now) (args .flaky) (args .level) (args .low) (args .high)) (loop .inv) (c .before .before .before .is-open .result) (c .before .stands-here .result)
+    (rows-over (args .text .now) (args .flaky) (args .level) (args .low) (args .high)) (c .if1 .left) (c .before .before .before .is-open .ensures) (c .before .stands-here .ensures)
 
 pub put-rows-spec : {M : Type 1} → statement M
 put-rows-spec =

@@ -10,7 +10,9 @@ has-bit-requires : tie.Need-has-bit-requires
 has-bit-requires c κs = search needs
 
 returns : tie.Need-returns
-returns c = λ at. said (wrote-nothing _) (not-described (c .before .before .before .before .before .before .args .text .now) (c .before .before .before .before .before .before .args .r .now) (sym (c .before .has-bit .ensures) ∙ not-true _ (c .if1 .taken)))
+returns c =
+    let args = c .before .before .before .before .before .before .args in
+    λ at. said (wrote-nothing _) (not-described (args .text .now) (args .r .now) (sym (c .before .has-bit .ensures) ∙ not-true _ (c .if1 .taken)))
 
 put-text-requires : tie.Need-put-text-requires
 put-text-requires c κs = search needs
@@ -34,7 +36,17 @@ same-length-2 : tie.Need-same-length-2
 same-length-2 c = search needs
 
 returns-2 : tie.Need-returns-2
-returns-2 c = λ at. said (then (c .before .before .before .before .before .before .before .before .before .before .before .before .put-text .ensures at) (c .before .before .put-bare .ensures at _)) (described-indented (c .before .before .before .before .before .before .before .before .before .before .before .before .before .before .before .before .before .before .before .before .before .args .text .now) (c .before .before .before .before .before .before .before .before .before .before .before .before .before .before .before .before .before .before .before .before .before .args .r .now) (sym (c .before .before .before .before .before .before .before .before .before .before .before .before .before .before .before .before .has-bit .ensures) ∙ not-false _ (c .before .before .before .before .before .before .before .before .before .before .before .before .before .before .before .if1 .left)) (rw (c .before .before .before .before .before .before .before .has-bit2 .ensures, c .before .before .before .before .before .before .has-bit3 .ensures, c .before .before .before .before .before .has-bit4 .ensures) at (c .before .before .before .before .if2 .taken)))
+returns-2 c =
+    let at-has-bit = c .before .before .before .before .before .before .before .before .before .before .before .before .before .before .before .before in
+    let args = at-has-bit .before .before .before .before .before .args in
+    let if1 = c .before .before .before .before .before .before .before .before .before .before .before .before .before .before .before .if1 in
+    let put-text = c .before .before .before .before .before .before .before .before .before .before .before .before .put-text in
+    let has-bit2 = c .before .before .before .before .before .before .before .has-bit2 in
+    let has-bit3 = c .before .before .before .before .before .before .has-bit3 in
+    let has-bit4 = c .before .before .before .before .before .has-bit4 in
+    let if2 = c .before .before .before .before .if2 in
+    λ at. said (then (put-text .ensures at) (c .before .before .put-bare .ensures at _)) (described-indented (args .text .now) (args .r .now)
+    (sym (at-has-bit .has-bit .ensures) ∙ not-false _ (if1 .left)) (rw (has-bit2 .ensures, has-bit3 .ensures, has-bit4 .ensures) at (if2 .taken)))
 
 same-length-3 : tie.Need-same-length-3
 same-length-3 c = search needs
@@ -43,7 +55,13 @@ same-length-4 : tie.Need-same-length-4
 same-length-4 c = search needs
 
 returns-3 : tie.Need-returns-3
-returns-3 c = λ at. said (c .before .before .before .before .before .before .before .before .put-text .ensures at) (described-alone (c .before .before .before .before .before .before .before .before .before .before .before .before .before .before .before .before .before .args .text .now) (c .before .before .before .before .before .before .before .before .before .before .before .before .before .before .before .before .before .args .r .now) (sym (c .before .before .before .before .before .before .before .before .before .before .before .before .has-bit .ensures) ∙ not-false _ (c .before .before .before .before .before .before .before .before .before .before .before .if1 .left)) (rw (c .before .before .before .has-bit2 .ensures, c .before .before .has-bit3 .ensures, c .before .has-bit4 .ensures) at (c .if2 .left)))
+returns-3 c =
+    let args = c .before .before .before .before .before .before .before .before .before .before .before .before .before .before .before .before .before .args in
+    let has-bit = c .before .before .before .before .before .before .before .before .before .before .before .before .has-bit in
+    let if1 = c .before .before .before .before .before .before .before .before .before .before .before .if1 in
+    let put-text = c .before .before .before .before .before .before .before .before .put-text in
+    λ at. said (put-text .ensures at) (described-alone (args .text .now) (args .r .now) (sym (has-bit .ensures) ∙ not-false _ (if1 .left))
+    (rw (c .before .before .before .has-bit2 .ensures, c .before .before .has-bit3 .ensures, c .before .has-bit4 .ensures) at (c .if2 .left)))
 
 pub put-description-spec : {M : Type 1} → statement M
 put-description-spec =

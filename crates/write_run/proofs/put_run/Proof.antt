@@ -29,7 +29,13 @@ same-length-3 : tie.Need-same-length-3
 same-length-3 c = search needs
 
 returns : tie.Need-returns
-returns c = said (then (c .before .before .before .before .before .before .before .before .before .before .before .before .before .put-element .ensures) (c .before .before .before .before .put-run-children .ensures _)) (run-items (c .before .before .before .before .before .before .before .before .before .before .before .before .before .before .before .before .before .before .before .before .before .before .before .before .before .args .text .now) (c .before .before .before .before .before .before .before .before .before .before .before .before .before .before .before .before .before .before .before .before .before .before .before .before .before .args .r .now) (c .before .before .before .before .before .before .before .before .before .before .before .before .before .before .before .before .before .before .before .before .before .before .before .before .before .args .flaky) _ (rw (c .before .before .before .before .before .before .before .before .before .before .before .before .before .before .before .before .before .before .before .field .ensures) at (c .before .before .before .before .before .before .before .before .before .before .before .before .before .before .before .before .before .before .run-tag .ensures)))
+returns c =
+    let at-run-tag = c .before .before .before .before .before .before .before .before .before .before .before .before .before .before .before .before .before .before in
+    let at-field = at-run-tag .before in
+    let args = at-field .before .before .before .before .before .before .args in
+    let put-element = c .before .before .before .before .before .before .before .before .before .before .before .before .before .put-element in
+    let put-run-children = c .before .before .before .before .put-run-children in
+    said (then (put-element .ensures) (put-run-children .ensures _)) (run-items (args .text .now) (args .r .now) (args .flaky) _ (rw (at-field .field .ensures) at (at-run-tag .run-tag .ensures)))
 
 pub put-run-spec : {M : Type 1} → statement M
 put-run-spec =

@@ -20,7 +20,12 @@ same-length-2 : tie.Need-same-length-2
 same-length-2 c = search needs
 
 returns : tie.Need-returns
-returns c = λ at. said (then (c .before .before .before .before .before .before .before .before .before .before .before .before .before .before .before .before .before .before .put-run-text .ensures at) (then (c .before .before .before .before .before .before .before .before .before .before .before .put-outputs .ensures at) (c .before .before .before .before .put-tag .ensures at))) (closed-items (c .before .before .before .before .before .before .before .before .before .before .before .before .before .before .before .before .before .before .before .before .before .before .before .before .before .args .text .now) (c .before .before .before .before .before .before .before .before .before .before .before .before .before .before .before .before .before .before .before .before .before .before .before .before .before .args .r .now) _)
+returns c =
+    let at-put-run-text = c .before .before .before .before .before .before .before .before .before .before .before .before .before .before .before .before .before .before in
+    let args = at-put-run-text .before .before .before .before .before .before .before .args in
+    let put-outputs = c .before .before .before .before .before .before .before .before .before .before .before .put-outputs in
+    let put-tag = c .before .before .before .before .put-tag in
+    λ at. said (then (at-put-run-text .put-run-text .ensures at) (then (put-outputs .ensures at) (put-tag .ensures at))) (closed-items (args .text .now) (args .r .now) _)
 
 pub put-run-children-spec : {M : Type 1} → statement M
 put-run-children-spec =

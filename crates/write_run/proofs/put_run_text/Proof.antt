@@ -17,7 +17,11 @@ same-length-2 : tie.Need-same-length-2
 same-length-2 c = search needs
 
 returns : tie.Need-returns
-returns c = λ at. said (then (c .before .before .before .before .before .before .before .before .before .before .before .put-description .ensures at) (c .before .before .before .before .put-optional .ensures at)) (traced-items (c .before .before .before .before .before .before .before .before .before .before .before .before .before .before .before .before .before .before .args .text .now) (c .before .before .before .before .before .before .before .before .before .before .before .before .before .before .before .before .before .before .args .r .now))
+returns c =
+    let args = c .before .before .before .before .before .before .before .before .before .before .before .before .before .before .before .before .before .before .args in
+    let put-description = c .before .before .before .before .before .before .before .before .before .before .before .put-description in
+    let put-optional = c .before .before .before .before .put-optional in
+    λ at. said (then (put-description .ensures at) (put-optional .ensures at)) (traced-items (args .text .now) (args .r .now))
 
 cast-put-optional : tie.Need-cast-put-optional
 cast-put-optional c = search needs

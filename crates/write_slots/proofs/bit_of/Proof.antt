@@ -17,23 +17,65 @@ returns-3 c = rw (c .before .before .if1 .left, ne-eqb (c .before .before .befor
 
 returns-4 : tie.Need-returns-4
 unfolding bitOf
-returns-4 c = rw (c .before .before .before .if1 .left, ne-eqb (c .before .before .before .before .args .code) 3 (c .before .before .if2 .left), ne-eqb (c .before .before .before .before .args .code) 4 (c .before .if3 .left), eq-eqb (c .before .before .before .before .args .code) 5 (c .if4 .taken))
+returns-4 c =
+    let args = c .before .before .before .before .args in
+    rw (c .before .before .before .if1 .left, ne-eqb (args .code) 3 (c .before .before .if2 .left), ne-eqb (args .code) 4 (c .before .if3 .left), eq-eqb (args .code) 5 (c .if4 .taken))
 
 returns-5 : tie.Need-returns-5
 unfolding bitOf
-returns-5 c = rw (c .before .before .before .before .if1 .left, ne-eqb (c .before .before .before .before .before .args .code) 3 (c .before .before .before .if2 .left), ne-eqb (c .before .before .before .before .before .args .code) 4 (c .before .before .if3 .left), ne-eqb (c .before .before .before .before .before .args .code) 5 (c .before .if4 .left), c .if5 .taken)
+returns-5 c =
+    let args = c .before .before .before .before .before .args in
+    let if1 = c .before .before .before .before .if1 in
+    rw (if1 .left, ne-eqb (args .code) 3 (c .before .before .before .if2 .left), ne-eqb (args .code) 4 (c .before .before .if3 .left), ne-eqb (args .code) 5 (c .before .if4 .left), c .if5 .taken)
 
 returns-6 : tie.Need-returns-6
 unfolding bitOf
-returns-6 c = rw (c .before .before .before .before .before .if1 .left, ne-eqb (c .before .before .before .before .before .before .args .code) 3 (c .before .before .before .before .if2 .left), ne-eqb (c .before .before .before .before .before .before .args .code) 4 (c .before .before .before .if3 .left), ne-eqb (c .before .before .before .before .before .before .args .code) 5 (c .before .before .if4 .left), c .before .if5 .left, eq-eqb (c .before .before .before .before .before .before .args .code) 11 (c .if6 .taken))
+returns-6 c =
+    let args = c .before .before .before .before .before .before .args in
+    let if1 = c .before .before .before .before .before .if1 in
+    let if2 = c .before .before .before .before .if2 in
+    rw (
+      if1 .left,
+      ne-eqb (args .code) 3 (if2 .left),
+      ne-eqb (args .code) 4 (c .before .before .before .if3 .left),
+      ne-eqb (args .code) 5 (c .before .before .if4 .left),
+      c .before .if5 .left,
+      eq-eqb (args .code) 11 (c .if6 .taken),
+    )
 
 returns-7 : tie.Need-returns-7
 unfolding bitOf
-returns-7 c = rw (c .before .before .before .before .before .before .if1 .left, ne-eqb (c .before .before .before .before .before .before .before .args .code) 3 (c .before .before .before .before .before .if2 .left), ne-eqb (c .before .before .before .before .before .before .before .args .code) 4 (c .before .before .before .before .if3 .left), ne-eqb (c .before .before .before .before .before .before .before .args .code) 5 (c .before .before .before .if4 .left), c .before .before .if5 .left, ne-eqb (c .before .before .before .before .before .before .before .args .code) 11 (c .before .if6 .left), eq-eqb (c .before .before .before .before .before .before .before .args .code) 10 (c .if7 .taken))
+returns-7 c =
+    let args = c .before .before .before .before .before .before .before .args in
+    let if1 = c .before .before .before .before .before .before .if1 in
+    let if2 = c .before .before .before .before .before .if2 in
+    let if3 = c .before .before .before .before .if3 in
+    rw (
+      if1 .left,
+      ne-eqb (args .code) 3 (if2 .left),
+      ne-eqb (args .code) 4 (if3 .left),
+      ne-eqb (args .code) 5 (c .before .before .before .if4 .left),
+      c .before .before .if5 .left,
+      ne-eqb (args .code) 11 (c .before .if6 .left),
+      eq-eqb (args .code) 10 (c .if7 .taken),
+    )
 
 returns-8 : tie.Need-returns-8
 unfolding bitOf
-returns-8 c = rw (c .before .before .before .before .before .before .if1 .left, ne-eqb (c .before .before .before .before .before .before .before .args .code) 3 (c .before .before .before .before .before .if2 .left), ne-eqb (c .before .before .before .before .before .before .before .args .code) 4 (c .before .before .before .before .if3 .left), ne-eqb (c .before .before .before .before .before .before .before .args .code) 5 (c .before .before .before .if4 .left), c .before .before .if5 .left, ne-eqb (c .before .before .before .before .before .before .before .args .code) 11 (c .before .if6 .left), ne-eqb (c .before .before .before .before .before .before .before .args .code) 10 (c .if7 .left))
+returns-8 c =
+    let args = c .before .before .before .before .before .before .before .args in
+    let if1 = c .before .before .before .before .before .before .if1 in
+    let if2 = c .before .before .before .before .before .if2 in
+    let if3 = c .before .before .before .before .if3 in
+    rw (
+      if1 .left,
+      ne-eqb (args .code) 3 (if2 .left),
+      ne-eqb (args .code) 4 (if3 .left),
+      ne-eqb (args .code) 5 (c .before .before .before .if4 .left),
+      c .before .before .if5 .left,
+      ne-eqb (args .code) 11 (c .before .if6 .left),
+      ne-eqb (args .code) 10 (c .if7 .left),
+    )
 
 pub bit-of-spec : {M : Type 1} → statement M
 bit-of-spec =

@@ -26,19 +26,25 @@ is-present-requires : tie.Need-is-present-requires Inv-loop μ-loop
 is-present-requires c κs = search needs
 
 add-n : tie.Need-add-n Inv-loop μ-loop
-add-n c = omega (arith, c .before .before .before .before .loop .inv .most)
+add-n c =
+    let loop = c .before .before .before .before .loop in
+    omega (arith, loop .inv .most)
 
 loop-less : tie.Need-loop-less Inv-loop μ-loop
 loop-less c = omega arith
 
 loop-again : tie.Need-loop-again Inv-loop μ-loop
-loop-again c = counting-more _ _ (c .before .before .before .before .loop .inv) (c .before .before .before .loop-test .taken) (sym (c .before .is-present .ensures) ∙ c .if1 .taken)
+loop-again c =
+    let loop = c .before .before .before .before .loop in
+    counting-more _ _ (loop .inv) (c .before .before .before .loop-test .taken) (sym (c .before .is-present .ensures) ∙ c .if1 .taken)
 
 loop-less-2 : tie.Need-loop-less-2 Inv-loop μ-loop
 loop-less-2 c = omega arith
 
 loop-again-2 : tie.Need-loop-again-2 Inv-loop μ-loop
-loop-again-2 c = counting-pass _ _ (c .before .before .before .before .loop .inv) (c .before .before .before .loop-test .taken) (sym (c .before .is-present .ensures) ∙ c .if1 .left)
+loop-again-2 c =
+    let loop = c .before .before .before .before .loop in
+    counting-pass _ _ (loop .inv) (c .before .before .before .loop-test .taken) (sym (c .before .is-present .ensures) ∙ c .if1 .left)
 
 returns : tie.Need-returns Inv-loop μ-loop
 returns c = (counting-done _ _ (c .before .loop .inv) (c .loop-test .left), omega (arith, c .before .loop .inv .most, c .before .loop .inv .fits))

@@ -26,7 +26,12 @@ same-length-3 : tie.Need-same-length-3
 same-length-3 c = search needs
 
 returns : tie.Need-returns
-returns c = said (then (c .before .before .before .before .before .before .before .before .before .before .before .put-tag .ensures _) (c .before .before .before .before .put-slots .ensures _)) (element-items _ _ (c .before .before .before .before .before .before .before .before .before .before .before .before .before .before .before .before .before .before .before .before .before .args .text .now) (c .before .before .before .before .before .before .before .before .before .before .before .before .before .before .before .before .before .before .before .before .before .args .r .now) (c .before .before .before .before .before .before .before .before .before .before .before .before .before .before .before .before .before .before .before .before .before .args .codes .now) _ _ (c .before .before .before .before .before .before .before .before .before .before .before .before .before .before .count-slots .ensures .0))
+returns c =
+    let at-count-slots = c .before .before .before .before .before .before .before .before .before .before .before .before .before .before in
+    let args = at-count-slots .before .before .before .before .before .before .before .args in
+    let put-tag = c .before .before .before .before .before .before .before .before .before .before .before .put-tag in
+    let put-slots = c .before .before .before .before .put-slots in
+    said (then (put-tag .ensures _) (put-slots .ensures _)) (element-items _ _ (args .text .now) (args .r .now) (args .codes .now) _ _ (at-count-slots .count-slots .ensures .0))
 
 pub put-element-spec : {M : Type 1} → statement M
 put-element-spec =

@@ -13,7 +13,8 @@ use Rattle.write_slots.proofs.put_slots.Statement.{statement}
 use Rattle.write_slots.proofs.put_slots.Tie as tie
 
 abbrev Inv-loop : tie.InvT-loop
-Inv-loop attributes₀ bytes₀ text r codes mark₀ i₀ attributes bytes mark i = (i ≤ length codes) × (length attributes ≡ length attributes₀) × (length bytes ≡ length bytes₀) × ((ev : List ℕ) → Coming (kept mark₀ ev attributes₀ bytes₀) (pairsOf (slots text r codes)) (kept mark ev attributes bytes) (pairsOf (slots text r (drop i codes))))
+Inv-loop attributes₀ bytes₀ text r codes mark₀ i₀ attributes bytes mark i = (i ≤ length codes) × (length attributes ≡ length attributes₀) × (length bytes ≡ length bytes₀)
+    × ((ev : List ℕ) → Coming (kept mark₀ ev attributes₀ bytes₀) (pairsOf (slots text r codes)) (kept mark ev attributes bytes) (pairsOf (slots text r (drop i codes))))
 
 abbrev μ-loop : tie.MeasureT-loop
 μ-loop attributes₀ bytes₀ text r codes mark₀ i₀ attributes bytes mark i = length codes - i
@@ -37,13 +38,21 @@ loop-less : tie.Need-loop-less Inv-loop μ-loop
 loop-less c = omega arith
 
 loop-again : tie.Need-loop-again Inv-loop μ-loop
-loop-again c = (omega arith, search needs, search needs, λ ev. slots-put _ _ _ (c .before .before .before .before .before .before .before .before .before .before .before .loop .inv .3 ev) (c .before .before .before .before .before .before .before .before .before .before .loop-test .taken) (sym (c .before .before .before .before .before .before .before .before .is-present .ensures) ∙ c .before .before .before .before .before .before .before .if1 .taken) (c .before .before .before .before .put-attribute .ensures ev))
+loop-again c =
+    let loop = c .before .before .before .before .before .before .before .before .before .before .before .loop in
+    let loop-test = c .before .before .before .before .before .before .before .before .before .before .loop-test in
+    let is-present = c .before .before .before .before .before .before .before .before .is-present in
+    let if1 = c .before .before .before .before .before .before .before .if1 in
+    let put-attribute = c .before .before .before .before .put-attribute in
+    (omega arith, search needs, search needs, λ ev. slots-put _ _ _ (loop .inv .3 ev) (loop-test .taken) (sym (is-present .ensures) ∙ if1 .taken) (put-attribute .ensures ev))
 
 loop-less-2 : tie.Need-loop-less-2 Inv-loop μ-loop
 loop-less-2 c = omega arith
 
 loop-again-2 : tie.Need-loop-again-2 Inv-loop μ-loop
-loop-again-2 c = (omega arith, c .before .before .before .before .loop .inv .1, c .before .before .before .before .loop .inv .2, λ ev. slots-pass _ _ _ (c .before .before .before .before .loop .inv .3 ev) (c .before .before .before .loop-test .taken) (sym (c .before .is-present .ensures) ∙ c .if1 .left))
+loop-again-2 c =
+    let loop = c .before .before .before .before .loop in
+    (omega arith, loop .inv .1, loop .inv .2, λ ev. slots-pass _ _ _ (loop .inv .3 ev) (c .before .before .before .loop-test .taken) (sym (c .before .is-present .ensures) ∙ c .if1 .left))
 
 same-length : tie.Need-same-length Inv-loop μ-loop
 same-length c = c .before .loop .inv .1

@@ -20,10 +20,17 @@ same-length-2 : tie.Need-same-length-2
 same-length-2 c = search needs
 
 returns : tie.Need-returns
-returns c = λ at. said (c .before .before .before .before .put-output .ensures at) (optional-yes (serializeOutput (tagName (c .before .before .before .before .before .before .before .before .before .before .before .before .before .args .code))) _ _ (sym (c .before .before .before .before .before .before .before .before .has-bit .ensures) ∙ c .before .before .before .before .before .before .before .if1 .taken))
+returns c =
+    let args = c .before .before .before .before .before .before .before .before .before .before .before .before .before .args in
+    let has-bit = c .before .before .before .before .before .before .before .before .has-bit in
+    let if1 = c .before .before .before .before .before .before .before .if1 in
+    let put-output = c .before .before .before .before .put-output in
+    λ at. said (put-output .ensures at) (optional-yes (serializeOutput (tagName (args .code))) _ _ (sym (has-bit .ensures) ∙ if1 .taken))
 
 returns-2 : tie.Need-returns-2
-returns-2 c = λ at. said (wrote-nothing _) (optional-no (serializeOutput (tagName (c .before .before .before .before .before .before .args .code))) _ _ (sym (c .before .has-bit .ensures) ∙ c .if1 .left))
+returns-2 c =
+    let args = c .before .before .before .before .before .before .args in
+    λ at. said (wrote-nothing _) (optional-no (serializeOutput (tagName (args .code))) _ _ (sym (c .before .has-bit .ensures) ∙ c .if1 .left))
 
 pub put-optional-spec : {M : Type 1} → statement M
 put-optional-spec =

@@ -20,7 +20,11 @@ same-length-2 : tie.Need-same-length-2
 same-length-2 c = search needs
 
 returns : tie.Need-returns
-returns c = λ at. said (then (c .before .before .before .before .before .before .before .before .before .before .before .before .before .before .before .before .before .before .put-tag .ensures at) (then (c .before .before .before .before .before .before .before .before .before .before .before .put-text .ensures at) (c .before .before .before .before .put-tag2 .ensures at))) (output-items _ _)
+returns c =
+    let put-tag = c .before .before .before .before .before .before .before .before .before .before .before .before .before .before .before .before .before .before .put-tag in
+    let put-text = c .before .before .before .before .before .before .before .before .before .before .before .put-text in
+    let put-tag2 = c .before .before .before .before .put-tag2 in
+    λ at. said (then (put-tag .ensures at) (then (put-text .ensures at) (put-tag2 .ensures at))) (output-items _ _)
 
 pub put-output-spec : {M : Type 1} → statement M
 put-output-spec =

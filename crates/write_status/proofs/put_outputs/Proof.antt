@@ -17,7 +17,11 @@ same-length-2 : tie.Need-same-length-2
 same-length-2 c = search needs
 
 returns : tie.Need-returns
-returns c = λ at. said (then (c .before .before .before .before .before .before .before .before .before .before .before .put-optional .ensures at) (c .before .before .before .before .put-optional2 .ensures at)) (outputs-items (c .before .before .before .before .before .before .before .before .before .before .before .before .before .before .before .before .before .before .args .text .now) (c .before .before .before .before .before .before .before .before .before .before .before .before .before .before .before .before .before .before .args .r .now))
+returns c =
+    let args = c .before .before .before .before .before .before .before .before .before .before .before .before .before .before .before .before .before .before .args in
+    let put-optional = c .before .before .before .before .before .before .before .before .before .before .before .put-optional in
+    let put-optional2 = c .before .before .before .before .put-optional2 in
+    λ at. said (then (put-optional .ensures at) (put-optional2 .ensures at)) (outputs-items (args .text .now) (args .r .now))
 
 cast-put-optional : tie.Need-cast-put-optional
 cast-put-optional c = search needs

@@ -20,7 +20,10 @@ same-length-3 : tie.Need-same-length-3
 same-length-3 c = search needs
 
 returns : tie.Need-returns
-returns c = said (c .before .before .before .before .before .before .put-element .ensures) (property-items (c .before .before .before .before .before .before .before .before .before .before .before .before .before .before .before .before .args .text .now) (c .before .before .before .before .before .before .before .before .before .before .before .before .before .before .before .before .args .r .now))
+returns c =
+    let args = c .before .before .before .before .before .before .before .before .before .before .before .before .before .before .before .before .args in
+    let put-element = c .before .before .before .before .before .before .put-element in
+    said (put-element .ensures) (property-items (args .text .now) (args .r .now))
 
 cast-put-element : tie.Need-cast-put-element
 cast-put-element c = search needs

@@ -30,7 +30,15 @@ same-length-3 : tie.Need-same-length-3
 same-length-3 c = search needs
 
 returns : tie.Need-returns
-returns c = said (then (c .before .before .before .before .before .before .before .before .before .before .before .before .before .before .before .before .before .before .before .before .put-element .ensures) (then (c .before .before .before .before .before .before .before .before .before .before .before .put-text .ensures _) (c .before .before .before .before .put-tag .ensures _))) (status-described (c .before .before .before .before .before .before .before .before .before .before .before .before .before .before .before .before .before .before .before .before .before .before .before .before .before .before .before .before .before .before .before .before .args .text .now) (c .before .before .before .before .before .before .before .before .before .before .before .before .before .before .before .before .before .before .before .before .before .before .before .before .before .before .before .before .before .before .before .before .args .r .now) _ (sym (c .before .before .before .before .before .before .before .before .before .before .before .before .before .before .before .before .before .before .before .before .before .before .before .before .before .before .has-bit .ensures) ∙ c .before .before .before .before .before .before .before .before .before .before .before .before .before .before .before .before .before .before .before .before .before .before .before .before .before .if1 .taken))
+returns c =
+    let at-put-text = c .before .before .before .before .before .before .before .before .before .before .before in
+    let at-put-element = at-put-text .before .before .before .before .before .before .before .before .before in
+    let at-if1 = at-put-element .before .before .before .before .before in
+    let at-has-bit = at-if1 .before in
+    let args = at-has-bit .before .before .before .before .before .before .args in
+    let put-tag = c .before .before .before .before .put-tag in
+    said (then (at-put-element .put-element .ensures) (then (at-put-text .put-text .ensures _) (put-tag .ensures _)))
+    (status-described (args .text .now) (args .r .now) _ (sym (at-has-bit .has-bit .ensures) ∙ at-if1 .if1 .taken))
 
 slice-aggregate-put-element-2 : tie.Need-slice-aggregate-put-element-2
 slice-aggregate-put-element-2 c = search needs
@@ -48,7 +56,12 @@ same-length-6 : tie.Need-same-length-6
 same-length-6 c = search needs
 
 returns-2 : tie.Need-returns-2
-returns-2 c = said (c .before .before .before .before .before .before .put-element2 .ensures) (status-empty (c .before .before .before .before .before .before .before .before .before .before .before .before .before .before .before .before .before .before .args .text .now) (c .before .before .before .before .before .before .before .before .before .before .before .before .before .before .before .before .before .before .args .r .now) _ (sym (c .before .before .before .before .before .before .before .before .before .before .before .before .has-bit .ensures) ∙ c .before .before .before .before .before .before .before .before .before .before .before .if1 .left))
+returns-2 c =
+    let args = c .before .before .before .before .before .before .before .before .before .before .before .before .before .before .before .before .before .before .args in
+    let has-bit = c .before .before .before .before .before .before .before .before .before .before .before .before .has-bit in
+    let if1 = c .before .before .before .before .before .before .before .before .before .before .before .if1 in
+    let put-element2 = c .before .before .before .before .before .before .put-element2 in
+    said (put-element2 .ensures) (status-empty (args .text .now) (args .r .now) _ (sym (has-bit .ensures) ∙ if1 .left))
 
 pub put-status-spec : {M : Type 1} → statement M
 put-status-spec =

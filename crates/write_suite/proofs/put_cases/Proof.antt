@@ -19,7 +19,9 @@ abbrev μ-loop : tie.MeasureT-loop
 μ-loop events₀ attributes₀ bytes₀ text words at₀ mark₀ events attributes bytes at mark = length words - at
 
 loop-holds : tie.Need-loop-holds Inv-loop μ-loop
-loop-holds c = going-start (casesItems (c .before .before .before .before .before .args .text .now)) _ _
+loop-holds c =
+    let args = c .before .before .before .before .before .args in
+    going-start (casesItems (args .text .now)) _ _
 
 is-open-requires : tie.Need-is-open-requires Inv-loop μ-loop
 is-open-requires c κs = search needs
@@ -40,10 +42,16 @@ stands-here-requires : tie.Need-stands-here-requires Inv-loop μ-loop
 stands-here-requires c κs = search needs
 
 add-end : tie.Need-add-end Inv-loop μ-loop
-add-end c = omega (arith, stands-room (c .before .before .before .before .before .before .before .before .before .before .args .words .now) (c .before .before .before .before .loop .at) (goes-on (c .before .before .before .is-open .result) (c .before .stands-here .result) (c .if1 .taken) (c .before .stands-here .ensures)))
+add-end c =
+    let args = c .before .before .before .before .before .before .before .before .before .before .args in
+    let loop = c .before .before .before .before .loop in
+    omega (arith, stands-room (args .words .now) (loop .at) (goes-on (c .before .before .before .is-open .result) (c .before .stands-here .result) (c .if1 .taken) (c .before .stands-here .ensures)))
 
 mul-r : tie.Need-mul-r Inv-loop μ-loop
-mul-r c = omega (arith, stands-room (c .before .before .before .before .before .before .before .before .before .before .args .words .now) (c .before .before .before .before .loop .at) (goes-on (c .before .before .before .is-open .result) (c .before .stands-here .result) (c .if1 .taken) (c .before .stands-here .ensures)))
+mul-r c =
+    let args = c .before .before .before .before .before .before .before .before .before .before .args in
+    let loop = c .before .before .before .before .loop in
+    omega (arith, stands-room (args .words .now) (loop .at) (goes-on (c .before .before .before .is-open .result) (c .before .stands-here .result) (c .if1 .taken) (c .before .stands-here .ensures)))
 
 sub-r : tie.Need-sub-r Inv-loop μ-loop
 sub-r c = omega arith
@@ -52,31 +60,64 @@ part-r-start : tie.Need-part-r-start Inv-loop μ-loop
 part-r-start c = omega arith
 
 part-r-end : tie.Need-part-r-end Inv-loop μ-loop
-part-r-end c = omega (arith, stands-room (c .before .before .before .before .before .before .before .before .before .before .args .words .now) (c .before .before .before .before .loop .at) (goes-on (c .before .before .before .is-open .result) (c .before .stands-here .result) (c .if1 .taken) (c .before .stands-here .ensures)))
+part-r-end c =
+    let args = c .before .before .before .before .before .before .before .before .before .before .args in
+    let loop = c .before .before .before .before .loop in
+    omega (arith, stands-room (args .words .now) (loop .at) (goes-on (c .before .before .before .is-open .result) (c .before .stands-here .result) (c .if1 .taken) (c .before .stands-here .ensures)))
 
 field-requires : tie.Need-field-requires Inv-loop μ-loop
 field-requires c κs = search needs
 
 same-length : tie.Need-same-length Inv-loop μ-loop
-same-length c = c .before .before .before .before .before .before .before .loop .inv .sameEvents
+same-length c =
+    let loop = c .before .before .before .before .before .before .before .loop in
+    loop .inv .sameEvents
 
 same-length-2 : tie.Need-same-length-2 Inv-loop μ-loop
-same-length-2 c = c .before .before .before .before .before .before .before .loop .inv .sameAttributes
+same-length-2 c =
+    let loop = c .before .before .before .before .before .before .before .loop in
+    loop .inv .sameAttributes
 
 same-length-3 : tie.Need-same-length-3 Inv-loop μ-loop
-same-length-3 c = c .before .before .before .before .before .before .before .loop .inv .sameBytes
+same-length-3 c =
+    let loop = c .before .before .before .before .before .before .before .loop in
+    loop .inv .sameBytes
 
 returns : tie.Need-returns Inv-loop μ-loop
-returns c = going-end (casesItems (c .before .before .before .before .before .before .before .before .before .before .before .before .before .args .text .now)) (c .before .before .before .before .before .before .before .loop .inv) (goes-on (c .before .before .before .before .before .before .is-open .result) (c .before .before .before .before .stands-here .result) (c .before .before .before .if1 .taken) (c .before .before .before .before .stands-here .ensures)) (cases-end (c .before .before .before .before .before .before .before .before .before .before .before .before .before .args .text .now) (take (c .before .before .before .before .before .before .before .loop .at + 32 - c .before .before .before .before .before .before .before .loop .at) (drop (c .before .before .before .before .before .before .before .loop .at) (c .before .before .before .before .before .before .before .before .before .before .before .before .before .args .words .now))) (recordsIn (drop (c .before .before .before .before .before .before .before .loop .at + 32) (c .before .before .before .before .before .before .before .before .before .before .before .before .before .args .words .now))) (sym (c .before .field .ensures) ∙ c .if2 .taken))
+returns c =
+    let args = c .before .before .before .before .before .before .before .before .before .before .before .before .before .args in
+    let loop = c .before .before .before .before .before .before .before .loop in
+    let is-open = c .before .before .before .before .before .before .is-open in
+    let stands-here = c .before .before .before .before .stands-here in
+    going-end (casesItems (args .text .now)) (loop .inv) (goes-on (is-open .result) (stands-here .result) (c .before .before .before .if1 .taken) (stands-here .ensures)) (cases-end (args .text .now)
+    (take (loop .at + 32 - loop .at) (drop (loop .at) (args .words .now))) (recordsIn (drop (loop .at + 32) (args .words .now))) (sym (c .before .field .ensures) ∙ c .if2 .taken))
 
 mul-put-case : tie.Need-mul-put-case Inv-loop μ-loop
-mul-put-case c = omega (arith, stands-room (c .before .before .before .before .before .before .before .before .before .before .before .before .before .before .before .before .before .args .words .now) (c .before .before .before .before .before .before .before .before .before .before .before .loop .at) (goes-on (c .before .before .before .before .before .before .before .before .before .before .is-open .result) (c .before .before .before .before .before .before .before .before .stands-here .result) (c .before .before .before .before .before .before .before .if1 .taken) (c .before .before .before .before .before .before .before .before .stands-here .ensures)))
+mul-put-case c =
+    let args = c .before .before .before .before .before .before .before .before .before .before .before .before .before .before .before .before .before .args in
+    let loop = c .before .before .before .before .before .before .before .before .before .before .before .loop in
+    let is-open = c .before .before .before .before .before .before .before .before .before .before .is-open in
+    let stands-here = c .before .before .before .before .before .before .before .before .stands-here in
+    let if1 = c .before .before .before .before .before .before .before .if1 in
+    omega (arith, stands-room (args .words .now) (loop .at) (goes-on (is-open .result) (stands-here .result) (if1 .taken) (stands-here .ensures)))
 
 sub-put-case : tie.Need-sub-put-case Inv-loop μ-loop
-sub-put-case c = omega (arith, stands-room (c .before .before .before .before .before .before .before .before .before .before .before .before .before .before .before .before .before .args .words .now) (c .before .before .before .before .before .before .before .before .before .before .before .loop .at) (goes-on (c .before .before .before .before .before .before .before .before .before .before .is-open .result) (c .before .before .before .before .before .before .before .before .stands-here .result) (c .before .before .before .before .before .before .before .if1 .taken) (c .before .before .before .before .before .before .before .before .stands-here .ensures)))
+sub-put-case c =
+    let args = c .before .before .before .before .before .before .before .before .before .before .before .before .before .before .before .before .before .args in
+    let loop = c .before .before .before .before .before .before .before .before .before .before .before .loop in
+    let is-open = c .before .before .before .before .before .before .before .before .before .before .is-open in
+    let stands-here = c .before .before .before .before .before .before .before .before .stands-here in
+    let if1 = c .before .before .before .before .before .before .before .if1 in
+    omega (arith, stands-room (args .words .now) (loop .at) (goes-on (is-open .result) (stands-here .result) (if1 .taken) (stands-here .ensures)))
 
 part-put-case-start : tie.Need-part-put-case-start Inv-loop μ-loop
-part-put-case-start c = omega (arith, stands-room (c .before .before .before .before .before .before .before .before .before .before .before .before .before .before .before .before .before .args .words .now) (c .before .before .before .before .before .before .before .before .before .before .before .loop .at) (goes-on (c .before .before .before .before .before .before .before .before .before .before .is-open .result) (c .before .before .before .before .before .before .before .before .stands-here .result) (c .before .before .before .before .before .before .before .if1 .taken) (c .before .before .before .before .before .before .before .before .stands-here .ensures)))
+part-put-case-start c =
+    let args = c .before .before .before .before .before .before .before .before .before .before .before .before .before .before .before .before .before .args in
+    let loop = c .before .before .before .before .before .before .before .before .before .before .before .loop in
+    let is-open = c .before .before .before .before .before .before .before .before .before .before .is-open in
+    let stands-here = c .before .before .before .before .before .before .before .before .stands-here in
+    let if1 = c .before .before .before .before .before .before .before .if1 in
+    omega (arith, stands-room (args .words .now) (loop .at) (goes-on (is-open .result) (stands-here .result) (if1 .taken) (stands-here .ensures)))
 
 part-put-case-end : tie.Need-part-put-case-end Inv-loop μ-loop
 part-put-case-end c = search needs
@@ -85,28 +126,72 @@ put-case-requires : tie.Need-put-case-requires Inv-loop μ-loop
 put-case-requires c κs = search needs
 
 loop-less : tie.Need-loop-less Inv-loop μ-loop
-loop-less c = omega (arith, stands-room (c .before .before .before .before .before .before .before .before .before .before .before .before .before .before .before .before .before .before .before .before .before .before .before .before .before .args .words .now) (c .before .before .before .before .before .before .before .before .before .before .before .before .before .before .before .before .before .before .before .loop .at) (goes-on (c .before .before .before .before .before .before .before .before .before .before .before .before .before .before .before .before .before .before .is-open .result) (c .before .before .before .before .before .before .before .before .before .before .before .before .before .before .before .before .stands-here .result) (c .before .before .before .before .before .before .before .before .before .before .before .before .before .before .before .if1 .taken) (c .before .before .before .before .before .before .before .before .before .before .before .before .before .before .before .before .stands-here .ensures)))
+loop-less c =
+    let args = c .before .before .before .before .before .before .before .before .before .before .before .before .before
+    .before .before .before .before .before .before .before .before .before .before .before .before .args in
+    let loop = c .before .before .before .before .before .before .before .before .before .before .before .before .before .before .before .before .before .before .before .loop in
+    let is-open = c .before .before .before .before .before .before .before .before .before .before .before .before .before .before .before .before .before .before .is-open in
+    let stands-here = c .before .before .before .before .before .before .before .before .before .before .before .before .before .before .before .before .stands-here in
+    let if1 = c .before .before .before .before .before .before .before .before .before .before .before .before .before .before .before .if1 in
+    omega (arith, stands-room (args .words .now) (loop .at) (goes-on (is-open .result) (stands-here .result) (if1 .taken) (stands-here .ensures)))
 
 loop-again : tie.Need-loop-again Inv-loop μ-loop
-loop-again c = going-wrote (casesItems (c .before .before .before .before .before .before .before .before .before .before .before .before .before .before .before .before .before .before .before .before .before .before .before .before .before .args .text .now)) (c .before .before .before .before .before .before .before .before .before .before .before .before .before .before .before .before .before .before .before .loop .inv) (goes-on (c .before .before .before .before .before .before .before .before .before .before .before .before .before .before .before .before .before .before .is-open .result) (c .before .before .before .before .before .before .before .before .before .before .before .before .before .before .before .before .stands-here .result) (c .before .before .before .before .before .before .before .before .before .before .before .before .before .before .before .if1 .taken) (c .before .before .before .before .before .before .before .before .before .before .before .before .before .before .before .before .stands-here .ensures)) _ (cases-case (c .before .before .before .before .before .before .before .before .before .before .before .before .before .before .before .before .before .before .before .before .before .before .before .before .before .args .text .now) (take (c .before .before .before .before .before .before .before .before .before .before .before .before .before .before .before .before .before .before .before .loop .at + 32 - c .before .before .before .before .before .before .before .before .before .before .before .before .before .before .before .before .before .before .before .loop .at) (drop (c .before .before .before .before .before .before .before .before .before .before .before .before .before .before .before .before .before .before .before .loop .at) (c .before .before .before .before .before .before .before .before .before .before .before .before .before .before .before .before .before .before .before .before .before .before .before .before .before .args .words .now))) (recordsIn (drop (c .before .before .before .before .before .before .before .before .before .before .before .before .before .before .before .before .before .before .before .loop .at + 32) (c .before .before .before .before .before .before .before .before .before .before .before .before .before .before .before .before .before .before .before .before .before .before .before .before .before .args .words .now))) (λ z. c .before .before .before .before .before .before .before .before .before .before .before .before .if2 .left (c .before .before .before .before .before .before .before .before .before .before .before .before .before .field .ensures ∙ z)) (sym (c .before .before .before .before .before .before .before .before .before .before .before .before .before .field .ensures) ∙ c .before .before .before .before .before .before .before .before .before .before .before .if3 .taken)) (rw (records-behind (c .before .before .before .before .before .before .before .before .before .before .before .before .before .before .before .before .before .before .before .before .before .before .before .before .before .args .words .now) (c .before .before .before .before .before .before .before .before .before .before .before .before .before .before .before .before .before .before .before .loop .at)) at (c .before .before .before .before .before .before .put-case .ensures)) (search needs) (search needs) (search needs)
+loop-again c =
+    let args = c .before .before .before .before .before .before .before .before .before .before .before .before .before
+    .before .before .before .before .before .before .before .before .before .before .before .before .args in
+    let loop = c .before .before .before .before .before .before .before .before .before .before .before .before .before .before .before .before .before .before .before .loop in
+    let is-open = c .before .before .before .before .before .before .before .before .before .before .before .before .before .before .before .before .before .before .is-open in
+    let stands-here = c .before .before .before .before .before .before .before .before .before .before .before .before .before .before .before .before .stands-here in
+    let if1 = c .before .before .before .before .before .before .before .before .before .before .before .before .before .before .before .if1 in
+    let field = c .before .before .before .before .before .before .before .before .before .before .before .before .before .field in
+    let if2 = c .before .before .before .before .before .before .before .before .before .before .before .before .if2 in
+    let if3 = c .before .before .before .before .before .before .before .before .before .before .before .if3 in
+    let put-case = c .before .before .before .before .before .before .put-case in
+    going-wrote (casesItems (args .text .now)) (loop .inv) (goes-on (is-open .result) (stands-here .result) (if1 .taken) (stands-here .ensures)) _
+    (cases-case (args .text .now) (take (loop .at + 32 - loop .at) (drop (loop .at) (args .words .now))) (recordsIn (drop (loop .at + 32) (args .words .now))) (λ z.
+    if2 .left (field .ensures ∙ z)) (sym (field .ensures) ∙ if3 .taken)) (rw (records-behind (args .words .now) (loop .at)) at (put-case .ensures)) (search needs) (search needs) (search needs)
 
 loop-less-2 : tie.Need-loop-less-2 Inv-loop μ-loop
-loop-less-2 c = omega (arith, stands-room (c .before .before .before .before .before .before .before .before .before .before .before .before .before .before .args .words .now) (c .before .before .before .before .before .before .before .before .loop .at) (goes-on (c .before .before .before .before .before .before .before .is-open .result) (c .before .before .before .before .before .stands-here .result) (c .before .before .before .before .if1 .taken) (c .before .before .before .before .before .stands-here .ensures)))
+loop-less-2 c =
+    let args = c .before .before .before .before .before .before .before .before .before .before .before .before .before .before .args in
+    let loop = c .before .before .before .before .before .before .before .before .loop in
+    let is-open = c .before .before .before .before .before .before .before .is-open in
+    let stands-here = c .before .before .before .before .before .stands-here in
+    let if1 = c .before .before .before .before .if1 in
+    omega (arith, stands-room (args .words .now) (loop .at) (goes-on (is-open .result) (stands-here .result) (if1 .taken) (stands-here .ensures)))
 
 loop-again-2 : tie.Need-loop-again-2 Inv-loop μ-loop
-loop-again-2 c = going-pass (casesItems (c .before .before .before .before .before .before .before .before .before .before .before .before .before .before .args .text .now)) (c .before .before .before .before .before .before .before .before .loop .inv) (goes-on (c .before .before .before .before .before .before .before .is-open .result) (c .before .before .before .before .before .stands-here .result) (c .before .before .before .before .if1 .taken) (c .before .before .before .before .before .stands-here .ensures)) (cases-other (c .before .before .before .before .before .before .before .before .before .before .before .before .before .before .args .text .now) (take (c .before .before .before .before .before .before .before .before .loop .at + 32 - c .before .before .before .before .before .before .before .before .loop .at) (drop (c .before .before .before .before .before .before .before .before .loop .at) (c .before .before .before .before .before .before .before .before .before .before .before .before .before .before .args .words .now))) (recordsIn (drop (c .before .before .before .before .before .before .before .before .loop .at + 32) (c .before .before .before .before .before .before .before .before .before .before .before .before .before .before .args .words .now))) (λ z. c .before .if2 .left (c .before .before .field .ensures ∙ z)) (λ z. c .if3 .left (c .before .before .field .ensures ∙ z)))
+loop-again-2 c =
+    let args = c .before .before .before .before .before .before .before .before .before .before .before .before .before .before .args in
+    let loop = c .before .before .before .before .before .before .before .before .loop in
+    let is-open = c .before .before .before .before .before .before .before .is-open in
+    let stands-here = c .before .before .before .before .before .stands-here in
+    let if1 = c .before .before .before .before .if1 in
+    going-pass (casesItems (args .text .now)) (loop .inv) (goes-on (is-open .result) (stands-here .result) (if1 .taken) (stands-here .ensures))
+    (cases-other (args .text .now) (take (loop .at + 32 - loop .at) (drop (loop .at) (args .words .now))) (recordsIn (drop (loop .at + 32) (args .words .now)))
+    (λ z. c .before .if2 .left (c .before .before .field .ensures ∙ z)) (λ z. c .if3 .left (c .before .before .field .ensures ∙ z)))
 
 same-length-4 : tie.Need-same-length-4 Inv-loop μ-loop
-same-length-4 c = c .before .before .before .before .loop .inv .sameEvents
+same-length-4 c =
+    let loop = c .before .before .before .before .loop in
+    loop .inv .sameEvents
 
 same-length-5 : tie.Need-same-length-5 Inv-loop μ-loop
-same-length-5 c = c .before .before .before .before .loop .inv .sameAttributes
+same-length-5 c =
+    let loop = c .before .before .before .before .loop in
+    loop .inv .sameAttributes
 
 same-length-6 : tie.Need-same-length-6 Inv-loop μ-loop
-same-length-6 c = c .before .before .before .before .loop .inv .sameBytes
+same-length-6 c =
+    let loop = c .before .before .before .before .loop in
+    loop .inv .sameBytes
 
 returns-2 : tie.Need-returns-2 Inv-loop μ-loop
-returns-2 c = going-stop (casesItems (c .before .before .before .before .before .before .before .before .before .before .args .text .now)) (c .before .before .before .before .loop .inv) (c .before .before .before .is-open .result) (c .before .stands-here .result) (cases-over (c .before .before .before .before .before .before .before .before .before .before .args .text .now)) (c .if1 .left) (c .before .before .before .is-open .ensures) (c .before .stands-here .ensures)
+returns-2 c =
+    let args = c .before .before .before .before .before .before .before .before .before .before .args in
+    let loop = c .before .before .before .before .loop in
+    going-stop (casesItems (args .text .now)) (loop .inv) (c .before .before .before .is-open .result) (c .before .stands-here .result)
+    (cases-over (args .text .now)) (c .if1 .left) (c .before .before .before .is-open .ensures) (c .before .stands-here .ensures)
 
 pub put-cases-spec : {M : Type 1} → statement M
 put-cases-spec =

@@ -21,7 +21,10 @@ same-length-3 c = search needs
 
 returns : tie.Need-returns
 unfolding insideItems
-returns c = then (c .before .before .before .before .before .before .before .before .before .before .before .before .before .before .before .before .put-properties .ensures) (c .before .before .before .before .before .before .put-cases .ensures)
+returns c =
+    let put-properties = c .before .before .before .before .before .before .before .before .before .before .before .before .before .before .before .before .put-properties in
+    let put-cases = c .before .before .before .before .before .before .put-cases in
+    then (put-properties .ensures) (put-cases .ensures)
 
 pub put-inside-spec : {M : Type 1} → statement M
 put-inside-spec =

@@ -22,7 +22,12 @@ same-length-3 : tie.Need-same-length-3
 same-length-3 c = search needs
 
 returns : tie.Need-returns
-returns c = said (c .before .before .before .before .before .before .put-opening .ensures) (suite-childless (c .before .before .before .before .before .before .before .before .before .before .before .before .before .before .before .before .before .before .args .text .now) (c .before .before .before .before .before .before .before .before .before .before .before .before .before .before .before .before .before .before .args .r .now) (recordsIn (c .before .before .before .before .before .before .before .before .before .before .before .before .before .before .before .before .before .before .args .words .now)) (sym (c .before .before .before .before .before .before .before .before .before .before .before .is-childless .ensures) ∙ c .before .before .before .before .before .before .before .before .before .before .if1 .taken))
+returns c =
+    let args = c .before .before .before .before .before .before .before .before .before .before .before .before .before .before .before .before .before .before .args in
+    let is-childless = c .before .before .before .before .before .before .before .before .before .before .before .is-childless in
+    let if1 = c .before .before .before .before .before .before .before .before .before .before .if1 in
+    let put-opening = c .before .before .before .before .before .before .put-opening in
+    said (put-opening .ensures) (suite-childless (args .text .now) (args .r .now) (recordsIn (args .words .now)) (sym (is-childless .ensures) ∙ if1 .taken))
 
 put-opening-requires-2 : tie.Need-put-opening-requires-2
 put-opening-requires-2 c κs = search needs
@@ -43,7 +48,15 @@ same-length-6 : tie.Need-same-length-6
 same-length-6 c = search needs
 
 returns-2 : tie.Need-returns-2
-returns-2 c = said (then (c .before .before .before .before .before .before .before .before .before .before .before .before .before .before .before .before .before .before .before .before .before .before .before .put-opening2 .ensures) (then (c .before .before .before .before .before .before .before .before .before .before .before .before .before .put-inside .ensures) (c .before .before .before .before .put-closing .ensures _))) (suite-parent (c .before .before .before .before .before .before .before .before .before .before .before .before .before .before .before .before .before .before .before .before .before .before .before .before .before .before .before .before .before .before .before .before .before .before .before .args .text .now) (c .before .before .before .before .before .before .before .before .before .before .before .before .before .before .before .before .before .before .before .before .before .before .before .before .before .before .before .before .before .before .before .before .before .before .before .args .r .now) (recordsIn (c .before .before .before .before .before .before .before .before .before .before .before .before .before .before .before .before .before .before .before .before .before .before .before .before .before .before .before .before .before .before .before .before .before .before .before .args .words .now)) (sym (c .before .before .before .before .before .before .before .before .before .before .before .before .before .before .before .before .before .before .before .before .before .before .before .before .before .before .before .before .is-childless .ensures) ∙ c .before .before .before .before .before .before .before .before .before .before .before .before .before .before .before .before .before .before .before .before .before .before .before .before .before .before .before .if1 .left))
+returns-2 c =
+    let at-put-inside = c .before .before .before .before .before .before .before .before .before .before .before .before .before in
+    let at-put-opening2 = at-put-inside .before .before .before .before .before .before .before .before .before .before in
+    let at-if1 = at-put-opening2 .before .before .before .before in
+    let at-is-childless = at-if1 .before in
+    let args = at-is-childless .before .before .before .before .before .before .before .args in
+    let put-closing = c .before .before .before .before .put-closing in
+    said (then (at-put-opening2 .put-opening2 .ensures) (then (at-put-inside .put-inside .ensures) (put-closing .ensures _)))
+    (suite-parent (args .text .now) (args .r .now) (recordsIn (args .words .now)) (sym (at-is-childless .is-childless .ensures) ∙ at-if1 .if1 .left))
 
 cast-put-closing : tie.Need-cast-put-closing
 cast-put-closing c = search needs

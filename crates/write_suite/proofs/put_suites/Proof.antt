@@ -13,13 +13,16 @@ use Rattle.write_suite.proofs.put_suites.Statement.{statement}
 use Rattle.write_suite.proofs.put_suites.Tie as tie
 
 abbrev Inv-loop : tie.InvT-loop
-Inv-loop events₀ attributes₀ bytes₀ text words at₀ mark₀ events attributes bytes at mark = Going (suitesItems text) (kept mark₀ events₀ attributes₀ bytes₀) words (kept mark events attributes bytes) at
+Inv-loop events₀ attributes₀ bytes₀ text words at₀ mark₀ events attributes bytes at mark =
+    Going (suitesItems text) (kept mark₀ events₀ attributes₀ bytes₀) words (kept mark events attributes bytes) at
 
 abbrev μ-loop : tie.MeasureT-loop
 μ-loop events₀ attributes₀ bytes₀ text words at₀ mark₀ events attributes bytes at mark = length words - at
 
 loop-holds : tie.Need-loop-holds Inv-loop μ-loop
-loop-holds c = going-start (suitesItems (c .before .before .before .before .before .args .text .now)) _ _
+loop-holds c =
+    let args = c .before .before .before .before .before .args in
+    going-start (suitesItems (args .text .now)) _ _
 
 is-open-requires : tie.Need-is-open-requires Inv-loop μ-loop
 is-open-requires c κs = search needs
@@ -40,10 +43,16 @@ stands-here-requires : tie.Need-stands-here-requires Inv-loop μ-loop
 stands-here-requires c κs = search needs
 
 add-end : tie.Need-add-end Inv-loop μ-loop
-add-end c = omega (arith, stands-room (c .before .before .before .before .before .before .before .before .before .before .args .words .now) (c .before .before .before .before .loop .at) (goes-on (c .before .before .before .is-open .result) (c .before .stands-here .result) (c .if1 .taken) (c .before .stands-here .ensures)))
+add-end c =
+    let args = c .before .before .before .before .before .before .before .before .before .before .args in
+    let loop = c .before .before .before .before .loop in
+    omega (arith, stands-room (args .words .now) (loop .at) (goes-on (c .before .before .before .is-open .result) (c .before .stands-here .result) (c .if1 .taken) (c .before .stands-here .ensures)))
 
 mul-r : tie.Need-mul-r Inv-loop μ-loop
-mul-r c = omega (arith, stands-room (c .before .before .before .before .before .before .before .before .before .before .args .words .now) (c .before .before .before .before .loop .at) (goes-on (c .before .before .before .is-open .result) (c .before .stands-here .result) (c .if1 .taken) (c .before .stands-here .ensures)))
+mul-r c =
+    let args = c .before .before .before .before .before .before .before .before .before .before .args in
+    let loop = c .before .before .before .before .loop in
+    omega (arith, stands-room (args .words .now) (loop .at) (goes-on (c .before .before .before .is-open .result) (c .before .stands-here .result) (c .if1 .taken) (c .before .stands-here .ensures)))
 
 sub-r : tie.Need-sub-r Inv-loop μ-loop
 sub-r c = omega arith
@@ -52,19 +61,40 @@ part-r-start : tie.Need-part-r-start Inv-loop μ-loop
 part-r-start c = omega arith
 
 part-r-end : tie.Need-part-r-end Inv-loop μ-loop
-part-r-end c = omega (arith, stands-room (c .before .before .before .before .before .before .before .before .before .before .args .words .now) (c .before .before .before .before .loop .at) (goes-on (c .before .before .before .is-open .result) (c .before .stands-here .result) (c .if1 .taken) (c .before .stands-here .ensures)))
+part-r-end c =
+    let args = c .before .before .before .before .before .before .before .before .before .before .args in
+    let loop = c .before .before .before .before .loop in
+    omega (arith, stands-room (args .words .now) (loop .at) (goes-on (c .before .before .before .is-open .result) (c .before .stands-here .result) (c .if1 .taken) (c .before .stands-here .ensures)))
 
 field-requires : tie.Need-field-requires Inv-loop μ-loop
 field-requires c κs = search needs
 
 mul-put-suite : tie.Need-mul-put-suite Inv-loop μ-loop
-mul-put-suite c = omega (arith, stands-room (c .before .before .before .before .before .before .before .before .before .before .before .before .before .before .before .before .args .words .now) (c .before .before .before .before .before .before .before .before .before .before .loop .at) (goes-on (c .before .before .before .before .before .before .before .before .before .is-open .result) (c .before .before .before .before .before .before .before .stands-here .result) (c .before .before .before .before .before .before .if1 .taken) (c .before .before .before .before .before .before .before .stands-here .ensures)))
+mul-put-suite c =
+    let args = c .before .before .before .before .before .before .before .before .before .before .before .before .before .before .before .before .args in
+    let loop = c .before .before .before .before .before .before .before .before .before .before .loop in
+    let is-open = c .before .before .before .before .before .before .before .before .before .is-open in
+    let stands-here = c .before .before .before .before .before .before .before .stands-here in
+    let if1 = c .before .before .before .before .before .before .if1 in
+    omega (arith, stands-room (args .words .now) (loop .at) (goes-on (is-open .result) (stands-here .result) (if1 .taken) (stands-here .ensures)))
 
 sub-put-suite : tie.Need-sub-put-suite Inv-loop μ-loop
-sub-put-suite c = omega (arith, stands-room (c .before .before .before .before .before .before .before .before .before .before .before .before .before .before .before .before .args .words .now) (c .before .before .before .before .before .before .before .before .before .before .loop .at) (goes-on (c .before .before .before .before .before .before .before .before .before .is-open .result) (c .before .before .before .before .before .before .before .stands-here .result) (c .before .before .before .before .before .before .if1 .taken) (c .before .before .before .before .before .before .before .stands-here .ensures)))
+sub-put-suite c =
+    let args = c .before .before .before .before .before .before .before .before .before .before .before .before .before .before .before .before .args in
+    let loop = c .before .before .before .before .before .before .before .before .before .before .loop in
+    let is-open = c .before .before .before .before .before .before .before .before .before .is-open in
+    let stands-here = c .before .before .before .before .before .before .before .stands-here in
+    let if1 = c .before .before .before .before .before .before .if1 in
+    omega (arith, stands-room (args .words .now) (loop .at) (goes-on (is-open .result) (stands-here .result) (if1 .taken) (stands-here .ensures)))
 
 part-put-suite-start : tie.Need-part-put-suite-start Inv-loop μ-loop
-part-put-suite-start c = omega (arith, stands-room (c .before .before .before .before .before .before .before .before .before .before .before .before .before .before .before .before .args .words .now) (c .before .before .before .before .before .before .before .before .before .before .loop .at) (goes-on (c .before .before .before .before .before .before .before .before .before .is-open .result) (c .before .before .before .before .before .before .before .stands-here .result) (c .before .before .before .before .before .before .if1 .taken) (c .before .before .before .before .before .before .before .stands-here .ensures)))
+part-put-suite-start c =
+    let args = c .before .before .before .before .before .before .before .before .before .before .before .before .before .before .before .before .args in
+    let loop = c .before .before .before .before .before .before .before .before .before .before .loop in
+    let is-open = c .before .before .before .before .before .before .before .before .before .is-open in
+    let stands-here = c .before .before .before .before .before .before .before .stands-here in
+    let if1 = c .before .before .before .before .before .before .if1 in
+    omega (arith, stands-room (args .words .now) (loop .at) (goes-on (is-open .result) (stands-here .result) (if1 .taken) (stands-here .ensures)))
 
 part-put-suite-end : tie.Need-part-put-suite-end Inv-loop μ-loop
 part-put-suite-end c = search needs
@@ -73,28 +103,69 @@ put-suite-requires : tie.Need-put-suite-requires Inv-loop μ-loop
 put-suite-requires c κs = search needs
 
 loop-less : tie.Need-loop-less Inv-loop μ-loop
-loop-less c = omega (arith, stands-room (c .before .before .before .before .before .before .before .before .before .before .before .before .before .before .before .before .before .before .before .before .before .before .before .before .args .words .now) (c .before .before .before .before .before .before .before .before .before .before .before .before .before .before .before .before .before .before .loop .at) (goes-on (c .before .before .before .before .before .before .before .before .before .before .before .before .before .before .before .before .before .is-open .result) (c .before .before .before .before .before .before .before .before .before .before .before .before .before .before .before .stands-here .result) (c .before .before .before .before .before .before .before .before .before .before .before .before .before .before .if1 .taken) (c .before .before .before .before .before .before .before .before .before .before .before .before .before .before .before .stands-here .ensures)))
+loop-less c =
+    let args = c .before .before .before .before .before .before .before .before .before .before .before .before
+    .before .before .before .before .before .before .before .before .before .before .before .before .args in
+    let loop = c .before .before .before .before .before .before .before .before .before .before .before .before .before .before .before .before .before .before .loop in
+    let is-open = c .before .before .before .before .before .before .before .before .before .before .before .before .before .before .before .before .before .is-open in
+    let stands-here = c .before .before .before .before .before .before .before .before .before .before .before .before .before .before .before .stands-here in
+    let if1 = c .before .before .before .before .before .before .before .before .before .before .before .before .before .before .if1 in
+    omega (arith, stands-room (args .words .now) (loop .at) (goes-on (is-open .result) (stands-here .result) (if1 .taken) (stands-here .ensures)))
 
 loop-again : tie.Need-loop-again Inv-loop μ-loop
-loop-again c = going-wrote (suitesItems (c .before .before .before .before .before .before .before .before .before .before .before .before .before .before .before .before .before .before .before .before .before .before .before .before .args .text .now)) (c .before .before .before .before .before .before .before .before .before .before .before .before .before .before .before .before .before .before .loop .inv) (goes-on (c .before .before .before .before .before .before .before .before .before .before .before .before .before .before .before .before .before .is-open .result) (c .before .before .before .before .before .before .before .before .before .before .before .before .before .before .before .stands-here .result) (c .before .before .before .before .before .before .before .before .before .before .before .before .before .before .if1 .taken) (c .before .before .before .before .before .before .before .before .before .before .before .before .before .before .before .stands-here .ensures)) _ (suites-suite (c .before .before .before .before .before .before .before .before .before .before .before .before .before .before .before .before .before .before .before .before .before .before .before .before .args .text .now) (take (c .before .before .before .before .before .before .before .before .before .before .before .before .before .before .before .before .before .before .loop .at + 32 - c .before .before .before .before .before .before .before .before .before .before .before .before .before .before .before .before .before .before .loop .at) (drop (c .before .before .before .before .before .before .before .before .before .before .before .before .before .before .before .before .before .before .loop .at) (c .before .before .before .before .before .before .before .before .before .before .before .before .before .before .before .before .before .before .before .before .before .before .before .before .args .words .now))) (recordsIn (drop (c .before .before .before .before .before .before .before .before .before .before .before .before .before .before .before .before .before .before .loop .at + 32) (c .before .before .before .before .before .before .before .before .before .before .before .before .before .before .before .before .before .before .before .before .before .before .before .before .args .words .now))) (sym (c .before .before .before .before .before .before .before .before .before .before .before .before .field .ensures) ∙ c .before .before .before .before .before .before .before .before .before .before .before .if2 .taken)) (rw (records-behind (c .before .before .before .before .before .before .before .before .before .before .before .before .before .before .before .before .before .before .before .before .before .before .before .before .args .words .now) (c .before .before .before .before .before .before .before .before .before .before .before .before .before .before .before .before .before .before .loop .at)) at (c .before .before .before .before .before .before .put-suite .ensures)) (search needs) (search needs) (search needs)
+loop-again c =
+    let args = c .before .before .before .before .before .before .before .before .before .before .before .before
+    .before .before .before .before .before .before .before .before .before .before .before .before .args in
+    let loop = c .before .before .before .before .before .before .before .before .before .before .before .before .before .before .before .before .before .before .loop in
+    let is-open = c .before .before .before .before .before .before .before .before .before .before .before .before .before .before .before .before .before .is-open in
+    let stands-here = c .before .before .before .before .before .before .before .before .before .before .before .before .before .before .before .stands-here in
+    let if1 = c .before .before .before .before .before .before .before .before .before .before .before .before .before .before .if1 in
+    let field = c .before .before .before .before .before .before .before .before .before .before .before .before .field in
+    let if2 = c .before .before .before .before .before .before .before .before .before .before .before .if2 in
+    let put-suite = c .before .before .before .before .before .before .put-suite in
+    going-wrote (suitesItems (args .text .now)) (loop .inv) (goes-on (is-open .result) (stands-here .result) (if1 .taken) (stands-here .ensures)) _
+    (suites-suite (args .text .now) (take (loop .at + 32 - loop .at) (drop (loop .at) (args .words .now))) (recordsIn (drop (loop .at + 32) (args .words .now)))
+    (sym (field .ensures) ∙ if2 .taken)) (rw (records-behind (args .words .now) (loop .at)) at (put-suite .ensures)) (search needs) (search needs) (search needs)
 
 loop-less-2 : tie.Need-loop-less-2 Inv-loop μ-loop
-loop-less-2 c = omega (arith, stands-room (c .before .before .before .before .before .before .before .before .before .before .before .before .before .args .words .now) (c .before .before .before .before .before .before .before .loop .at) (goes-on (c .before .before .before .before .before .before .is-open .result) (c .before .before .before .before .stands-here .result) (c .before .before .before .if1 .taken) (c .before .before .before .before .stands-here .ensures)))
+loop-less-2 c =
+    let args = c .before .before .before .before .before .before .before .before .before .before .before .before .before .args in
+    let loop = c .before .before .before .before .before .before .before .loop in
+    let is-open = c .before .before .before .before .before .before .is-open in
+    let stands-here = c .before .before .before .before .stands-here in
+    omega (arith, stands-room (args .words .now) (loop .at) (goes-on (is-open .result) (stands-here .result) (c .before .before .before .if1 .taken) (stands-here .ensures)))
 
 loop-again-2 : tie.Need-loop-again-2 Inv-loop μ-loop
-loop-again-2 c = going-pass (suitesItems (c .before .before .before .before .before .before .before .before .before .before .before .before .before .args .text .now)) (c .before .before .before .before .before .before .before .loop .inv) (goes-on (c .before .before .before .before .before .before .is-open .result) (c .before .before .before .before .stands-here .result) (c .before .before .before .if1 .taken) (c .before .before .before .before .stands-here .ensures)) (suites-other (c .before .before .before .before .before .before .before .before .before .before .before .before .before .args .text .now) (take (c .before .before .before .before .before .before .before .loop .at + 32 - c .before .before .before .before .before .before .before .loop .at) (drop (c .before .before .before .before .before .before .before .loop .at) (c .before .before .before .before .before .before .before .before .before .before .before .before .before .args .words .now))) (recordsIn (drop (c .before .before .before .before .before .before .before .loop .at + 32) (c .before .before .before .before .before .before .before .before .before .before .before .before .before .args .words .now))) (λ z. c .if2 .left (c .before .field .ensures ∙ z)))
+loop-again-2 c =
+    let args = c .before .before .before .before .before .before .before .before .before .before .before .before .before .args in
+    let loop = c .before .before .before .before .before .before .before .loop in
+    let is-open = c .before .before .before .before .before .before .is-open in
+    let stands-here = c .before .before .before .before .stands-here in
+    going-pass (suitesItems (args .text .now)) (loop .inv) (goes-on (is-open .result) (stands-here .result) (c .before .before .before .if1 .taken) (stands-here .ensures))
+    (suites-other (args .text .now) (take (loop .at + 32 - loop .at) (drop (loop .at) (args .words .now)))
+    (recordsIn (drop (loop .at + 32) (args .words .now))) (λ z. c .if2 .left (c .before .field .ensures ∙ z)))
 
 same-length : tie.Need-same-length Inv-loop μ-loop
-same-length c = c .before .before .before .before .loop .inv .sameEvents
+same-length c =
+    let loop = c .before .before .before .before .loop in
+    loop .inv .sameEvents
 
 same-length-2 : tie.Need-same-length-2 Inv-loop μ-loop
-same-length-2 c = c .before .before .before .before .loop .inv .sameAttributes
+same-length-2 c =
+    let loop = c .before .before .before .before .loop in
+    loop .inv .sameAttributes
 
 same-length-3 : tie.Need-same-length-3 Inv-loop μ-loop
-same-length-3 c = c .before .before .before .before .loop .inv .sameBytes
+same-length-3 c =
+    let loop = c .before .before .before .before .loop in
+    loop .inv .sameBytes
 
 returns : tie.Need-returns Inv-loop μ-loop
-returns c = going-stop (suitesItems (c .before .before .before .before .before .before .before .before .before .before .args .text .now)) (c .before .before .before .before .loop .inv) (c .before .before .before .is-open .result) (c .before .stands-here .result) (suites-over (c .before .before .before .before .before .before .before .before .before .before .args .text .now)) (c .if1 .left) (c .before .before .before .is-open .ensures) (c .before .stands-here .ensures)
+returns c =
+    let args = c .before .before .before .before .before .before .before .before .before .before .args in
+    let loop = c .before .before .before .before .loop in
+    going-stop (suitesItems (args .text .now)) (loop .inv) (c .before .before .before .is-open .result) (c .before .stands-here .result)
+    (suites-over (args .text .now)) (c .if1 .left) (c .before .before .before .is-open .ensures) (c .before .stands-here .ensures)
 
 pub put-suites-spec : {M : Type 1} → statement M
 put-suites-spec =

@@ -37,7 +37,8 @@ element-write-bytes-4 : tie.Need-element-write-bytes-4
 element-write-bytes-4 c = search needs
 
 returns : tie.Need-returns
-returns c = let a = c .before .before .before .before .args in octets-stored (a .bytes .now) (a .at) (a .n) _ _ _ _ (c .before .before .before .digit .ensures) (c .before .before .digit2 .ensures) (c .before .digit3 .ensures) (c .digit4 .ensures)
+returns c = let a = c .before .before .before .before .args in
+    octets-stored (a .bytes .now) (a .at) (a .n) _ _ _ _ (c .before .before .before .digit .ensures) (c .before .before .digit2 .ensures) (c .before .digit3 .ensures) (c .digit4 .ensures)
 
 pub put-octets-spec : {M : Type 1} → statement M
 put-octets-spec =

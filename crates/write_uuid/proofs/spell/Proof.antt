@@ -28,7 +28,24 @@ put-octets-requires-8 : tie.Need-put-octets-requires-8
 put-octets-requires-8 c κs = search needs
 
 returns : tie.Need-returns
-returns c = rw (c .put-octets8 .ensures, c .before .before .put-octets7 .ensures, c .before .before .before .before .before .put-octets6 .ensures, c .before .before .before .before .before .before .before .put-octets5 .ensures, c .before .before .before .before .before .before .before .before .before .before .put-octets4 .ensures, c .before .before .before .before .before .before .before .before .before .before .before .before .put-octets3 .ensures, c .before .before .before .before .before .before .before .before .before .before .before .before .before .before .before .put-octets2 .ensures, c .before .before .before .before .before .before .before .before .before .before .before .before .before .before .before .before .before .put-octets .ensures) (words-stored (c .before .before .before .before .before .before .before .before .before .before .before .before .before .before .before .before .before .before .before .before .before .before .args .w))
+returns c =
+    let at-put-octets = c .before .before .before .before .before .before .before .before .before .before .before .before .before .before .before .before .before in
+    let args = at-put-octets .before .before .before .before .before .args in
+    let put-octets2 = c .before .before .before .before .before .before .before .before .before .before .before .before .before .before .before .put-octets2 in
+    let put-octets3 = c .before .before .before .before .before .before .before .before .before .before .before .before .put-octets3 in
+    let put-octets4 = c .before .before .before .before .before .before .before .before .before .before .put-octets4 in
+    let put-octets5 = c .before .before .before .before .before .before .before .put-octets5 in
+    let put-octets6 = c .before .before .before .before .before .put-octets6 in
+    rw (
+      c .put-octets8 .ensures,
+      c .before .before .put-octets7 .ensures,
+      put-octets6 .ensures,
+      put-octets5 .ensures,
+      put-octets4 .ensures,
+      put-octets3 .ensures,
+      put-octets2 .ensures,
+      at-put-octets .put-octets .ensures,
+    ) (words-stored (args .w))
 
 pub spell-spec : {M : Type 1} → statement M
 spell-spec =

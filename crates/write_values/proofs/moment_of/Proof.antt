@@ -50,7 +50,15 @@ offset-of-requires : tie.Need-offset-of-requires
 offset-of-requires c κs = search needs
 
 returns : tie.Need-returns
-returns c = rw (c .before .before .before .before .before .before .before .before .field .ensures, c .before .before .before .before .before .before .before .field2 .ensures, c .before .before .before .before .before .before .field3 .ensures, c .before .before .before .before .before .field4 .ensures, c .before .before .before .before .field5 .ensures, c .before .before .before .field6 .ensures, c .before .before .field7 .ensures) (moment-digits (momentOf (c .before .before .before .before .before .before .before .before .before .before .args .r .now)) (c .offset-of .result) (rw (c .before .field8 .ensures) at (c .offset-of .ensures)))
+returns c =
+    let args = c .before .before .before .before .before .before .before .before .before .before .args in
+    let field = c .before .before .before .before .before .before .before .before .field in
+    let field2 = c .before .before .before .before .before .before .before .field2 in
+    let field3 = c .before .before .before .before .before .before .field3 in
+    let field4 = c .before .before .before .before .before .field4 in
+    let field5 = c .before .before .before .before .field5 in
+    rw (field .ensures, field2 .ensures, field3 .ensures, field4 .ensures, field5 .ensures, c .before .before .before .field6 .ensures, c .before .before .field7 .ensures)
+    (moment-digits (momentOf (args .r .now)) (c .offset-of .result) (rw (c .before .field8 .ensures) at (c .offset-of .ensures)))
 
 pub moment-of-spec : {M : Type 1} → statement M
 moment-of-spec =

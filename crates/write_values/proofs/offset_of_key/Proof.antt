@@ -18,19 +18,52 @@ returns-3 c = (rw (c .before .before .if1 .left, c .before .if2 .left, eq-eqb (c
 
 returns-4 : tie.Need-returns-4
 unfolding offsetOf
-returns-4 c = (rw (c .before .before .before .if1 .left, c .before .before .if2 .left, ne-eqb (c .before .before .before .before .args .code) 8 (c .before .if3 .left), eq-eqb (c .before .before .before .before .args .code) 9 (c .if4 .taken)), search needs)
+returns-4 c =
+    let args = c .before .before .before .before .args in
+    (rw (c .before .before .before .if1 .left, c .before .before .if2 .left, ne-eqb (args .code) 8 (c .before .if3 .left), eq-eqb (args .code) 9 (c .if4 .taken)), search needs)
 
 returns-5 : tie.Need-returns-5
 unfolding offsetOf
-returns-5 c = (rw (c .before .before .before .before .if1 .left, c .before .before .before .if2 .left, ne-eqb (c .before .before .before .before .before .args .code) 8 (c .before .before .if3 .left), ne-eqb (c .before .before .before .before .before .args .code) 9 (c .before .if4 .left), eq-eqb (c .before .before .before .before .before .args .code) 10 (c .if5 .taken)), search needs)
+returns-5 c =
+    let args = c .before .before .before .before .before .args in
+    let if1 = c .before .before .before .before .if1 in (
+      rw (if1 .left, c .before .before .before .if2 .left, ne-eqb (args .code) 8 (c .before .before .if3 .left), ne-eqb (args .code) 9 (c .before .if4 .left), eq-eqb (args .code) 10 (c .if5 .taken)),
+      search needs,
+    )
 
 returns-6 : tie.Need-returns-6
 unfolding offsetOf
-returns-6 c = (rw (c .before .before .before .before .before .if1 .left, c .before .before .before .before .if2 .left, ne-eqb (c .before .before .before .before .before .before .args .code) 8 (c .before .before .before .if3 .left), ne-eqb (c .before .before .before .before .before .before .args .code) 9 (c .before .before .if4 .left), ne-eqb (c .before .before .before .before .before .before .args .code) 10 (c .before .if5 .left), eq-eqb (c .before .before .before .before .before .before .args .code) 14 (c .if6 .taken)), search needs)
+returns-6 c =
+    let args = c .before .before .before .before .before .before .args in
+    let if1 = c .before .before .before .before .before .if1 in
+    let if2 = c .before .before .before .before .if2 in (
+      rw (
+        if1 .left,
+        if2 .left,
+        ne-eqb (args .code) 8 (c .before .before .before .if3 .left),
+        ne-eqb (args .code) 9 (c .before .before .if4 .left),
+        ne-eqb (args .code) 10 (c .before .if5 .left),
+        eq-eqb (args .code) 14 (c .if6 .taken),
+      ),
+      search needs,
+    )
 
 returns-7 : tie.Need-returns-7
 unfolding offsetOf
-returns-7 c = (rw (c .before .before .before .before .before .if1 .left, c .before .before .before .before .if2 .left, ne-eqb (c .before .before .before .before .before .before .args .code) 8 (c .before .before .before .if3 .left), ne-eqb (c .before .before .before .before .before .before .args .code) 9 (c .before .before .if4 .left), ne-eqb (c .before .before .before .before .before .before .args .code) 10 (c .before .if5 .left), ne-eqb (c .before .before .before .before .before .before .args .code) 14 (c .if6 .left)), search needs)
+returns-7 c =
+    let args = c .before .before .before .before .before .before .args in
+    let if1 = c .before .before .before .before .before .if1 in
+    let if2 = c .before .before .before .before .if2 in (
+      rw (
+        if1 .left,
+        if2 .left,
+        ne-eqb (args .code) 8 (c .before .before .before .if3 .left),
+        ne-eqb (args .code) 9 (c .before .before .if4 .left),
+        ne-eqb (args .code) 10 (c .before .if5 .left),
+        ne-eqb (args .code) 14 (c .if6 .left),
+      ),
+      search needs,
+    )
 
 pub offset-of-key-spec : {M : Type 1} → statement M
 offset-of-key-spec =

@@ -30,7 +30,11 @@ same-length : tie.Need-same-length
 same-length c = search needs
 
 returns : tie.Need-returns
-returns c = rw (c .before .before .before .part-of .ensures, c .before .before .before .before .before .less .ensures, c .before .before .before .before .before .before .byte-at2 .ensures, c .before .before .before .before .before .before .before .byte-at .ensures) at (c .before .before .put .ensures)
+returns c =
+    let byte-at = c .before .before .before .before .before .before .before .byte-at in
+    let byte-at2 = c .before .before .before .before .before .before .byte-at2 in
+    let less = c .before .before .before .before .before .less in
+    rw (c .before .before .before .part-of .ensures, less .ensures, byte-at2 .ensures, byte-at .ensures) at (c .before .before .put .ensures)
 
 pub put-named-spec : {M : Type 1} → statement M
 put-named-spec =

@@ -15,7 +15,10 @@ same-length c = search needs
 
 returns : tie.Need-returns
 unfolding valueOf
-returns c = rw (eq-eqb (c .before .before .before .before .before .before .before .before .before .args .code) 3 (c .before .before .before .before .before .if1 .taken)) (rw (c .before .before .before .words-of .ensures) at (c .before .before .put-uuid .ensures))
+returns c =
+    let args = c .before .before .before .before .before .before .before .before .before .args in
+    let if1 = c .before .before .before .before .before .if1 in
+    rw (eq-eqb (args .code) 3 (if1 .taken)) (rw (c .before .before .before .words-of .ensures) at (c .before .before .put-uuid .ensures))
 
 moment-of-requires : tie.Need-moment-of-requires
 moment-of-requires c κs = search needs
@@ -28,7 +31,11 @@ same-length-2 c = search needs
 
 returns-2 : tie.Need-returns-2
 unfolding valueOf
-returns-2 c = rw (ne-eqb (c .before .before .before .before .before .before .before .before .before .before .args .code) 3 (c .before .before .before .before .before .before .if1 .left), eq-eqb (c .before .before .before .before .before .before .before .before .before .before .args .code) 4 (c .before .before .before .before .before .if2 .taken)) (rw (c .before .before .before .moment-of .ensures) at (c .before .before .put-timestamp .ensures))
+returns-2 c =
+    let args = c .before .before .before .before .before .before .before .before .before .before .args in
+    let if1 = c .before .before .before .before .before .before .if1 in
+    let if2 = c .before .before .before .before .before .if2 in
+    rw (ne-eqb (args .code) 3 (if1 .left), eq-eqb (args .code) 4 (if2 .taken)) (rw (c .before .before .before .moment-of .ensures) at (c .before .before .put-timestamp .ensures))
 
 field-requires : tie.Need-field-requires
 field-requires c κs = search needs
@@ -44,7 +51,14 @@ same-length-3 c = search needs
 
 returns-3 : tie.Need-returns-3
 unfolding valueOf
-returns-3 c = rw (ne-eqb (c .before .before .before .before .before .before .before .before .before .before .before .before .args .code) 3 (c .before .before .before .before .before .before .before .before .if1 .left), ne-eqb (c .before .before .before .before .before .before .before .before .before .before .before .before .args .code) 4 (c .before .before .before .before .before .before .before .if2 .left), eq-eqb (c .before .before .before .before .before .before .before .before .before .before .before .before .args .code) 5 (c .before .before .before .before .before .before .if3 .taken)) (rw (c .before .before .before .before .field .ensures, c .before .before .before .field2 .ensures) at (c .before .before .put-time .ensures))
+returns-3 c =
+    let args = c .before .before .before .before .before .before .before .before .before .before .before .before .args in
+    let if1 = c .before .before .before .before .before .before .before .before .if1 in
+    let if2 = c .before .before .before .before .before .before .before .if2 in
+    let if3 = c .before .before .before .before .before .before .if3 in
+    let field = c .before .before .before .before .field in
+    rw (ne-eqb (args .code) 3 (if1 .left), ne-eqb (args .code) 4 (if2 .left), eq-eqb (args .code) 5 (if3 .taken))
+    (rw (field .ensures, c .before .before .before .field2 .ensures) at (c .before .before .put-time .ensures))
 
 offset-of-key-requires : tie.Need-offset-of-key-requires
 offset-of-key-requires c κs = search needs
@@ -57,7 +71,15 @@ same-length-4 c = search needs
 
 returns-4 : tie.Need-returns-4
 unfolding valueOf
-returns-4 c = rw (ne-eqb (c .before .before .before .before .before .before .before .before .before .before .before .before .args .code) 3 (c .before .before .before .before .before .before .before .before .if1 .left), ne-eqb (c .before .before .before .before .before .before .before .before .before .before .before .before .args .code) 4 (c .before .before .before .before .before .before .before .if2 .left), ne-eqb (c .before .before .before .before .before .before .before .before .before .before .before .before .args .code) 5 (c .before .before .before .before .before .before .if3 .left), c .before .before .before .before .if4 .taken) (rw (c .before .before .before .before .before .offset-of-key .ensures .0) at (c .before .before .put-number-at .ensures))
+returns-4 c =
+    let args = c .before .before .before .before .before .before .before .before .before .before .before .before .args in
+    let if1 = c .before .before .before .before .before .before .before .before .if1 in
+    let if2 = c .before .before .before .before .before .before .before .if2 in
+    let if3 = c .before .before .before .before .before .before .if3 in
+    let offset-of-key = c .before .before .before .before .before .offset-of-key in
+    let if4 = c .before .before .before .before .if4 in
+    rw (ne-eqb (args .code) 3 (if1 .left), ne-eqb (args .code) 4 (if2 .left), ne-eqb (args .code) 5 (if3 .left), if4 .taken)
+    (rw (offset-of-key .ensures .0) at (c .before .before .put-number-at .ensures))
 
 put-text-at-requires : tie.Need-put-text-at-requires
 put-text-at-requires c κs = search needs
@@ -67,7 +89,15 @@ same-length-5 c = search needs
 
 returns-5 : tie.Need-returns-5
 unfolding valueOf
-returns-5 c = rw (ne-eqb (c .before .before .before .before .before .before .before .before .before .before .before .before .args .code) 3 (c .before .before .before .before .before .before .before .before .if1 .left), ne-eqb (c .before .before .before .before .before .before .before .before .before .before .before .before .args .code) 4 (c .before .before .before .before .before .before .before .if2 .left), ne-eqb (c .before .before .before .before .before .before .before .before .before .before .before .before .args .code) 5 (c .before .before .before .before .before .before .if3 .left), c .before .before .before .before .if4 .left) (rw (c .before .before .before .before .before .offset-of-key .ensures .0) at (c .before .before .put-text-at .ensures))
+returns-5 c =
+    let args = c .before .before .before .before .before .before .before .before .before .before .before .before .args in
+    let if1 = c .before .before .before .before .before .before .before .before .if1 in
+    let if2 = c .before .before .before .before .before .before .before .if2 in
+    let if3 = c .before .before .before .before .before .before .if3 in
+    let offset-of-key = c .before .before .before .before .before .offset-of-key in
+    let if4 = c .before .before .before .before .if4 in
+    rw (ne-eqb (args .code) 3 (if1 .left), ne-eqb (args .code) 4 (if2 .left), ne-eqb (args .code) 5 (if3 .left), if4 .left)
+    (rw (offset-of-key .ensures .0) at (c .before .before .put-text-at .ensures))
 
 pub put-value-spec : {M : Type 1} → statement M
 put-value-spec =

@@ -23,7 +23,9 @@ field-requires : tie.Need-field-requires
 field-requires c κs = search needs
 
 returns : tie.Need-returns
-returns c = c .field .ensures ∙ kind-there (c .before .before .before .before .args .words .now) _ (c .before .before .seek .result) (c .before .before .seek .ensures .1)
+returns c =
+    let args = c .before .before .before .before .args in
+    c .field .ensures ∙ kind-there (args .words .now) _ (c .before .before .seek .result) (c .before .before .seek .ensures .1)
 
 pub kind-of-first-spec : {M : Type 1} → statement M
 kind-of-first-spec =

@@ -26,7 +26,15 @@ same-length : tie.Need-same-length
 same-length c = search needs
 
 returns : tie.Need-returns
-returns c = other (more (more (more (more (more (c .before .before .before .before .before .before .before .before .before .before .before .before .before .before .before .before .before .before .before .before .before .before .put-word .ensures) (c .before .before .before .before .before .before .before .before .before .before .before .before .before .before .before .before .before .before .put-word2 .ensures)) (c .before .before .before .before .before .before .before .before .before .before .before .before .before .before .put-word3 .ensures)) (c .before .before .before .before .before .before .before .before .before .before .put-words .ensures)) (c .before .before .before .before .before .before .put-words2 .ensures)) (c .before .before .put .ensures)) (table-parts (c .before .before .before .before .before .before .before .before .before .before .before .before .before .before .before .before .before .before .before .before .before .before .before .before .before .before .before .before .args .events .now) (c .before .before .before .before .before .before .before .before .before .before .before .before .before .before .before .before .before .before .before .before .before .before .before .before .before .before .before .before .args .attributes .now) (c .before .before .before .before .before .before .before .before .before .before .before .before .before .before .before .before .before .before .before .before .before .before .before .before .before .before .before .before .args .bytes .now))
+returns c =
+    let at-put-word2 = c .before .before .before .before .before .before .before .before .before .before .before .before .before .before .before .before .before .before in
+    let at-put-word = at-put-word2 .before .before .before .before in
+    let args = at-put-word .before .before .before .before .before .before .args in
+    let put-word3 = c .before .before .before .before .before .before .before .before .before .before .before .before .before .before .put-word3 in
+    let put-words = c .before .before .before .before .before .before .before .before .before .before .put-words in
+    let put-words2 = c .before .before .before .before .before .before .put-words2 in
+    other (more (more (more (more (more (at-put-word .put-word .ensures) (at-put-word2 .put-word2 .ensures)) (put-word3 .ensures)) (put-words .ensures)) (put-words2 .ensures))
+    (c .before .before .put .ensures)) (table-parts (args .events .now) (args .attributes .now) (args .bytes .now))
 
 pub put-table-spec : {M : Type 1} → statement M
 put-table-spec =

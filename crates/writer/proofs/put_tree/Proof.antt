@@ -17,10 +17,16 @@ least-requires-2 : tie.Need-least-requires-2
 least-requires-2 c κs = search needs
 
 slice-aggregate-put-document : tie.Need-slice-aggregate-put-document
-slice-aggregate-put-document c = sym (length-take-le (c .before .before .before .before .least2 .result) (c .before .before .before .before .before .before .before .before .before .before .before .args .text .now) (omega (arith, c .before .before .before .before .least2 .ensures, min-le-left (length (c .before .before .before .before .before .before .before .before .before .before .before .args .text .now)) mostBytes)))
+slice-aggregate-put-document c =
+    let args = c .before .before .before .before .before .before .before .before .before .before .before .args in
+    let least2 = c .before .before .before .before .least2 in
+    sym (length-take-le (least2 .result) (args .text .now) (omega (arith, least2 .ensures, min-le-left (length (args .text .now)) mostBytes)))
 
 slice-aggregate-put-document-2 : tie.Need-slice-aggregate-put-document-2
-slice-aggregate-put-document-2 c = sym (length-take-le (c .before .before .before .before .before .before .least .result) (c .before .before .before .before .before .before .before .before .before .before .before .before .args .records .now) (omega (arith, c .before .before .before .before .before .before .least .ensures, min-le-left (length (c .before .before .before .before .before .before .before .before .before .before .before .before .args .records .now)) mostWords)))
+slice-aggregate-put-document-2 c =
+    let args = c .before .before .before .before .before .before .before .before .before .before .before .before .args in
+    let least = c .before .before .before .before .before .before .least in
+    sym (length-take-le (least .result) (args .records .now) (omega (arith, least .ensures, min-le-left (length (args .records .now)) mostWords)))
 
 put-document-requires : tie.Need-put-document-requires
 put-document-requires c κs = search needs
@@ -35,7 +41,12 @@ same-length-3 : tie.Need-same-length-3
 same-length-3 c = search needs
 
 returns : tie.Need-returns
-returns c = said (c .before .before .before .before .before .before .put-document .ensures) (used-items (c .before .before .before .before .before .before .before .before .before .before .before .before .before .before .before .before .before .before .before .args .records .now) (c .before .before .before .before .before .before .before .before .before .before .before .before .before .before .before .before .before .before .before .args .text .now) (c .before .before .before .before .before .before .before .before .before .before .before .before .before .least .result) (c .before .before .before .before .before .before .before .before .before .before .before .before .least2 .result) (c .before .before .before .before .before .before .before .before .before .before .before .before .before .least .ensures) (c .before .before .before .before .before .before .before .before .before .before .before .before .least2 .ensures))
+returns c =
+    let at-least = c .before .before .before .before .before .before .before .before .before .before .before .before .before in
+    let args = at-least .before .before .before .before .before .before .args in
+    let least2 = c .before .before .before .before .before .before .before .before .before .before .before .before .least2 in
+    let put-document = c .before .before .before .before .before .before .put-document in
+    said (put-document .ensures) (used-items (args .records .now) (args .text .now) (at-least .least .result) (least2 .result) (at-least .least .ensures) (least2 .ensures))
 
 pub put-tree-spec : {M : Type 1} → statement M
 put-tree-spec =

@@ -21,7 +21,10 @@ counted-requires : tie.Need-counted-requires
 counted-requires c κs = search needs
 
 returns : tie.Need-returns
-returns c = c .counted .ensures ∙ counted-case (c .before .before .before .plain-counts .ensures) (c .before .before .before .before .before .args .outcome) (c .before .before .outcome-at .ensures) (c .before .before .before .before .if1 .taken) (c .before .add-test-case .ensures)
+returns c =
+    let args = c .before .before .before .before .before .args in
+    let if1 = c .before .before .before .before .if1 in
+    c .counted .ensures ∙ counted-case (c .before .before .before .plain-counts .ensures) (args .outcome) (c .before .before .outcome-at .ensures) (if1 .taken) (c .before .add-test-case .ensures)
 
 not-counted-requires : tie.Need-not-counted-requires
 not-counted-requires c κs = search needs

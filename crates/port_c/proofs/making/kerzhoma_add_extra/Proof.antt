@@ -18,9 +18,11 @@ same-length-2 c = search needs
 
 returns : tie.Need-returns
 returns c =
+    let if1 = c .before .before .before .before .before .before .before .if1 in
+    let not-built = c .before .before .before .before .not-built in
     let a = c .before .before .before .before .before .before .before .before .before .before .before .before .args in
     let d : Draft = record { builder = a .b; words = a .records .now; text = a .text .now } in
-    stopped (a .records .now) (a .text .now) (unknown holders (a .holder) (addExtra (holderAt (a .holder)) (a .key .now) (a .value .now) d) (c .before .before .before .before .before .before .before .if1 .taken)) (c .before .before .before .before .not-built .ensures)
+    stopped (a .records .now) (a .text .now) (unknown holders (a .holder) (addExtra (holderAt (a .holder)) (a .key .now) (a .value .now) d) (if1 .taken)) (not-built .ensures)
 
 holder-at-requires : tie.Need-holder-at-requires
 holder-at-requires c κs = search needs
@@ -39,9 +41,13 @@ same-length-4 c = search needs
 
 returns-2 : tie.Need-returns-2
 returns-2 c =
+    let if1 = c .before .before .before .before .before .before .before .before .before .if1 in
+    let holder-at = c .before .before .before .before .before .before .holder-at in
+    let add-extra = c .before .before .before .before .before .add-extra in
     let a = c .before .before .before .before .before .before .before .before .before .before .before .before .before .before .args in
     let d : Draft = record { builder = a .b; words = a .records .now; text = a .text .now } in
-    passed (a .records .now) (a .text .now) (known holders (a .holder) (λ (x : Holder). addExtra x (a .key .now) (a .value .now) d) (c .before .before .before .before .before .before .holder-at .ensures) (c .before .before .before .before .before .before .before .before .before .if1 .left)) (c .built .ensures) (c .before .before .before .before .before .add-extra .ensures)
+    passed (a .records .now) (a .text .now) (known holders (a .holder) (λ (x : Holder). addExtra x (a .key .now) (a .value .now) d) (holder-at .ensures) (if1 .left))
+    (c .built .ensures) (add-extra .ensures)
 
 pub kerzhoma-add-extra-spec : {M : Type 1} → statement M
 kerzhoma-add-extra-spec =

@@ -18,9 +18,11 @@ same-length-2 c = search needs
 
 returns : tie.Need-returns
 returns c =
+    let if1 = c .before .before .before .before .before .before .before .if1 in
+    let not-built = c .before .before .before .before .not-built in
     let a = c .before .before .before .before .before .before .before .before .before .before .args in
     let d : Draft = record { builder = a .b; words = a .records .now; text = a .text .now } in
-    stopped (a .records .now) (a .text .now) (unknown kinds (a .kind) (addRerun (kindAt (a .kind)) d) (c .before .before .before .before .before .before .before .if1 .taken)) (c .before .before .before .before .not-built .ensures)
+    stopped (a .records .now) (a .text .now) (unknown kinds (a .kind) (addRerun (kindAt (a .kind)) d) (if1 .taken)) (not-built .ensures)
 
 kind-at-requires : tie.Need-kind-at-requires
 kind-at-requires c κs = search needs
@@ -39,9 +41,12 @@ same-length-4 c = search needs
 
 returns-2 : tie.Need-returns-2
 returns-2 c =
+    let if1 = c .before .before .before .before .before .before .before .before .before .if1 in
+    let kind-at = c .before .before .before .before .before .before .kind-at in
+    let add-rerun = c .before .before .before .before .before .add-rerun in
     let a = c .before .before .before .before .before .before .before .before .before .before .before .before .args in
     let d : Draft = record { builder = a .b; words = a .records .now; text = a .text .now } in
-    passed (a .records .now) (a .text .now) (known kinds (a .kind) (λ (x : NonSuccessKind). addRerun x d) (c .before .before .before .before .before .before .kind-at .ensures) (c .before .before .before .before .before .before .before .before .before .if1 .left)) (c .built .ensures) (c .before .before .before .before .before .add-rerun .ensures)
+    passed (a .records .now) (a .text .now) (known kinds (a .kind) (λ (x : NonSuccessKind). addRerun x d) (kind-at .ensures) (if1 .left)) (c .built .ensures) (add-rerun .ensures)
 
 pub kerzhoma-add-rerun-spec : {M : Type 1} → statement M
 kerzhoma-add-rerun-spec =

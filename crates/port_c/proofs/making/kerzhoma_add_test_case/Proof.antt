@@ -18,9 +18,11 @@ same-length-2 c = search needs
 
 returns : tie.Need-returns
 returns c =
+    let if1 = c .before .before .before .before .before .before .before .if1 in
+    let not-built = c .before .before .before .before .not-built in
     let a = c .before .before .before .before .before .before .before .before .before .before .before .args in
     let d : Draft = record { builder = a .b; words = a .records .now; text = a .text .now } in
-    stopped (a .records .now) (a .text .now) (unknown outcomes (a .outcome) (addTestCase (a .name .now) (outcomeAt (a .outcome)) d) (c .before .before .before .before .before .before .before .if1 .taken)) (c .before .before .before .before .not-built .ensures)
+    stopped (a .records .now) (a .text .now) (unknown outcomes (a .outcome) (addTestCase (a .name .now) (outcomeAt (a .outcome)) d) (if1 .taken)) (not-built .ensures)
 
 outcome-at-requires : tie.Need-outcome-at-requires
 outcome-at-requires c κs = search needs
@@ -39,9 +41,13 @@ same-length-4 c = search needs
 
 returns-2 : tie.Need-returns-2
 returns-2 c =
+    let if1 = c .before .before .before .before .before .before .before .before .before .if1 in
+    let outcome-at = c .before .before .before .before .before .before .outcome-at in
+    let add-test-case = c .before .before .before .before .before .add-test-case in
     let a = c .before .before .before .before .before .before .before .before .before .before .before .before .before .args in
     let d : Draft = record { builder = a .b; words = a .records .now; text = a .text .now } in
-    passed (a .records .now) (a .text .now) (known outcomes (a .outcome) (λ (x : Outcome). addTestCase (a .name .now) x d) (c .before .before .before .before .before .before .outcome-at .ensures) (c .before .before .before .before .before .before .before .before .before .if1 .left)) (c .built .ensures) (c .before .before .before .before .before .add-test-case .ensures)
+    passed (a .records .now) (a .text .now) (known outcomes (a .outcome) (λ (x : Outcome). addTestCase (a .name .now) x d) (outcome-at .ensures) (if1 .left))
+    (c .built .ensures) (add-test-case .ensures)
 
 pub kerzhoma-add-test-case-spec : {M : Type 1} → statement M
 kerzhoma-add-test-case-spec =

@@ -17,7 +17,9 @@ same-length-2 : tie.Need-same-length-2
 same-length-2 c = search needs
 
 returns : tie.Need-returns
-returns c = (c .built .ensures ∙ ap portBuilt (c .before .before .before .before .before .add-test-suite .ensures .0), c .before .before .before .before .before .add-test-suite .ensures .1)
+returns c =
+    let add-test-suite = c .before .before .before .before .before .add-test-suite in
+    (c .built .ensures ∙ ap portBuilt (add-test-suite .ensures .0), add-test-suite .ensures .1)
 
 pub kerzhoma-add-test-suite-spec : {M : Type 1} → statement M
 kerzhoma-add-test-suite-spec =

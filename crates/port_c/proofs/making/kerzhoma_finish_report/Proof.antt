@@ -17,7 +17,9 @@ same-length-2 : tie.Need-same-length-2
 same-length-2 c = search needs
 
 returns : tie.Need-returns
-returns c = (c .built .ensures ∙ ap portBuilt (c .before .before .before .before .before .finish-report .ensures .0), c .before .before .before .before .before .finish-report .ensures .1)
+returns c =
+    let finish-report = c .before .before .before .before .before .finish-report in
+    (c .built .ensures ∙ ap portBuilt (finish-report .ensures .0), finish-report .ensures .1)
 
 pub kerzhoma-finish-report-spec : {M : Type 1} → statement M
 kerzhoma-finish-report-spec =

@@ -17,7 +17,9 @@ same-length-2 : tie.Need-same-length-2
 same-length-2 c = search needs
 
 returns : tie.Need-returns
-returns c = (c .built .ensures ∙ ap portBuilt (c .before .before .before .before .before .new-report .ensures .0), c .before .before .before .before .before .new-report .ensures .1)
+returns c =
+    let new-report = c .before .before .before .before .before .new-report in
+    (c .built .ensures ∙ ap portBuilt (new-report .ensures .0), new-report .ensures .1)
 
 pub kerzhoma-new-report-spec : {M : Type 1} → statement M
 kerzhoma-new-report-spec =

@@ -17,7 +17,9 @@ same-length-2 : tie.Need-same-length-2
 same-length-2 c = search needs
 
 returns : tie.Need-returns
-returns c = (c .built .ensures ∙ ap portBuilt (c .before .before .before .before .before .unnamed-report .ensures .0), c .before .before .before .before .before .unnamed-report .ensures .1)
+returns c =
+    let unnamed-report = c .before .before .before .before .before .unnamed-report in
+    (c .built .ensures ∙ ap portBuilt (unnamed-report .ensures .0), unnamed-report .ensures .1)
 
 pub kerzhoma-unnamed-report-spec : {M : Type 1} → statement M
 kerzhoma-unnamed-report-spec =

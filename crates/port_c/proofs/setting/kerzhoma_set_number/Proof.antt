@@ -18,9 +18,11 @@ same-length-2 c = search needs
 
 returns : tie.Need-returns
 returns c =
+    let if1 = c .before .before .before .before .before .before .before .if1 in
+    let not-built = c .before .before .before .before .not-built in
     let a = c .before .before .before .before .before .before .before .before .before .before .args in
     let d : Draft = record { builder = a .b; words = a .records .now; text = a .text .now } in
-    stopped (a .records .now) (a .text .now) (unknown numbers (a .field) (setNumber (numberAt (a .field)) (a .n) d) (c .before .before .before .before .before .before .before .if1 .taken)) (c .before .before .before .before .not-built .ensures)
+    stopped (a .records .now) (a .text .now) (unknown numbers (a .field) (setNumber (numberAt (a .field)) (a .n) d) (if1 .taken)) (not-built .ensures)
 
 number-at-requires : tie.Need-number-at-requires
 number-at-requires c κs = search needs
@@ -39,9 +41,12 @@ same-length-4 c = search needs
 
 returns-2 : tie.Need-returns-2
 returns-2 c =
+    let if1 = c .before .before .before .before .before .before .before .before .before .if1 in
+    let number-at = c .before .before .before .before .before .before .number-at in
+    let set-number = c .before .before .before .before .before .set-number in
     let a = c .before .before .before .before .before .before .before .before .before .before .before .before .args in
     let d : Draft = record { builder = a .b; words = a .records .now; text = a .text .now } in
-    passed (a .records .now) (a .text .now) (known numbers (a .field) (λ (x : NumberField). setNumber x (a .n) d) (c .before .before .before .before .before .before .number-at .ensures) (c .before .before .before .before .before .before .before .before .before .if1 .left)) (c .built .ensures) (c .before .before .before .before .before .set-number .ensures)
+    passed (a .records .now) (a .text .now) (known numbers (a .field) (λ (x : NumberField). setNumber x (a .n) d) (number-at .ensures) (if1 .left)) (c .built .ensures) (set-number .ensures)
 
 pub kerzhoma-set-number-spec : {M : Type 1} → statement M
 kerzhoma-set-number-spec =

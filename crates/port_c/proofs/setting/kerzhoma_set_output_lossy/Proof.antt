@@ -19,11 +19,13 @@ same-length-2 c = search needs
 
 returns : tie.Need-returns
 returns c =
+    let if1 = c .before .before .before .before .before .before .before .if1 in
+    let not-built = c .before .before .before .before .not-built in
     let a = c .before .before .before .before .before .before .before .before .before .before .before .args in
     let d : Draft = record { builder = a .b; words = a .records .now; text = a .text .now } in
     let x = elementAt (a .element) in
     let y = fieldAt (a .field) in
-    stopped (a .records .now) (a .text .now) (unknown elements (a .element) (coded fields (a .field) (setOutputLossy x y (a .s .now) d)) (c .before .before .before .before .before .before .before .if1 .taken)) (c .before .before .before .before .not-built .ensures)
+    stopped (a .records .now) (a .text .now) (unknown elements (a .element) (coded fields (a .field) (setOutputLossy x y (a .s .now) d)) (if1 .taken)) (not-built .ensures)
 
 not-built-requires-2 : tie.Need-not-built-requires-2
 not-built-requires-2 c κs = search needs
@@ -36,9 +38,13 @@ same-length-4 c = search needs
 
 returns-2 : tie.Need-returns-2
 returns-2 c =
+    let if1 = c .before .before .before .before .before .before .before .before .if1 in
+    let if2 = c .before .before .before .before .before .before .before .if2 in
+    let not-built2 = c .before .before .before .before .not-built2 in
     let a = c .before .before .before .before .before .before .before .before .before .before .before .before .args in
     let d : Draft = record { builder = a .b; words = a .records .now; text = a .text .now } in
-    stopped (a .records .now) (a .text .now) (second-unknown elements (a .element) fields (a .field) (λ (x : Element) (y : TextField). setOutputLossy x y (a .s .now) d) (elementAt (a .element)) (fieldAt (a .field)) (c .before .before .before .before .before .before .before .before .if1 .left) (c .before .before .before .before .before .before .before .if2 .taken)) (c .before .before .before .before .not-built2 .ensures)
+    stopped (a .records .now) (a .text .now) (second-unknown elements (a .element) fields (a .field) (λ (x : Element) (y : TextField). setOutputLossy x y (a .s .now) d)
+    (elementAt (a .element)) (fieldAt (a .field)) (if1 .left) (if2 .taken)) (not-built2 .ensures)
 
 element-at-requires : tie.Need-element-at-requires
 element-at-requires c κs = search needs
@@ -60,9 +66,15 @@ same-length-6 c = search needs
 
 returns-3 : tie.Need-returns-3
 returns-3 c =
+    let if1 = c .before .before .before .before .before .before .before .before .before .before .before .if1 in
+    let if2 = c .before .before .before .before .before .before .before .before .before .before .if2 in
+    let element-at = c .before .before .before .before .before .before .before .element-at in
+    let field-at = c .before .before .before .before .before .before .field-at in
+    let set-output-lossy = c .before .before .before .before .before .set-output-lossy in
     let a = c .before .before .before .before .before .before .before .before .before .before .before .before .before .before .before .args in
     let d : Draft = record { builder = a .b; words = a .records .now; text = a .text .now } in
-    passed (a .records .now) (a .text .now) (both-known elements (a .element) fields (a .field) (λ (x : Element) (y : TextField). setOutputLossy x y (a .s .now) d) (c .before .before .before .before .before .before .before .element-at .ensures) (c .before .before .before .before .before .before .field-at .ensures) (c .before .before .before .before .before .before .before .before .before .before .before .if1 .left) (c .before .before .before .before .before .before .before .before .before .before .if2 .left)) (c .built .ensures) (c .before .before .before .before .before .set-output-lossy .ensures)
+    passed (a .records .now) (a .text .now) (both-known elements (a .element) fields (a .field) (λ (x : Element) (y : TextField). setOutputLossy x y (a .s .now) d)
+    (element-at .ensures) (field-at .ensures) (if1 .left) (if2 .left)) (c .built .ensures) (set-output-lossy .ensures)
 
 pub kerzhoma-set-output-lossy-spec : {M : Type 1} → statement M
 kerzhoma-set-output-lossy-spec =

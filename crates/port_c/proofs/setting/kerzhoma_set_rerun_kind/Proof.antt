@@ -18,9 +18,11 @@ same-length-2 c = search needs
 
 returns : tie.Need-returns
 returns c =
+    let if1 = c .before .before .before .before .before .before .before .if1 in
+    let not-built = c .before .before .before .before .not-built in
     let a = c .before .before .before .before .before .before .before .before .before .before .args in
     let d : Draft = record { builder = a .b; words = a .records .now; text = a .text .now } in
-    stopped (a .records .now) (a .text .now) (unknown families (a .family) (setRerunKind (familyAt (a .family)) d) (c .before .before .before .before .before .before .before .if1 .taken)) (c .before .before .before .before .not-built .ensures)
+    stopped (a .records .now) (a .text .now) (unknown families (a .family) (setRerunKind (familyAt (a .family)) d) (if1 .taken)) (not-built .ensures)
 
 family-at-requires : tie.Need-family-at-requires
 family-at-requires c κs = search needs
@@ -39,9 +41,12 @@ same-length-4 c = search needs
 
 returns-2 : tie.Need-returns-2
 returns-2 c =
+    let if1 = c .before .before .before .before .before .before .before .before .before .if1 in
+    let family-at = c .before .before .before .before .before .before .family-at in
+    let set-rerun-kind = c .before .before .before .before .before .set-rerun-kind in
     let a = c .before .before .before .before .before .before .before .before .before .before .before .before .args in
     let d : Draft = record { builder = a .b; words = a .records .now; text = a .text .now } in
-    passed (a .records .now) (a .text .now) (known families (a .family) (λ (x : FlakyOrRerun). setRerunKind x d) (c .before .before .before .before .before .before .family-at .ensures) (c .before .before .before .before .before .before .before .before .before .if1 .left)) (c .built .ensures) (c .before .before .before .before .before .set-rerun-kind .ensures)
+    passed (a .records .now) (a .text .now) (known families (a .family) (λ (x : FlakyOrRerun). setRerunKind x d) (family-at .ensures) (if1 .left)) (c .built .ensures) (set-rerun-kind .ensures)
 
 pub kerzhoma-set-rerun-kind-spec : {M : Type 1} → statement M
 kerzhoma-set-rerun-kind-spec =

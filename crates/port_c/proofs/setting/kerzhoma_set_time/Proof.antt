@@ -18,9 +18,11 @@ same-length-2 c = search needs
 
 returns : tie.Need-returns
 returns c =
+    let if1 = c .before .before .before .before .before .before .before .if1 in
+    let not-built = c .before .before .before .before .not-built in
     let a = c .before .before .before .before .before .before .before .before .before .before .args in
     let d : Draft = record { builder = a .b; words = a .records .now; text = a .text .now } in
-    stopped (a .records .now) (a .text .now) (unknown elements (a .element) (setTime (elementAt (a .element)) (a .seconds) (a .nanos) d) (c .before .before .before .before .before .before .before .if1 .taken)) (c .before .before .before .before .not-built .ensures)
+    stopped (a .records .now) (a .text .now) (unknown elements (a .element) (setTime (elementAt (a .element)) (a .seconds) (a .nanos) d) (if1 .taken)) (not-built .ensures)
 
 element-at-requires : tie.Need-element-at-requires
 element-at-requires c κs = search needs
@@ -39,9 +41,13 @@ same-length-4 c = search needs
 
 returns-2 : tie.Need-returns-2
 returns-2 c =
+    let if1 = c .before .before .before .before .before .before .before .before .before .if1 in
+    let element-at = c .before .before .before .before .before .before .element-at in
+    let set-time = c .before .before .before .before .before .set-time in
     let a = c .before .before .before .before .before .before .before .before .before .before .before .before .args in
     let d : Draft = record { builder = a .b; words = a .records .now; text = a .text .now } in
-    passed (a .records .now) (a .text .now) (known elements (a .element) (λ (x : Element). setTime x (a .seconds) (a .nanos) d) (c .before .before .before .before .before .before .element-at .ensures) (c .before .before .before .before .before .before .before .before .before .if1 .left)) (c .built .ensures) (c .before .before .before .before .before .set-time .ensures)
+    passed (a .records .now) (a .text .now) (known elements (a .element) (λ (x : Element). setTime x (a .seconds) (a .nanos) d) (element-at .ensures) (if1 .left))
+    (c .built .ensures) (set-time .ensures)
 
 pub kerzhoma-set-time-spec : {M : Type 1} → statement M
 kerzhoma-set-time-spec =

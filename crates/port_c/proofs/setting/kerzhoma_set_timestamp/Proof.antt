@@ -21,9 +21,11 @@ same-length-2 c = search needs
 
 returns : tie.Need-returns
 returns c =
+    let if1 = c .before .before .before .before .before .before .before .if1 in
+    let not-built = c .before .before .before .before .not-built in
     let a = c .before .before .before .before .before .before .before .before .before .before .args in
     let d : Draft = record { builder = a .b; words = a .records .now; text = a .text .now } in
-    stopped (a .records .now) (a .text .now) (unknown elements (a .element) (setTimestamp (elementAt (a .element)) (plainMoment (a .m)) d) (c .before .before .before .before .before .before .before .if1 .taken)) (c .before .before .before .before .not-built .ensures)
+    stopped (a .records .now) (a .text .now) (unknown elements (a .element) (setTimestamp (elementAt (a .element)) (plainMoment (a .m)) d) (if1 .taken)) (not-built .ensures)
 
 element-at-requires : tie.Need-element-at-requires
 element-at-requires c κs = search needs
@@ -45,10 +47,15 @@ same-length-4 c = search needs
 
 returns-2 : tie.Need-returns-2
 returns-2 c =
+    let if1 = c .before .before .before .before .before .before .before .before .before .before .if1 in
+    let element-at = c .before .before .before .before .before .before .before .element-at in
+    let plain-moment = c .before .before .before .before .before .before .plain-moment in
+    let set-timestamp = c .before .before .before .before .before .set-timestamp in
     let a = c .before .before .before .before .before .before .before .before .before .before .before .before .before .args in
     let d : Draft = record { builder = a .b; words = a .records .now; text = a .text .now } in
-    let e = ap (λ (m : Moment). setTimestamp (c .before .before .before .before .before .before .before .element-at .result) m d) (c .before .before .before .before .before .before .plain-moment .ensures) in
-    passed (a .records .now) (a .text .now) (e ∙ known elements (a .element) (λ (x : Element). setTimestamp x (plainMoment (a .m)) d) (c .before .before .before .before .before .before .before .element-at .ensures) (c .before .before .before .before .before .before .before .before .before .before .if1 .left)) (c .built .ensures) (c .before .before .before .before .before .set-timestamp .ensures)
+    let e = ap (λ (m : Moment). setTimestamp (element-at .result) m d) (plain-moment .ensures) in
+    passed (a .records .now) (a .text .now) (e ∙ known elements (a .element) (λ (x : Element). setTimestamp x (plainMoment (a .m)) d) (element-at .ensures) (if1 .left))
+    (c .built .ensures) (set-timestamp .ensures)
 
 pub kerzhoma-set-timestamp-spec : {M : Type 1} → statement M
 kerzhoma-set-timestamp-spec =

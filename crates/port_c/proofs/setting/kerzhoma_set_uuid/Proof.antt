@@ -24,9 +24,11 @@ same-length-2 c = search needs
 
 returns : tie.Need-returns
 returns c =
+    let plain-uuid = c .before .before .before .before .before .before .plain-uuid in
+    let set-uuid = c .before .before .before .before .before .set-uuid in
     let a = c .before .before .before .before .before .before .before .before .before .before .before .args in
     let d : Draft = record { builder = a .b; words = a .records .now; text = a .text .now } in
-    passed (a .records .now) (a .text .now) (ap (λ (w : Words). setUuid w d) (c .before .before .before .before .before .before .plain-uuid .ensures)) (c .built .ensures) (c .before .before .before .before .before .set-uuid .ensures)
+    passed (a .records .now) (a .text .now) (ap (λ (w : Words). setUuid w d) (plain-uuid .ensures)) (c .built .ensures) (set-uuid .ensures)
 
 pub kerzhoma-set-uuid-spec : {M : Type 1} → statement M
 kerzhoma-set-uuid-spec =

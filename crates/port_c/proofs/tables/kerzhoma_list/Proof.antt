@@ -15,7 +15,9 @@ same-length : tie.Need-same-length
 same-length c = search needs
 
 returns : tie.Need-returns
-returns c = (ap (λ (k : KRefusal). record { length = c .before .before .before .before .list .result .length; refusal = k }) (c .from-refusal .ensures) ∙ ap portListing (c .before .before .before .before .list .ensures .0), c .before .before .before .before .list .ensures .1)
+returns c =
+    let list = c .before .before .before .before .list in
+    (ap (λ (k : KRefusal). record { length = list .result .length; refusal = k }) (c .from-refusal .ensures) ∙ ap portListing (list .ensures .0), list .ensures .1)
 
 pub kerzhoma-list-spec : {M : Type 1} → statement M
 kerzhoma-list-spec = tie.close (tie.spec list-requires from-refusal-requires same-length returns)

@@ -21,7 +21,9 @@ same-length-3 : tie.Need-same-length-3
 same-length-3 c = search needs
 
 returns : tie.Need-returns
-returns c = (c .from-refusal .ensures ∙ ap (λ (a : Reading). portRefusal (a .verdict) (a .refusal)) (c .before .before .before .before .before .before .before .before .read .ensures .0), c .before .before .before .before .before .before .before .before .read .ensures .1)
+returns c =
+    let read = c .before .before .before .before .before .before .before .before .read in
+    (c .from-refusal .ensures ∙ ap (λ (a : Reading). portRefusal (a .verdict) (a .refusal)) (read .ensures .0), read .ensures .1)
 
 pub kerzhoma-read-spec : {M : Type 1} → statement M
 kerzhoma-read-spec =

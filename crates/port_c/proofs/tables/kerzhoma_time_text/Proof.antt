@@ -23,17 +23,22 @@ same-length : tie.Need-same-length
 same-length c = search needs
 
 returns : tie.Need-returns
-returns c = let b = c .before .before .before .before .before .before .before .before .before .before .before .args in
-    let e = sym (ap (storedAnswer cause.OutputFull) (c .before .before .before .before .enum-told .given .1)) ∙ c .before .before .before .before .before .before .before .before .write-time .ensures .0 in
-    (ap count e, c .before .before .clear .ensures ∙ whole-full (b .out .now) (writtenTime (b .secs) (b .nanos)) e _ (c .before .before .before .before .before .before .before .before .write-time .ensures .1))
+returns c =
+    let write-time = c .before .before .before .before .before .before .before .before .write-time in
+    let enum-told-step = c .before .before .before .before .enum-told in
+    let b = c .before .before .before .before .before .before .before .before .before .before .before .args in
+    let e = sym (ap (storedAnswer cause.OutputFull) (enum-told-step .given .1)) ∙ write-time .ensures .0 in
+    (ap count e, c .before .before .clear .ensures ∙ whole-full (b .out .now) (writtenTime (b .secs) (b .nanos)) e _ (write-time .ensures .1))
 
 same-length-2 : tie.Need-same-length-2
 same-length-2 c = search needs
 
 returns-2 : tie.Need-returns-2
-returns-2 c = let b = c .before .before .before .before .before .before .before .before .args in
-    let e = sym (ap (storedAnswer cause.OutputFull) (c .before .stored .given .1)) ∙ c .before .before .before .before .before .write-time .ensures .0 in
-    (ap count e, c .before .before .before .before .before .write-time .ensures .1 ∙ whole-put (b .out .now) (writtenTime (b .secs) (b .nanos)) _ e)
+returns-2 c =
+    let write-time = c .before .before .before .before .before .write-time in
+    let b = c .before .before .before .before .before .before .before .before .args in
+    let e = sym (ap (storedAnswer cause.OutputFull) (c .before .stored .given .1)) ∙ write-time .ensures .0 in
+    (ap count e, write-time .ensures .1 ∙ whole-put (b .out .now) (writtenTime (b .secs) (b .nanos)) _ e)
 
 pub kerzhoma-time-text-spec : {M : Type 1} → statement M
 kerzhoma-time-text-spec =

@@ -21,8 +21,10 @@ same-length-3 : tie.Need-same-length-3
 same-length-3 c = search needs
 
 returns : tie.Need-returns
-returns c = let a = c .before .before .before .before .before .before .before .before .write in
-    (ap (λ (k : KRefusal). record { events = a .result .events; attributes = a .result .attributes; bytes = a .result .bytes; refusal = k }) (c .from-refusal .ensures) ∙ ap portWriting (a .ensures .0), a .ensures .1)
+returns c = let a = c .before .before .before .before .before .before .before .before .write in (
+  ap (λ (k : KRefusal). record { events = a .result .events; attributes = a .result .attributes; bytes = a .result .bytes; refusal = k }) (c .from-refusal .ensures) ∙ ap portWriting (a .ensures .0),
+  a .ensures .1,
+)
 
 pub kerzhoma-write-spec : {M : Type 1} → statement M
 kerzhoma-write-spec =

@@ -47,7 +47,8 @@ part-result-end-3 : tie.Need-part-result-end-3
 part-result-end-3 c = search needs
 
 returns-3 : tie.Need-returns-3
-returns-3 c = let z : c .before .before .before .args .start + c .before .before .before .args .len - c .before .before .before .args .start ≡ c .before .before .before .args .len = omega arith in ap (λ (n : ℕ). take n (drop (c .before .before .before .args .start) (c .before .before .before .args .source .now))) z
+returns-3 c = let z : c .before .before .before .args .start + c .before .before .before .args .len - c .before .before .before .args .start ≡ c .before .before .before .args .len = omega arith in
+    ap (λ (n : ℕ). take n (drop (c .before .before .before .args .start) (c .before .before .before .args .source .now))) z
 
 pub bytes-of-spec : {M : Type 1} → statement M
 bytes-of-spec =

@@ -19,7 +19,11 @@ rerun-of-requires : tie.Need-rerun-of-requires
 rerun-of-requires c κs = search needs
 
 same-length : tie.Need-same-length
-same-length c = c .before .before .before .before .rerun-of .kept .1 .0 ∙ c .before .before .before .before .before .before .before .before .before .before .before .before .set-rerun-kind .kept .1 .0 ∙ c .before .before .before .before .before .before .before .before .before .before .before .before .before .before .before .before .before .before .before .case-of .kept .1 .0
+same-length c =
+    let at-set-rerun-kind = c .before .before .before .before .before .before .before .before .before .before .before .before in
+    let case-of = at-set-rerun-kind .before .before .before .before .before .before .before .case-of in
+    let rerun-of = c .before .before .before .before .rerun-of in
+    rerun-of .kept .1 .0 ∙ at-set-rerun-kind .set-rerun-kind .kept .1 .0 ∙ case-of .kept .1 .0
 
 same-length-2 : tie.Need-same-length-2
 same-length-2 c = search needs

@@ -19,10 +19,20 @@ on-requires : tie.Need-on-requires
 on-requires c κs = search needs
 
 same-length : tie.Need-same-length
-same-length c = c .before .before .before .before .before .finish-report .kept .1 .0 ∙ c .before .before .before .before .before .before .before .before .before .before .before .before .second-suite .kept .1 .0 ∙ c .before .before .before .before .before .before .before .before .before .before .before .before .before .before .before .before .before .before .before .first-suite .kept .1 .0 ∙ c .before .before .before .before .before .before .before .before .before .before .before .before .before .before .before .before .before .before .before .before .before .before .before .before .before .before .report .kept .0
+same-length c =
+    let at-second-suite = c .before .before .before .before .before .before .before .before .before .before .before .before in
+    let at-first-suite = at-second-suite .before .before .before .before .before .before .before in
+    let report = at-first-suite .before .before .before .before .before .before .before .report in
+    let finish-report = c .before .before .before .before .before .finish-report in
+    finish-report .kept .1 .0 ∙ at-second-suite .second-suite .kept .1 .0 ∙ at-first-suite .first-suite .kept .1 .0 ∙ report .kept .0
 
 same-length-2 : tie.Need-same-length-2
-same-length-2 c = c .before .before .before .before .before .finish-report .kept .1 .1 .0 ∙ c .before .before .before .before .before .before .before .before .before .before .before .before .second-suite .kept .1 .1 .0 ∙ c .before .before .before .before .before .before .before .before .before .before .before .before .before .before .before .before .before .before .before .first-suite .kept .1 .1 .0 ∙ c .before .before .before .before .before .before .before .before .before .before .before .before .before .before .before .before .before .before .before .before .before .before .before .before .before .before .report .kept .1 .0
+same-length-2 c =
+    let at-second-suite = c .before .before .before .before .before .before .before .before .before .before .before .before in
+    let at-first-suite = at-second-suite .before .before .before .before .before .before .before in
+    let report = at-first-suite .before .before .before .before .before .before .before .report in
+    let finish-report = c .before .before .before .before .before .finish-report in
+    finish-report .kept .1 .1 .0 ∙ at-second-suite .second-suite .kept .1 .1 .0 ∙ at-first-suite .first-suite .kept .1 .1 .0 ∙ report .kept .1 .0
 
 returns : tie.Need-returns
 returns c = search needs

@@ -40,10 +40,20 @@ reason-requires : tie.Need-reason-requires
 reason-requires c κs = search needs
 
 same-length : tie.Need-same-length
-same-length c = c .before .before .before .before .reason .kept .1 .0 ∙ c .before .before .before .before .before .before .before .before .before .before .before .before .before .before .property-of .kept .1 .0 ∙ c .before .before .before .before .before .before .before .before .before .before .before .before .before .before .before .before .before .before .before .before .before .before .before .extra-of .kept .1 .0 ∙ c .before .before .before .before .before .before .before .before .before .before .before .before .before .before .before .before .before .before .before .before .before .before .before .before .before .before .before .before .before .before .before .before .case-of .kept .1 .0
+same-length c =
+    let at-property-of = c .before .before .before .before .before .before .before .before .before .before .before .before .before .before in
+    let at-extra-of = at-property-of .before .before .before .before .before .before .before .before .before in
+    let case-of = at-extra-of .before .before .before .before .before .before .before .before .before .case-of in
+    let reason = c .before .before .before .before .reason in
+    reason .kept .1 .0 ∙ at-property-of .property-of .kept .1 .0 ∙ at-extra-of .extra-of .kept .1 .0 ∙ case-of .kept .1 .0
 
 same-length-2 : tie.Need-same-length-2
-same-length-2 c = c .before .before .before .before .reason .kept .1 .1 .0 ∙ c .before .before .before .before .before .before .before .before .before .before .before .before .before .before .property-of .kept .1 .1 .0 ∙ c .before .before .before .before .before .before .before .before .before .before .before .before .before .before .before .before .before .before .before .before .before .before .before .extra-of .kept .1 .1 .0 ∙ c .before .before .before .before .before .before .before .before .before .before .before .before .before .before .before .before .before .before .before .before .before .before .before .before .before .before .before .before .before .before .before .before .case-of .kept .1 .1 .0
+same-length-2 c =
+    let at-property-of = c .before .before .before .before .before .before .before .before .before .before .before .before .before .before in
+    let at-extra-of = at-property-of .before .before .before .before .before .before .before .before .before in
+    let case-of = at-extra-of .before .before .before .before .before .before .before .before .before .case-of in
+    let reason = c .before .before .before .before .reason in
+    reason .kept .1 .1 .0 ∙ at-property-of .property-of .kept .1 .1 .0 ∙ at-extra-of .extra-of .kept .1 .1 .0 ∙ case-of .kept .1 .1 .0
 
 returns : tie.Need-returns
 returns c = search needs

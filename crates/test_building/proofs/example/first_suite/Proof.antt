@@ -22,10 +22,24 @@ reruns-requires : tie.Need-reruns-requires
 reruns-requires c κs = search needs
 
 same-length : tie.Need-same-length
-same-length c = c .before .before .before .before .reruns .kept .1 .0 ∙ c .before .before .before .before .before .before .before .before .before .before .before .failed .kept .1 .0 ∙ c .before .before .before .before .before .before .before .before .before .before .before .before .before .before .before .before .before .before .flaky .kept .1 .0 ∙ c .before .before .before .before .before .before .before .before .before .before .before .before .before .before .before .before .before .before .before .before .before .before .before .before .before .passed .kept .1 .0 ∙ c .before .before .before .before .before .before .before .before .before .before .before .before .before .before .before .before .before .before .before .before .before .before .before .before .before .before .before .before .before .before .before .before .environment .kept .1 .0 ∙ c .before .before .before .before .before .before .before .before .before .before .before .before .before .before .before .before .before .before .before .before .before .before .before .before .before .before .before .before .before .before .before .before .before .before .before .before .before .before .before .lab .kept .1 .0
+same-length c =
+    let at-flaky = c .before .before .before .before .before .before .before .before .before .before .before .before .before .before .before .before .before .before in
+    let at-passed = at-flaky .before .before .before .before .before .before .before in
+    let at-environment = at-passed .before .before .before .before .before .before .before in
+    let lab = at-environment .before .before .before .before .before .before .before .lab in
+    let failed = c .before .before .before .before .before .before .before .before .before .before .before .failed in
+    let reruns = c .before .before .before .before .reruns in
+    reruns .kept .1 .0 ∙ failed .kept .1 .0 ∙ at-flaky .flaky .kept .1 .0 ∙ at-passed .passed .kept .1 .0 ∙ at-environment .environment .kept .1 .0 ∙ lab .kept .1 .0
 
 same-length-2 : tie.Need-same-length-2
-same-length-2 c = c .before .before .before .before .reruns .kept .1 .1 .0 ∙ c .before .before .before .before .before .before .before .before .before .before .before .failed .kept .1 .1 .0 ∙ c .before .before .before .before .before .before .before .before .before .before .before .before .before .before .before .before .before .before .flaky .kept .1 .1 .0 ∙ c .before .before .before .before .before .before .before .before .before .before .before .before .before .before .before .before .before .before .before .before .before .before .before .before .before .passed .kept .1 .1 .0 ∙ c .before .before .before .before .before .before .before .before .before .before .before .before .before .before .before .before .before .before .before .before .before .before .before .before .before .before .before .before .before .before .before .before .environment .kept .1 .1 .0 ∙ c .before .before .before .before .before .before .before .before .before .before .before .before .before .before .before .before .before .before .before .before .before .before .before .before .before .before .before .before .before .before .before .before .before .before .before .before .before .before .before .lab .kept .1 .1 .0
+same-length-2 c =
+    let at-flaky = c .before .before .before .before .before .before .before .before .before .before .before .before .before .before .before .before .before .before in
+    let at-passed = at-flaky .before .before .before .before .before .before .before in
+    let at-environment = at-passed .before .before .before .before .before .before .before in
+    let lab = at-environment .before .before .before .before .before .before .before .lab in
+    let failed = c .before .before .before .before .before .before .before .before .before .before .before .failed in
+    let reruns = c .before .before .before .before .reruns in
+    reruns .kept .1 .1 .0 ∙ failed .kept .1 .1 .0 ∙ at-flaky .flaky .kept .1 .1 .0 ∙ at-passed .passed .kept .1 .1 .0 ∙ at-environment .environment .kept .1 .1 .0 ∙ lab .kept .1 .1 .0
 
 returns : tie.Need-returns
 returns c = search needs

@@ -28,10 +28,20 @@ time-of-requires : tie.Need-time-of-requires
 time-of-requires c κs = search needs
 
 same-length : tie.Need-same-length
-same-length c = c .before .before .before .before .time-of .kept .1 .0 ∙ c .before .before .before .before .before .before .before .before .before .before .before .reason .kept .1 .0 ∙ c .before .before .before .before .before .before .before .before .before .before .before .before .before .before .before .before .before .before .before .before .before .rerun-of .kept .1 .0 ∙ c .before .before .before .before .before .before .before .before .before .before .before .before .before .before .before .before .before .before .before .before .before .before .before .before .before .before .before .before .case-of .kept .1 .0
+same-length c =
+    let at-reason = c .before .before .before .before .before .before .before .before .before .before .before in
+    let at-rerun-of = at-reason .before .before .before .before .before .before .before .before .before .before in
+    let case-of = at-rerun-of .before .before .before .before .before .before .before .case-of in
+    let time-of = c .before .before .before .before .time-of in
+    time-of .kept .1 .0 ∙ at-reason .reason .kept .1 .0 ∙ at-rerun-of .rerun-of .kept .1 .0 ∙ case-of .kept .1 .0
 
 same-length-2 : tie.Need-same-length-2
-same-length-2 c = c .before .before .before .before .time-of .kept .1 .1 .0 ∙ c .before .before .before .before .before .before .before .before .before .before .before .reason .kept .1 .1 .0 ∙ c .before .before .before .before .before .before .before .before .before .before .before .before .before .before .before .before .before .before .before .before .before .rerun-of .kept .1 .1 .0 ∙ c .before .before .before .before .before .before .before .before .before .before .before .before .before .before .before .before .before .before .before .before .before .before .before .before .before .before .before .before .case-of .kept .1 .1 .0
+same-length-2 c =
+    let at-reason = c .before .before .before .before .before .before .before .before .before .before .before in
+    let at-rerun-of = at-reason .before .before .before .before .before .before .before .before .before .before in
+    let case-of = at-rerun-of .before .before .before .before .before .before .before .case-of in
+    let time-of = c .before .before .before .before .time-of in
+    time-of .kept .1 .1 .0 ∙ at-reason .reason .kept .1 .1 .0 ∙ at-rerun-of .rerun-of .kept .1 .1 .0 ∙ case-of .kept .1 .1 .0
 
 returns : tie.Need-returns
 returns c = search needs

@@ -37,10 +37,20 @@ extra-of-requires-3 : tie.Need-extra-of-requires-3
 extra-of-requires-3 c κs = search needs
 
 same-length : tie.Need-same-length
-same-length c = c .before .before .before .before .extra-of3 .kept .1 .0 ∙ c .before .before .before .before .before .before .before .before .before .before .before .before .before .extra-of2 .kept .1 .0 ∙ c .before .before .before .before .before .before .before .before .before .before .before .before .before .before .before .before .before .before .before .before .before .before .extra-of .kept .1 .0 ∙ c .before .before .before .before .before .before .before .before .before .before .before .before .before .before .before .before .before .before .before .before .before .before .before .before .before .before .before .before .before .before .before .suite-of .kept .1 .0
+same-length c =
+    let at-extra-of2 = c .before .before .before .before .before .before .before .before .before .before .before .before .before in
+    let at-extra-of = at-extra-of2 .before .before .before .before .before .before .before .before .before in
+    let suite-of = at-extra-of .before .before .before .before .before .before .before .before .before .suite-of in
+    let extra-of3 = c .before .before .before .before .extra-of3 in
+    extra-of3 .kept .1 .0 ∙ at-extra-of2 .extra-of2 .kept .1 .0 ∙ at-extra-of .extra-of .kept .1 .0 ∙ suite-of .kept .1 .0
 
 same-length-2 : tie.Need-same-length-2
-same-length-2 c = c .before .before .before .before .extra-of3 .kept .1 .1 .0 ∙ c .before .before .before .before .before .before .before .before .before .before .before .before .before .extra-of2 .kept .1 .1 .0 ∙ c .before .before .before .before .before .before .before .before .before .before .before .before .before .before .before .before .before .before .before .before .before .before .extra-of .kept .1 .1 .0 ∙ c .before .before .before .before .before .before .before .before .before .before .before .before .before .before .before .before .before .before .before .before .before .before .before .before .before .before .before .before .before .before .before .suite-of .kept .1 .1 .0
+same-length-2 c =
+    let at-extra-of2 = c .before .before .before .before .before .before .before .before .before .before .before .before .before in
+    let at-extra-of = at-extra-of2 .before .before .before .before .before .before .before .before .before in
+    let suite-of = at-extra-of .before .before .before .before .before .before .before .before .before .suite-of in
+    let extra-of3 = c .before .before .before .before .extra-of3 in
+    extra-of3 .kept .1 .1 .0 ∙ at-extra-of2 .extra-of2 .kept .1 .1 .0 ∙ at-extra-of .extra-of .kept .1 .1 .0 ∙ suite-of .kept .1 .1 .0
 
 returns : tie.Need-returns
 returns c = search needs

@@ -19,10 +19,18 @@ time-of-requires : tie.Need-time-of-requires
 time-of-requires c κs = search needs
 
 same-length : tie.Need-same-length
-same-length c = c .before .before .before .before .time-of .kept .1 .0 ∙ c .before .before .before .before .before .before .before .before .before .before .before .before .set-timestamp .kept .1 .0 ∙ c .before .before .before .before .before .before .before .before .before .before .before .before .before .before .before .before .before .before .before .before .identified .kept .0
+same-length c =
+    let at-set-timestamp = c .before .before .before .before .before .before .before .before .before .before .before .before in
+    let identified = at-set-timestamp .before .before .before .before .before .before .before .before .identified in
+    let time-of = c .before .before .before .before .time-of in
+    time-of .kept .1 .0 ∙ at-set-timestamp .set-timestamp .kept .1 .0 ∙ identified .kept .0
 
 same-length-2 : tie.Need-same-length-2
-same-length-2 c = c .before .before .before .before .time-of .kept .1 .1 .0 ∙ c .before .before .before .before .before .before .before .before .before .before .before .before .set-timestamp .kept .1 .1 .0 ∙ c .before .before .before .before .before .before .before .before .before .before .before .before .before .before .before .before .before .before .before .before .identified .kept .1 .0
+same-length-2 c =
+    let at-set-timestamp = c .before .before .before .before .before .before .before .before .before .before .before .before in
+    let identified = at-set-timestamp .before .before .before .before .before .before .before .before .identified in
+    let time-of = c .before .before .before .before .time-of in
+    time-of .kept .1 .1 .0 ∙ at-set-timestamp .set-timestamp .kept .1 .1 .0 ∙ identified .kept .1 .0
 
 returns : tie.Need-returns
 returns c = search needs

@@ -19,10 +19,20 @@ skipped-requires : tie.Need-skipped-requires
 skipped-requires c κs = search needs
 
 same-length : tie.Need-same-length
-same-length c = c .before .before .before .before .skipped .kept .1 .0 ∙ c .before .before .before .before .before .before .before .before .before .before .before .broken .kept .1 .0 ∙ c .before .before .before .before .before .before .before .before .before .before .before .before .before .before .before .before .before .before .count-of .kept .1 .0 ∙ c .before .before .before .before .before .before .before .before .before .before .before .before .before .before .before .before .before .before .before .before .before .before .before .before .before .suite-of .kept .1 .0
+same-length c =
+    let at-count-of = c .before .before .before .before .before .before .before .before .before .before .before .before .before .before .before .before .before .before in
+    let suite-of = at-count-of .before .before .before .before .before .before .before .suite-of in
+    let broken = c .before .before .before .before .before .before .before .before .before .before .before .broken in
+    let skipped = c .before .before .before .before .skipped in
+    skipped .kept .1 .0 ∙ broken .kept .1 .0 ∙ at-count-of .count-of .kept .1 .0 ∙ suite-of .kept .1 .0
 
 same-length-2 : tie.Need-same-length-2
-same-length-2 c = c .before .before .before .before .skipped .kept .1 .1 .0 ∙ c .before .before .before .before .before .before .before .before .before .before .before .broken .kept .1 .1 .0 ∙ c .before .before .before .before .before .before .before .before .before .before .before .before .before .before .before .before .before .before .count-of .kept .1 .1 .0 ∙ c .before .before .before .before .before .before .before .before .before .before .before .before .before .before .before .before .before .before .before .before .before .before .before .before .before .suite-of .kept .1 .1 .0
+same-length-2 c =
+    let at-count-of = c .before .before .before .before .before .before .before .before .before .before .before .before .before .before .before .before .before .before in
+    let suite-of = at-count-of .before .before .before .before .before .before .before .suite-of in
+    let broken = c .before .before .before .before .before .before .before .before .before .before .before .broken in
+    let skipped = c .before .before .before .before .skipped in
+    skipped .kept .1 .1 .0 ∙ broken .kept .1 .1 .0 ∙ at-count-of .count-of .kept .1 .1 .0 ∙ suite-of .kept .1 .1 .0
 
 returns : tie.Need-returns
 returns c = search needs

@@ -49,9 +49,11 @@ byte-piece-requires-2 c κs = search needs
 
 returns-3 : tie.Need-returns-3
 returns-3 c =
+    let if1 = c .before .before .before .before .before .before .before .if1 in
+    let if2 = c .before .before .before .before .before .if2 in
     let a = c .before .before .before .before .before .before .before .before .before .args in
     let e = sym (ap refAt (rest-part (a .s .now) 1)) ∙ sym (c .before .before .before .ref-at .ensures) ∙ c .before .enum-told .given .1 in
-    let q = piece-bad (a .s .now) (omega (arith, c .before .before .before .before .before .before .before .if1 .left)) (c .before .before .before .before .before .if2 .left) e in
+    let q = piece-bad (a .s .now) (omega (arith, if1 .left)) (if2 .left) e in
     pieced-on (c .byte-piece2 .ensures) (sym (ap (cleaned (a .clean)) (q .0))) (sym (q .1))
 
 encode-of-requires : tie.Need-encode-of-requires
@@ -59,19 +61,28 @@ encode-of-requires c κs = search needs
 
 add-width : tie.Need-add-width
 add-width c =
+    let if1 = c .before .before .before .before .before .before .before .before .before .if1 in
+    let ref-at = c .before .before .before .before .before .ref-at in
     let a = c .before .before .before .before .before .before .before .before .before .before .before .args in
     let g = c .before .before .before .r .given in
-    let e = sym (ap refAt (rest-part (a .s .now) 1)) ∙ sym (c .before .before .before .before .before .ref-at .ensures) ∙ g .1 in
-    omega (arith, ref-room (a .s .now) (omega (arith, c .before .before .before .before .before .before .before .before .before .if1 .left)) (g .0 .0) (g .0 .1 .0) e)
+    let e = sym (ap refAt (rest-part (a .s .now) 1)) ∙ sym (ref-at .ensures) ∙ g .1 in
+    omega (arith, ref-room (a .s .now) (omega (arith, if1 .left)) (g .0 .0) (g .0 .1 .0) e)
 
 returns-4 : tie.Need-returns-4
 returns-4 c =
+    let if1 = c .before .before .before .before .before .before .before .before .before .if1 in
+    let if2 = c .before .before .before .before .before .before .before .if2 in
+    let ref-at = c .before .before .before .before .before .ref-at in
     let a = c .before .before .before .before .before .before .before .before .before .before .before .args in
     let g = c .before .before .before .r .given in
-    let e = sym (ap refAt (rest-part (a .s .now) 1)) ∙ sym (c .before .before .before .before .before .ref-at .ensures) ∙ g .1 in
-    let q = piece-char (a .s .now) (omega (arith, c .before .before .before .before .before .before .before .before .before .if1 .left)) (g .0 .0) (g .0 .1 .0) (c .before .before .before .before .before .before .before .if2 .left) e in
+    let e = sym (ap refAt (rest-part (a .s .now) 1)) ∙ sym (ref-at .ensures) ∙ g .1 in
+    let q = piece-char (a .s .now) (omega (arith, if1 .left)) (g .0 .0) (g .0 .1 .0) (if2 .left) e in
     let d = coded-front (g .0 .0) (c .before .encode-of .ensures) in
-    record { fits = omega (arith, d .0, d .1); front = d .2 ∙ sym (ap (cleaned (a .clean)) (q .0) ∙ cleaned-encode (a .clean) (g .0 .0) (ref-found _ (g .0 .0) (g .0 .1 .0) e .char)); takes = sym (q .1) }
+    record {
+      fits = omega (arith, d .0, d .1);
+      front = d .2 ∙ sym (ap (cleaned (a .clean)) (q .0) ∙ cleaned-encode (a .clean) (g .0 .0) (ref-found _ (g .0 .0) (g .0 .1 .0) e .char));
+      takes = sym (q .1);
+    }
 
 pub piece-of-spec : {M : Type 1} → statement M
 piece-of-spec =

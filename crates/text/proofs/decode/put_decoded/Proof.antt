@@ -28,18 +28,23 @@ same-length c = search needs
 
 returns : tie.Need-returns
 returns c =
+    let check-value = c .before .before .before .before .before .before .before .check-value in
+    let enum-told-step = c .before .before .before .before .before .enum-told in
     let a = c .before .before .before .before .before .before .before .before .before .before .args in
     let w = c .before .before .before .write-decoded in
     let k = c .kept-of in
-    decoded-good (a .clean) (a .out .now) (a .s .now) (w .last .0) (w .result) (k .result) (sym (ap checkedAnswer (c .before .before .before .before .before .enum-told .given .1)) ∙ c .before .before .before .before .before .before .before .check-value .ensures) (w .ensures .0) (k .ensures) (w .ensures .1)
+    decoded-good (a .clean) (a .out .now) (a .s .now) (w .last .0) (w .result) (k .result)
+    (sym (ap checkedAnswer (enum-told-step .given .1)) ∙ check-value .ensures) (w .ensures .0) (k .ensures) (w .ensures .1)
 
 returns-2 : tie.Need-returns-2
 returns-2 c =
-    let a = c .before .before .before .before .before .args in decoded-not-utf8 (a .clean) (a .out .now) (a .s .now) (sym (ap checkedAnswer (c .enum-told2 .given .1)) ∙ c .before .before .check-value .ensures)
+    let a = c .before .before .before .before .before .args in
+    decoded-not-utf8 (a .clean) (a .out .now) (a .s .now) (sym (ap checkedAnswer (c .enum-told2 .given .1)) ∙ c .before .before .check-value .ensures)
 
 returns-3 : tie.Need-returns-3
 returns-3 c =
-    let a = c .before .before .before .before .before .args in decoded-bad (a .clean) (a .out .now) (a .s .now) (sym (ap checkedAnswer (c .enum-told3 .given .1)) ∙ c .before .before .check-value .ensures)
+    let a = c .before .before .before .before .before .args in
+    decoded-bad (a .clean) (a .out .now) (a .s .now) (sym (ap checkedAnswer (c .enum-told3 .given .1)) ∙ c .before .before .check-value .ensures)
 
 pub put-decoded-spec : {M : Type 1} → statement M
 put-decoded-spec =

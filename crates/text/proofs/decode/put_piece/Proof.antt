@@ -23,7 +23,9 @@ array-share-prefix-bytes : tie.Need-array-share-prefix-bytes
 array-share-prefix-bytes c = search needs
 
 slice-aggregate-copy-into : tie.Need-slice-aggregate-copy-into
-slice-aggregate-copy-into c = sym (length-take-le _ _ (c .before .before .before .before .pre .1))
+slice-aggregate-copy-into c =
+    let pre = c .before .before .before .before .pre in
+    sym (length-take-le _ _ (pre .1))
 
 copy-into-requires : tie.Need-copy-into-requires
 copy-into-requires c κs = search needs

@@ -33,7 +33,9 @@ piece-of-requires : tie.Need-piece-of-requires Inv-loop μ-loop
 piece-of-requires c κs = search needs
 
 put-piece-requires : tie.Need-put-piece-requires Inv-loop μ-loop
-put-piece-requires c κs = (c .before .before .before .before .loop .inv .laying .fits, c .before .piece-of .ensures .fits)
+put-piece-requires c κs =
+    let loop = c .before .before .before .before .loop in
+    (loop .inv .laying .fits, c .before .piece-of .ensures .fits)
 
 enum-known-put : tie.Need-enum-known-put Inv-loop μ-loop
 enum-known-put c = search needs
@@ -42,38 +44,51 @@ enum-told : tie.Need-enum-told Inv-loop μ-loop
 enum-told c = search needs
 
 same-length : tie.Need-same-length Inv-loop μ-loop
-same-length c = c .before .before .before .before .put-piece .kept .0 ∙ c .before .before .before .before .before .before .before .before .before .loop .inv .laying .same
+same-length c =
+    let loop = c .before .before .before .before .before .before .before .before .before .loop in
+    let put-piece = c .before .before .before .before .put-piece in
+    put-piece .kept .0 ∙ loop .inv .laying .same
 
 returns : tie.Need-returns Inv-loop μ-loop
 returns c =
+    let loop = c .before .before .before .before .before .before .before .before .before .loop in
+    let loop-test = c .before .before .before .before .before .before .before .before .loop-test in
     let p = c .before .before .before .before .before .before .piece-of in
     let q = c .before .before .before .before .put-piece in
-    writing-full (c .before .before .before .before .before .before .before .before .before .loop .inv) (c .before .before .before .before .before .before .before .before .loop-test .taken) (p .result) (p .ensures) (q .last .0) (q .ensures .1) (sym (ap (storedAnswer cause.OutputFull) (c .enum-told .given .1)) ∙ q .ensures .0)
+    writing-full (loop .inv) (loop-test .taken) (p .result) (p .ensures) (q .last .0) (q .ensures .1) (sym (ap (storedAnswer cause.OutputFull) (c .enum-told .given .1)) ∙ q .ensures .0)
 
 add-k : tie.Need-add-k Inv-loop μ-loop
 add-k c =
+    let good = c .before .before .before .before .before .before .before .before .before .before .before .before .before .good in
+    let loop = c .before .before .before .before .before .before .before .before .before .before .loop in
+    let loop-test = c .before .before .before .before .before .before .before .before .before .loop-test in
     let p = c .before .before .before .before .before .before .before .piece-of in
     let q = c .before .before .before .before .before .put-piece in
     let g = c .before .put .given in
-    let w = writing-more (c .before .before .before .before .before .before .before .before .before .before .loop .inv) (c .before .before .before .before .before .before .before .before .before .loop-test .taken) (p .result) (p .ensures) (q .last .0) (q .ensures .1) (g .0 .0) (sym (ap (storedAnswer cause.OutputFull) (g .1)) ∙ q .ensures .0) in
-    omega (arith, w .laying .fits, w .laying .same, c .before .before .before .before .before .before .before .before .before .before .before .before .before .good)
+    let w = writing-more (loop .inv) (loop-test .taken) (p .result) (p .ensures) (q .last .0) (q .ensures .1) (g .0 .0) (sym (ap (storedAnswer cause.OutputFull) (g .1)) ∙ q .ensures .0) in
+    omega (arith, w .laying .fits, w .laying .same, good)
 
 loop-again : tie.Need-loop-again Inv-loop μ-loop
 loop-again c =
+    let loop = c .before .before .before .before .before .before .before .before .before .before .before .loop in
+    let loop-test = c .before .before .before .before .before .before .before .before .before .before .loop-test in
     let p = c .before .before .before .before .before .before .before .before .piece-of in
     let q = c .before .before .before .before .before .before .put-piece in
     let g = c .before .before .put .given in
-    writing-more (c .before .before .before .before .before .before .before .before .before .before .before .loop .inv) (c .before .before .before .before .before .before .before .before .before .before .loop-test .taken) (p .result) (p .ensures) (q .last .0) (q .ensures .1) (g .0 .0) (sym (ap (storedAnswer cause.OutputFull) (g .1)) ∙ q .ensures .0)
+    writing-more (loop .inv) (loop-test .taken) (p .result) (p .ensures) (q .last .0) (q .ensures .1) (g .0 .0) (sym (ap (storedAnswer cause.OutputFull) (g .1)) ∙ q .ensures .0)
 
 add-i : tie.Need-add-i Inv-loop μ-loop
-add-i c = omega (arith, loop-again c .within, c .before .before .before .before .before .before .before .before .before .before .before .before .before .before .good)
+add-i c =
+    let good = c .before .before .before .before .before .before .before .before .before .before .before .before .before .before .good in
+    omega (arith, loop-again c .within, good)
 
 loop-less : tie.Need-loop-less Inv-loop μ-loop
 loop-less c =
+    let loop-test = c .before .before .before .before .before .before .before .before .before .before .loop-test in
     let a = c .before .before .before .before .before .before .before .before .before .before .before .before .before .before .args in
     let p = c .before .before .before .before .before .before .before .before .piece-of in
     let l = c .before .before .before .before .before .before .before .before .before .before .before .loop in
-    omega (arith, piece-moves (a .clean) (a .s .now) (l .i) (c .before .before .before .before .before .before .before .before .before .before .loop-test .taken) (p .result) (p .ensures), c .before .before .before .before .before .before .before .before .before .before .loop-test .taken)
+    omega (arith, piece-moves (a .clean) (a .s .now) (l .i) (loop-test .taken) (p .result) (p .ensures), loop-test .taken)
 
 same-length-2 : tie.Need-same-length-2 Inv-loop μ-loop
 same-length-2 c = c .before .loop .inv .laying .same

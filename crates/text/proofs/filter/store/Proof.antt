@@ -30,11 +30,15 @@ is-dropped-requires : tie.Need-is-dropped-requires Inv-loop μ-loop
 is-dropped-requires c κs = search needs
 
 same-length : tie.Need-same-length Inv-loop μ-loop
-same-length c = c .before .before .before .before .before .loop .inv .1 .same
+same-length c =
+    let loop = c .before .before .before .before .before .loop in
+    loop .inv .1 .same
 
 returns : tie.Need-returns Inv-loop μ-loop
 returns c =
-    let l = c .before .before .before .before .before .loop in laying-full cause.TextFull (laying-on (l .inv .1) (filter-keep-at _ (l .i) (c .before .before .before .before .loop-test .taken) (sym (c .before .before .is-dropped .ensures) ∙ not-true _ (c .before .if1 .taken)))) (c .if2 .taken)
+    let loop-test = c .before .before .before .before .loop-test in
+    let l = c .before .before .before .before .before .loop in laying-full cause.TextFull
+    (laying-on (l .inv .1) (filter-keep-at _ (l .i) (loop-test .taken) (sym (c .before .before .is-dropped .ensures) ∙ not-true _ (c .before .if1 .taken)))) (c .if2 .taken)
 
 slice-write-out : tie.Need-slice-write-out Inv-loop μ-loop
 slice-write-out c = c .if2 .left
@@ -47,14 +51,19 @@ loop-less c = omega arith
 
 loop-again : tie.Need-loop-again Inv-loop μ-loop
 loop-again c =
-    let l = c .before .before .before .before .before .loop in (omega arith, laying-put (laying-on (l .inv .1) (filter-keep-at _ (l .i) (c .before .before .before .before .loop-test .taken) (sym (c .before .before .is-dropped .ensures) ∙ not-true _ (c .before .if1 .taken)))) (c .if2 .left))
+    let loop-test = c .before .before .before .before .loop-test in
+    let l = c .before .before .before .before .before .loop in (
+      omega arith,
+      laying-put (laying-on (l .inv .1) (filter-keep-at _ (l .i) (loop-test .taken) (sym (c .before .before .is-dropped .ensures) ∙ not-true _ (c .before .if1 .taken)))) (c .if2 .left),
+    )
 
 loop-less-2 : tie.Need-loop-less-2 Inv-loop μ-loop
 loop-less-2 c = omega arith
 
 loop-again-2 : tie.Need-loop-again-2 Inv-loop μ-loop
 loop-again-2 c =
-    let l = c .before .before .before .before .loop in (omega arith, laying-on (l .inv .1) (filter-drop-at _ (l .i) (c .before .before .before .loop-test .taken) (sym (c .before .is-dropped .ensures) ∙ not-false _ (c .if1 .left))))
+    let l = c .before .before .before .before .loop in
+    (omega arith, laying-on (l .inv .1) (filter-drop-at _ (l .i) (c .before .before .before .loop-test .taken) (sym (c .before .is-dropped .ensures) ∙ not-false _ (c .if1 .left))))
 
 same-length-2 : tie.Need-same-length-2 Inv-loop μ-loop
 same-length-2 c = c .before .loop .inv .1 .same

@@ -23,7 +23,9 @@ add-from : tie.Need-add-from
 add-from c = search needs
 
 slice-aggregate-time-in : tie.Need-slice-aggregate-time-in
-slice-aggregate-time-in c = sym (length-take-le (c .before .before .first-at .result) (c .before .before .before .before .args .s .now) (le-of-lt (c .before .if1 .taken)))
+slice-aggregate-time-in c =
+    let args = c .before .before .before .before .args in
+    sym (length-take-le (c .before .before .first-at .result) (args .s .now) (le-of-lt (c .before .if1 .taken)))
 
 sub-time-in : tie.Need-sub-time-in
 sub-time-in c = search needs
@@ -38,9 +40,11 @@ time-in-requires : tie.Need-time-in-requires
 time-in-requires c κs = search needs
 
 returns : tie.Need-returns
-returns c = let s = c .before .before .before .before .before .before .args .s .now in
-    let p = c .before .before .before .before .first-at .result in
-    let e = c .before .before .before .before .first-at .ensures in
+returns c =
+    let first-at = c .before .before .before .before .first-at in
+    let s = c .before .before .before .before .before .before .args .s .now in
+    let p = first-at .result in
+    let e = first-at .ensures in
     c .time-in .ensures ∙ ap (λ (l : List ℕ). formedTime (take p s) l) (rest-part s (p + 1) ∙ fraction-at s p e) ∙ ap (λ (l : List ℕ). formedTime l (fraction s)) (whole-at s p e)
 
 sub-time-in-2 : tie.Need-sub-time-in-2

@@ -31,16 +31,33 @@ enum-told-2 : tie.Need-enum-told-2
 enum-told-2 c = search needs
 
 returns-3 : tie.Need-returns-3
-returns-3 c = formed-not _ _ (bad-fraction _ _ (not-fraction (c .before .before .before .before .before .before .before .before .before .before .args .digits .now) (sym (c .enum-told2 .given .1) ∙ c .before .before .billionths-of .ensures)))
+returns-3 c =
+    let args = c .before .before .before .before .before .before .before .before .before .before .args in
+    formed-not _ _ (bad-fraction _ _ (not-fraction (args .digits .now) (sym (c .enum-told2 .given .1) ∙ c .before .before .billionths-of .ensures)))
 
 cast-t12 : tie.Need-cast-t12
-cast-t12 c = let k = seconds-small (c .before .before .before .before .before .before .before .before .before .before .before .args .whole .now) (c .before .before .before .before .before .before .before .before .before .before .before .args .digits .now) _ _ (sym (c .before .before .before .before .before .secs .given .1) ∙ c .before .before .before .before .before .before .before .up-to .ensures) (sym (c .before .part .given .1) ∙ c .before .before .before .billionths-of .ensures) in omega arith
+cast-t12 c =
+    let args = c .before .before .before .before .before .before .before .before .before .before .before .args in
+    let up-to = c .before .before .before .before .before .before .before .up-to in
+    let secs = c .before .before .before .before .before .secs in
+    let k = seconds-small (args .whole .now) (args .digits .now) _ _ (sym (secs .given .1) ∙ up-to .ensures) (sym (c .before .part .given .1) ∙ c .before .before .before .billionths-of .ensures) in
+    omega arith
 
 cast-t13 : tie.Need-cast-t13
-cast-t13 c = let k = nanos-small (c .before .before .before .before .before .before .before .before .before .before .before .args .whole .now) (c .before .before .before .before .before .before .before .before .before .before .before .args .digits .now) _ _ (sym (c .before .before .before .before .before .secs .given .1) ∙ c .before .before .before .before .before .before .before .up-to .ensures) (sym (c .before .part .given .1) ∙ c .before .before .before .billionths-of .ensures) in omega arith
+cast-t13 c =
+    let args = c .before .before .before .before .before .before .before .before .before .before .before .args in
+    let up-to = c .before .before .before .before .before .before .before .up-to in
+    let secs = c .before .before .before .before .before .secs in
+    let k = nanos-small (args .whole .now) (args .digits .now) _ _ (sym (secs .given .1) ∙ up-to .ensures) (sym (c .before .part .given .1) ∙ c .before .before .before .billionths-of .ensures) in
+    omega arith
 
 returns-4 : tie.Need-returns-4
-returns-4 c = formed-good (c .before .before .before .before .before .before .before .before .before .before .before .args .whole .now) (c .before .before .before .before .before .before .before .before .before .before .before .args .digits .now) _ _ (sym (c .before .before .before .before .before .secs .given .1) ∙ c .before .before .before .before .before .before .before .up-to .ensures) (sym (c .before .part .given .1) ∙ c .before .before .before .billionths-of .ensures) (c .before .before .before .before .before .before .before .before .if1 .left)
+returns-4 c =
+    let args = c .before .before .before .before .before .before .before .before .before .before .before .args in
+    let if1 = c .before .before .before .before .before .before .before .before .if1 in
+    let up-to = c .before .before .before .before .before .before .before .up-to in
+    let secs = c .before .before .before .before .before .secs in
+    formed-good (args .whole .now) (args .digits .now) _ _ (sym (secs .given .1) ∙ up-to .ensures) (sym (c .before .part .given .1) ∙ c .before .before .before .billionths-of .ensures) (if1 .left)
 
 pub time-in-spec : {M : Type 1} → statement M
 time-in-spec =

@@ -28,19 +28,36 @@ shared-slice-read-if1-2 : tie.Need-shared-slice-read-if1-2
 shared-slice-read-if1-2 c = search needs
 
 cast-t19 : tie.Need-cast-t19
-cast-t19 c = let f = c .before .before .before .before .before .before .before .before .before .before .before .decimal-at in omega (arith, field-most 10 23 (part 11 2 (c .before .before .before .before .before .before .before .before .before .before .before .before .before .args .s .now)) (f .result) (f .ensures))
+cast-t19 c =
+    let args = c .before .before .before .before .before .before .before .before .before .before .before .before .before .args in
+    let f =
+    c .before .before .before .before .before .before .before .before .before .before .before .decimal-at in omega (arith, field-most 10 23 (part 11 2 (args .s .now)) (f .result) (f .ensures))
 
 cast-t20 : tie.Need-cast-t20
-cast-t20 c = let f = c .before .before .before .before .before .before .before .before .before .before .before .decimal-at2 in omega (arith, field-most 10 59 (part 14 2 (c .before .before .before .before .before .before .before .before .before .before .before .before .before .before .args .s .now)) (f .result) (f .ensures))
+cast-t20 c =
+    let args = c .before .before .before .before .before .before .before .before .before .before .before .before .before .before .args in
+    let f =
+    c .before .before .before .before .before .before .before .before .before .before .before .decimal-at2 in omega (arith, field-most 10 59 (part 14 2 (args .s .now)) (f .result) (f .ensures))
 
 cast-t21 : tie.Need-cast-t21
-cast-t21 c = let f = c .before .before .before .before .before .before .before .before .before .before .before .decimal-at3 in omega (arith, field-most 10 59 (part 17 2 (c .before .before .before .before .before .before .before .before .before .before .before .before .before .before .before .args .s .now)) (f .result) (f .ensures))
+cast-t21 c =
+    let args = c .before .before .before .before .before .before .before .before .before .before .before .before .before .before .before .args in
+    let f =
+    c .before .before .before .before .before .before .before .before .before .before .before .decimal-at3 in omega (arith, field-most 10 59 (part 17 2 (args .s .now)) (f .result) (f .ensures))
 
 returns : tie.Need-returns
-returns c = clock-right _ _ _ _ (c .before .before .before .before .before .before .before .before .before .before .before .before .before .decimal-at .ensures) (c .before .before .before .before .before .before .before .before .before .before .before .before .decimal-at2 .ensures) (c .before .before .before .before .before .before .before .before .before .before .before .decimal-at3 .ensures) (c .before .before .before .if1 .taken)
+returns c =
+    let decimal-at = c .before .before .before .before .before .before .before .before .before .before .before .before .before .decimal-at in
+    let decimal-at2 = c .before .before .before .before .before .before .before .before .before .before .before .before .decimal-at2 in
+    let decimal-at3 = c .before .before .before .before .before .before .before .before .before .before .before .decimal-at3 in
+    clock-right _ _ _ _ (decimal-at .ensures) (decimal-at2 .ensures) (decimal-at3 .ensures) (c .before .before .before .if1 .taken)
 
 returns-2 : tie.Need-returns-2
-returns-2 c = clock-wrong _ _ _ _ (c .before .before .before .before .before .before .before .before .before .before .decimal-at .ensures) (c .before .before .before .before .before .before .before .before .before .decimal-at2 .ensures) (c .before .before .before .before .before .before .before .before .decimal-at3 .ensures) (c .if1 .left)
+returns-2 c =
+    let decimal-at = c .before .before .before .before .before .before .before .before .before .before .decimal-at in
+    let decimal-at2 = c .before .before .before .before .before .before .before .before .before .decimal-at2 in
+    let decimal-at3 = c .before .before .before .before .before .before .before .before .decimal-at3 in
+    clock-wrong _ _ _ _ (decimal-at .ensures) (decimal-at2 .ensures) (decimal-at3 .ensures) (c .if1 .left)
 
 pub clock-of-spec : {M : Type 1} → statement M
 clock-of-spec =

@@ -27,10 +27,12 @@ loop-less : tie.Need-loop-less Inv-loop μ-loop
 loop-less c = omega arith
 
 loop-again : tie.Need-loop-again Inv-loop μ-loop
-loop-again c = let l = c .before .before .before .loop in let s = c .before .before .before .before .args .s .now in (omega arith, omega (arith, l .inv .1, run-next s (l .i) (c .before .before .loop-test .taken) true (c .if1 .taken)))
+loop-again c = let l = c .before .before .before .loop in let s = c .before .before .before .before .args .s .now in
+    (omega arith, omega (arith, l .inv .1, run-next s (l .i) (c .before .before .loop-test .taken) true (c .if1 .taken)))
 
 returns : tie.Need-returns Inv-loop μ-loop
-returns c = let l = c .before .before .before .loop in let s = c .before .before .before .before .args .s .now in omega (arith, l .inv .1, run-next s (l .i) (c .before .before .loop-test .taken) false (c .if1 .left))
+returns c = let l = c .before .before .before .loop in let s = c .before .before .before .before .args .s .now in
+    omega (arith, l .inv .1, run-next s (l .i) (c .before .before .loop-test .taken) false (c .if1 .left))
 
 returns-2 : tie.Need-returns-2 Inv-loop μ-loop
 returns-2 c = let l = c .before .loop in let s = c .before .before .args .s .now in omega (arith, l .inv .1, run-end s (l .i) (c .loop-test .left))

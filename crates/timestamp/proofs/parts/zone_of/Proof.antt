@@ -36,7 +36,9 @@ decimal-at-requires-2 : tie.Need-decimal-at-requires-2
 decimal-at-requires-2 c κs = search needs
 
 mul-away : tie.Need-mul-away
-mul-away c = let f = c .before .before .decimal-at in omega (arith, field-most 10 23 (part 1 2 (c .before .before .before .before .before .before .args .z .now)) (f .result) (f .ensures))
+mul-away c =
+    let args = c .before .before .before .before .before .before .args in
+    let f = c .before .before .decimal-at in omega (arith, field-most 10 23 (part 1 2 (args .z .now)) (f .result) (f .ensures))
 
 add-away : tie.Need-add-away
 add-away c = omega (arith, away-most c)
@@ -51,25 +53,51 @@ shared-slice-read-if5 : tie.Need-shared-slice-read-if5
 shared-slice-read-if5 c = search needs
 
 add-t23 : tie.Need-add-t23
-add-t23 c = omega (arith, away-most (c .before .before .before .before .before .before))
+add-t23 c =
+    let after-struct-known2 = c .before .before .before .before .before .before in
+    omega (arith, away-most after-struct-known2)
 
 returns-4 : tie.Need-returns-4
-returns-4 c = zone-plus _ (c .before .before .before .before .before .before .before .before .before .before .before .if1 .left) (c .before .before .before .before .before .before .before .before .before .before .if3 .left) _ _ (c .before .before .before .before .before .before .before .before .before .decimal-at .ensures) (c .before .before .before .before .before .before .before .before .decimal-at2 .ensures) (c .before .before .if4 .taken) (c .if5 .taken)
+returns-4 c =
+    let if1 = c .before .before .before .before .before .before .before .before .before .before .before .if1 in
+    let if3 = c .before .before .before .before .before .before .before .before .before .before .if3 in
+    let decimal-at = c .before .before .before .before .before .before .before .before .before .decimal-at in
+    let decimal-at2 = c .before .before .before .before .before .before .before .before .decimal-at2 in
+    zone-plus _ (if1 .left) (if3 .left) _ _ (decimal-at .ensures) (decimal-at2 .ensures) (c .before .before .if4 .taken) (c .if5 .taken)
 
 shared-slice-read-if6 : tie.Need-shared-slice-read-if6
 shared-slice-read-if6 c = search needs
 
 sub-t25 : tie.Need-sub-t25
-sub-t25 c = omega (arith, away-most (c .before .before .before .before .before .before .before .before))
+sub-t25 c =
+    let after-struct-known2 = c .before .before .before .before .before .before .before .before in
+    omega (arith, away-most after-struct-known2)
 
 returns-5 : tie.Need-returns-5
-returns-5 c = zone-minus _ (c .before .before .before .before .before .before .before .before .before .before .before .before .before .if1 .left) (c .before .before .before .before .before .before .before .before .before .before .before .before .if3 .left) _ _ (c .before .before .before .before .before .before .before .before .before .before .before .decimal-at .ensures) (c .before .before .before .before .before .before .before .before .before .before .decimal-at2 .ensures) (c .before .before .before .before .if4 .taken) (c .before .before .if5 .left) (c .if6 .taken)
+returns-5 c =
+    let if1 = c .before .before .before .before .before .before .before .before .before .before .before .before .before .if1 in
+    let if3 = c .before .before .before .before .before .before .before .before .before .before .before .before .if3 in
+    let decimal-at = c .before .before .before .before .before .before .before .before .before .before .before .decimal-at in
+    let decimal-at2 = c .before .before .before .before .before .before .before .before .before .before .decimal-at2 in
+    let if4 = c .before .before .before .before .if4 in
+    zone-minus _ (if1 .left) (if3 .left) _ _ (decimal-at .ensures) (decimal-at2 .ensures) (if4 .taken) (c .before .before .if5 .left) (c .if6 .taken)
 
 returns-6 : tie.Need-returns-6
-returns-6 c = zone-sign _ (c .before .before .before .before .before .before .before .before .before .before .before .before .before .if1 .left) (c .before .before .before .before .before .before .before .before .before .before .before .before .if3 .left) _ _ (c .before .before .before .before .before .before .before .before .before .before .before .decimal-at .ensures) (c .before .before .before .before .before .before .before .before .before .before .decimal-at2 .ensures) (c .before .before .before .before .if4 .taken) (c .before .before .if5 .left) (c .if6 .left)
+returns-6 c =
+    let if1 = c .before .before .before .before .before .before .before .before .before .before .before .before .before .if1 in
+    let if3 = c .before .before .before .before .before .before .before .before .before .before .before .before .if3 in
+    let decimal-at = c .before .before .before .before .before .before .before .before .before .before .before .decimal-at in
+    let decimal-at2 = c .before .before .before .before .before .before .before .before .before .before .decimal-at2 in
+    let if4 = c .before .before .before .before .if4 in
+    zone-sign _ (if1 .left) (if3 .left) _ _ (decimal-at .ensures) (decimal-at2 .ensures) (if4 .taken) (c .before .before .if5 .left) (c .if6 .left)
 
 returns-7 : tie.Need-returns-7
-returns-7 c = zone-form _ (c .before .before .before .before .before .before .before .before .before .if1 .left) (c .before .before .before .before .before .before .before .before .if3 .left) _ _ (c .before .before .before .before .before .before .before .decimal-at .ensures) (c .before .before .before .before .before .before .decimal-at2 .ensures) (c .if4 .left)
+returns-7 c =
+    let if1 = c .before .before .before .before .before .before .before .before .before .if1 in
+    let if3 = c .before .before .before .before .before .before .before .before .if3 in
+    let decimal-at = c .before .before .before .before .before .before .before .decimal-at in
+    let decimal-at2 = c .before .before .before .before .before .before .decimal-at2 in
+    zone-form _ (if1 .left) (if3 .left) _ _ (decimal-at .ensures) (decimal-at2 .ensures) (c .if4 .left)
 
 pub zone-of-spec : {M : Type 1} → statement M
 zone-of-spec =

@@ -28,13 +28,17 @@ is-dropped-requires : tie.Need-is-dropped-requires Inv-loop μ-loop
 is-dropped-requires c κs = search needs
 
 returns : tie.Need-returns Inv-loop μ-loop
-returns c = clean-not (c .before .before .before .before .loop .inv) (c .before .before .before .loop-test .taken) (sym (c .before .is-dropped .ensures) ∙ c .if1 .taken)
+returns c =
+    let loop = c .before .before .before .before .loop in
+    clean-not (loop .inv) (c .before .before .before .loop-test .taken) (sym (c .before .is-dropped .ensures) ∙ c .if1 .taken)
 
 loop-less : tie.Need-loop-less Inv-loop μ-loop
 loop-less c = omega arith
 
 loop-again : tie.Need-loop-again Inv-loop μ-loop
-loop-again c = clean-more (c .before .before .before .before .loop .inv) (c .before .before .before .loop-test .taken) (sym (c .before .is-dropped .ensures) ∙ c .if1 .left)
+loop-again c =
+    let loop = c .before .before .before .before .loop in
+    clean-more (loop .inv) (c .before .before .before .loop-test .taken) (sym (c .before .is-dropped .ensures) ∙ c .if1 .left)
 
 returns-2 : tie.Need-returns-2 Inv-loop μ-loop
 returns-2 c = passing-done unfiltered refl (c .before .loop .inv) (c .loop-test .left)
