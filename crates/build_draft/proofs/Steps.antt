@@ -23,6 +23,7 @@ module _ (step : Step) (words text : List ℕ) where
   unfolding draftOf _>>=_
   then-done f e h = ap (λ (x : Outcome Draft). x >>= f) (sym (ap (λ (x : Step). draftOf x words text) e) ∙ h)
 
+  -- a part of a call that was done: what it left is the draft that the definition accepts
   pub is-done : {b : Builder} {m : Outcome Draft} → step ≡ Done b → draftOf step words text ≡ m → accepted (plain b words text) ≡ m
   unfolding draftOf
   is-done e h = sym (ap (λ (x : Step). draftOf x words text) e) ∙ h

@@ -90,11 +90,13 @@ pub record Kept (lossy : Bool) (s : List ℕ) (d e : Draft) : Type 0 where
   pub fits : d .builder .bytes + length (textFor lossy s) ≤ bytesFor (d .text)
   pub made : e ≡ plain (withBytes (d .builder .bytes + length (textFor lossy s)) (d .builder)) (d .words) (putAt (d .builder .bytes) (textFor lossy s) (d .text))
 
+-- an accepted outcome behind a demand tells that the demand was met
 pub asks-passed : {A : Type 0} (t : Bool) (why : Cause) (m : Outcome A) {a : A} → accepted a ≡ asks t why m → (t ≡ true) × (accepted a ≡ m)
 unfolding asks
 asks-passed true why m h = (refl, h)
 asks-passed false why m h = let z : _≡_ {A = ℕ} 0 1 = cc in absurd (omega arith)
 
+-- where keeping a text was accepted: the text is good and fits, and the draft is known
 pub is-kept : (lossy : Bool) (s : List ℕ) (d e : Draft) → accepted e ≡ keeping lossy s d → Kept lossy s d e
 unfolding keeping
 is-kept lossy s d e h =

@@ -32,10 +32,12 @@ unfolding hashFrom
 hash-append h [] t = refl
 hash-append h (b ∷ s) t = hash-append ((h * 16777619 + h / 65536 + b) % 4294967296) s t
 
+-- a hash stays in 32 bits, whatever bytes follow
 pub hash-small : (h : ℕ) (s : List ℕ) → h < 4294967296 → hashFrom h s < 4294967296
 unfolding hashFrom
 hash-small h [] l = l
 hash-small h (b ∷ s) l = hash-small ((h * 16777619 + h / 65536 + b) % 4294967296) s (omega arith)
 
+-- a key's bucket is one of the m buckets
 pub bucket-low : (m : ℕ) (key : List ℕ) → 0 < m → bucketOf m key < m
 bucket-low m key h = mod-lt (hashFrom 0 key) h

@@ -28,6 +28,7 @@ module _ (base b : ℕ) where
       go false p false q true r e = let k = and-eq-true-iff (eqb base 16) (leb 0x41 b && leb b 0x46) .0 r in inr (eqb-true base 16 (k .0), inr (within 0x41 0x46 b (k .1)))
       go false p false q false r e = let h = ltb-true base base e in absurd (omega arith)
 
+  -- a digit of any base is one ASCII byte
   pub digit-ascii : isDigit base b ≡ true → b < 0x80
   digit-ascii e = go (digit-class e)
     where
@@ -36,6 +37,7 @@ module _ (base b : ℕ) where
       go (inr (h, inl k)) = omega arith
       go (inr (h, inr k)) = omega arith
 
+-- a decimal digit lies between `0` and `9`
 pub digit-decimal : (b : ℕ) → isDigit 10 b ≡ true → (0x30 ≤ b) × (b ≤ 0x39)
 digit-decimal b e = go (digit-class 10 b e)
   where

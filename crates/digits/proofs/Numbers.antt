@@ -14,6 +14,7 @@ use Rattle.digits.specs.Digits.{digit, allDigits, valueFrom, value, isNu
 use Rattle.digits.proofs.Values.{value-grows, value-below}
 
 module _ (base most : ℕ) (s : List ℕ) where
+  -- what a text that is a number has: some digits, only digits, and a value in range
   pub number-parts : isNumber base most s ≡ true → (0 < length s) × (allDigits base s ≡ true) × (value base s ≤ most)
   unfolding isNumber
   number-parts e =
@@ -21,6 +22,7 @@ module _ (base most : ℕ) (s : List ℕ) where
       let q = and-eq-true-iff (allDigits base s) (leb (value base s) most) .0 (p .1) in
       (ltb-true 0 (length s) (p .0), q .0, leb-true (value base s) most (q .1))
 
+  -- some digits, only digits and a value in range make a text a number
   pub number-whole : 0 < length s → allDigits base s ≡ true → value base s ≤ most → isNumber base most s ≡ true
   unfolding isNumber
   number-whole h d l =
@@ -55,10 +57,12 @@ module _ (base most : ℕ) (s : List ℕ) where
   unfolding numberIn
   number-is e = rw e
 
+  -- a text that is no number is answered with Not
   pub number-not : isNumber base most s ≡ false → numberIn base most s ≡ Not
   unfolding numberIn
   number-not e = rw e
 
+  -- the answer Is tells that the text is a number, and which
   pub is-number : (n : ℕ) → Is n ≡ numberIn base most s → (isNumber base most s ≡ true) × (n ≡ value base s)
   unfolding numberIn
   is-number n e = go (isNumber base most s) refl e
@@ -67,6 +71,7 @@ module _ (base most : ℕ) (s : List ℕ) where
       go true q p = (q, cc)
       go false q p = let z : _≡_ {A = ℕ} 0 1 = cc in absurd (omega arith)
 
+  -- the answer Not tells that the text is no number
   pub not-number : Not ≡ numberIn base most s → isNumber base most s ≡ false
   unfolding numberIn
   not-number e = go (isNumber base most s) refl e

@@ -42,6 +42,7 @@ mod-on n p h =
     let e : n ≡ q * (p * 10) + (r * 10 + n % 10) = omega arith in
     sym (ap (λ (x : ℕ). x % (p * 10)) e ∙ mul-add-mod-self-right q (p * 10) (r * 10 + n % 10) ∙ mod-eq-of-lt (omega arith))
 
+-- the last k digits read back: the number modulo the power of ten
 pub last-value : (k n : ℕ) → value 10 (lastDigits k n) ≡ n % 10 ^ k
 last-value zero n = sym (mod-one n)
 last-value (suc k) n =
@@ -51,10 +52,12 @@ last-value (suc k) n =
     ∙ mod-on n (10 ^ k) (one-le-pow k 10 (lit< tt))
     ∙ ap (λ (p : ℕ). n % p) (sym (pow-suc 10 k))
 
+-- there are k last digits, with zeros in front where the number is short
 pub length-last : (k n : ℕ) → length (lastDigits k n) ≡ k
 length-last zero n = refl
 length-last (suc k) n = length-append (lastDigits k (n / 10)) ((0x30 + n % 10) ∷ []) ∙ ap (λ (x : ℕ). x + 1) (length-last k (n / 10)) ∙ add-one k
 
+-- each of the last k digits is a digit, whatever the number
 pub last-digits : (k n : ℕ) → allDigits 10 (lastDigits k n) ≡ true
 last-digits zero n = refl
 last-digits (suc k) n =
@@ -114,14 +117,17 @@ module _ (n : ℕ) where
   unfolding decimal
   length-decimal = length-last (places n) n
 
+  -- a printed number is all digits
   pub decimal-digits : allDigits 10 (decimal n) ≡ true
   unfolding decimal
   decimal-digits = last-digits (places n) n
 
+  -- a printed number reads back as itself
   pub decimal-value : n < 10 ^ 20 → value 10 (decimal n) ≡ n
   unfolding decimal
   decimal-value h = last-value (places n) n ∙ places-mod h
 
+  -- a printed number is one that reading takes, if it's in the reader's range
   pub decimal-number : (most : ℕ) → n ≤ most → most < 10 ^ 20 → isNumber 10 most (decimal n) ≡ true
   unfolding decimal
   decimal-number most h l = last-number (places n) n most places-positive (rw (places-mod (omega arith)) h)

@@ -16,6 +16,7 @@ module _ (base : ℕ) where
   append-value n [] t = refl
   append-value n (b ∷ s) t = append-value (n * base + digit base b) s t
 
+  -- a joined text is all digits exactly if both its parts are
   pub append-digits : (s t : List ℕ) → allDigits base (s ++ t) ≡ (allDigits base s && allDigits base t)
   append-digits [] t = refl
   append-digits (b ∷ s) t = ap (λ (x : Bool). isDigit base b && x) (append-digits s t) ∙ sym (and-assoc (isDigit base b) (allDigits base s) (allDigits base t))

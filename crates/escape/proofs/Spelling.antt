@@ -11,6 +11,7 @@ use Rattle.area.proofs.Laying.{Laying, laying-on}
 use Rattle.escape.specs.Escape.{spelled}
 
 module _ (table : ℕ → List ℕ) where
+  -- spelling goes part by part, so that a text may be spelled in pieces
   pub spelled-append : (s t : List ℕ) → spelled table (s ++ t) ≡ spelled table s ++ spelled table t
   spelled-append [] t = refl
   spelled-append (b ∷ s) t = ap (λ (l : List ℕ). table b ++ l) (spelled-append s t) ∙ sym (append-assoc (table b) (spelled table s) (spelled table t))
@@ -19,6 +20,7 @@ module _ (table : ℕ → List ℕ) where
   pub spelled-next : (s : List ℕ) (i : ℕ) → i < length s → spelled table (drop i s) ≡ table (getD s i 0) ++ spelled table (drop (i + 1) s)
   spelled-next s i h = ap (spelled table) (drop-next s i h)
 
+  -- behind the end there is nothing to spell
   pub spelled-end : (s : List ℕ) (i : ℕ) → length s ≤ i → spelled table (drop i s) ≡ []
   spelled-end s i h = ap (spelled table) (drop-of-length-le s {i = i} h)
 

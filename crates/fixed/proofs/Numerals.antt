@@ -10,6 +10,7 @@ use Rattle.fixed.specs.Fields.{asField, fieldOf}
 use Rattle.fixed.specs.declared.Field.{Field}
 
 module _ (base most : ℕ) (s : List ℕ) (f : Field) (e : f ≡ fieldOf base most s) where
+  -- the field's flag is the definition's test for a number
   pub field-good : f .good ≡ isNumber base most s
   field-good = go (isNumber base most s) refl
     where
@@ -17,9 +18,11 @@ module _ (base most : ℕ) (s : List ℕ) (f : Field) (e : f ≡ fieldOf base mo
       go true h = ap (λ (x : Field). x .good) (e ∙ ap asField (number-is base most s h)) ∙ sym h
       go false h = ap (λ (x : Field). x .good) (e ∙ ap asField (number-not base most s h)) ∙ sym h
 
+  -- a good field's number is the value of its digits
   pub field-number : f .good ≡ true → f .number ≡ value base s
   field-number t = ap (λ (x : Field). x .number) (e ∙ ap asField (number-is base most s (sym field-good ∙ t)))
 
+  -- a field's number is in range also where the field isn't good
   pub field-most : f .number ≤ most
   field-most = go (f .good) refl
     where

@@ -15,11 +15,13 @@ use Rattle.digits.proofs.Texts.{digits-append}
 use Rattle.fixed.specs.Fields.{part}
 
 module _ (s : List ℕ) (a : ℕ) where
+  -- a field of digits before UTF-8 is UTF-8: goes along a text of fields from its end
   pub digits-on : (base n : ℕ) → allDigits base (part a n s) ≡ true → utf8 (drop (a + n) s) ≡ true → utf8 (drop a s) ≡ true
   digits-on base n d e =
       ap utf8 (sym (take-append-drop n (drop a s))) ∙ digits-append base (take n (drop a s)) (drop n (drop a s)) d
       ∙ ap utf8 (drop-drop n a s) ∙ e
 
+  -- an ASCII byte before UTF-8 is UTF-8: goes over the mark between two fields
   pub byte-on : getD s a 0 < 0x80 → utf8 (drop (a + 1) s) ≡ true → utf8 (drop a s) ≡ true
   byte-on h e = go (ltb a (length s)) refl
     where

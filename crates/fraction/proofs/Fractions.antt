@@ -56,6 +56,7 @@ module _ (f : List ℕ) where
       fraction-is r q = rw (digits-are, le-leb (length f) 9 nine) (ap Is (q ∙ ap (λ (x : ℕ). x * 10 ^ (9 - length f)) (is-number 10 999999999 f v e .1)))
 
   -- ---- what an answer tells
+  -- the answer Is tells that the text is a fraction, and its billionths
   pub is-fraction : (n : ℕ) → Is n ≡ billionthsOf f → (isFraction f ≡ true) × (n ≡ billionths f)
   is-fraction n e = go (isFraction f) refl e
     where
@@ -63,6 +64,7 @@ module _ (f : List ℕ) where
       go true q p = (q, cc)
       go false q p = let z : _≡_ {A = ℕ} 0 1 = cc in absurd (omega arith)
 
+  -- the answer Not tells that the text is no fraction
   pub not-fraction : Not ≡ billionthsOf f → isFraction f ≡ false
   not-fraction e = go (isFraction f) e
     where

@@ -22,10 +22,12 @@ module _ (shown : List (List ℕ) → List ℕ) where
     pub same : length out ≡ length out₀
     pub coming : Coming (filled k₀ out₀) (shown (recordsIn words)) (filled k out) (shown (recordsIn (drop at words)))
 
+  -- before the first record everything is to come
   pub going-start : (out words : List ℕ) (k : Stored) → Going out words k out 0 k
   going-start out words k = record { fits = omega arith; same = refl; coming = coming-start (filled k out) (shown (recordsIn words)) }
 
   module _ {out₀ words : List ℕ} {k₀ : Stored} {out : List ℕ} {at : ℕ} {k : Stored} (g : Going out₀ words k₀ out at k) where
+    -- the loop's condition failed: output is full or no record is left, and either way all was put
     pub going-stop : (a b : Bool) → shown [] ≡ [] → (a && b) ≡ false → a ≡ not (isFull k)
         → b ≡ stands (take (length words - at) (drop at words)) → Puts (filled k₀ out₀) (shown (recordsIn words)) (filled k out)
     going-stop a b none e p q =
@@ -43,12 +45,15 @@ module _ (shown : List (List ℕ) → List ℕ) where
       next : shown (recordsIn (drop at words)) ≡ shown (here ∷ rest)
       next = ap shown (records-here words at s)
 
+      -- the loop was left at a record from which on nothing is shown: all was put
       pub going-end : shown (here ∷ rest) ≡ [] → Puts (filled k₀ out₀) (shown (recordsIn words)) (filled k out)
       going-end e = coming-done (coming-on (g .coming) (next ∙ e))
 
+      -- a record of which nothing is shown is passed over
       pub going-pass : shown (here ∷ rest) ≡ shown rest → Going out₀ words k₀ out (at + 32) k
       going-pass e = record { fits = stands-room words at s; same = g .same; coming = coming-on (g .coming) (next ∙ e) }
 
+      -- a record of which f is shown, and a call that put f: the loop stands one record further
       pub going-puts : {out′ : List ℕ} {k′ : Stored} (f : List ℕ) → shown (here ∷ rest) ≡ f ++ shown rest
           → Puts (filled k out) f (filled k′ out′) → length out′ ≡ length out → Going out₀ words k₀ out′ (at + 32) k′
       going-puts f e p l = record { fits = stands-room words at s; same = l ∙ g .same; coming = coming-puts (coming-on (g .coming) (next ∙ e)) p }
@@ -59,17 +64,21 @@ module _ (shown : List (List ℕ) → List ℕ) where
     pub same : out ≡ out₀
     pub left : shown (recordsIn (drop at words)) ≡ shown (recordsIn words)
 
+  -- before the first record the text looked for is that of all records
   pub seeking-start : (out words : List ℕ) → Seeking out words out 0
   seeking-start out words = record { fits = omega arith; same = refl; left = refl }
 
   module _ {out₀ words out : List ℕ} {at : ℕ} (g : Seeking out₀ words out at) where
     module _ (s : stands (take (length words - at) (drop at words)) ≡ true) where
+      -- a record without the text is passed over
       pub seeking-pass : shown (take (at + 32 - at) (drop at words) ∷ recordsIn (drop (at + 32) words)) ≡ shown (recordsIn (drop (at + 32) words)) → Seeking out₀ words out (at + 32)
       seeking-pass e = record { fits = stands-room words at s; same = g .same; left = sym e ∙ ap shown (sym (records-here words at s)) ∙ g .left }
 
+      -- the record has the text, and a call that puts it has put what is shown of all records
       pub seeking-found : {f : List ℕ} (k : Stored) {t : Filled} → shown (take (at + 32 - at) (drop at words) ∷ recordsIn (drop (at + 32) words)) ≡ f
           → Puts (filled k out) f t → Puts (filled k out₀) (shown (recordsIn words)) t
       seeking-found k e p = rw (sym (g .same)) (other p (sym e ∙ ap shown (sym (records-here words at s)) ∙ g .left))
 
+    -- no record is left: nothing is shown, and the area is as it was
     pub seeking-none : (k : Stored) → shown [] ≡ [] → stands (take (length words - at) (drop at words)) ≡ false → Puts (filled k out₀) (shown (recordsIn words)) (filled k out)
     seeking-none k none e = rw (sym (g .same)) (other (puts-none (filled k out)) (sym none ∙ ap shown (sym (records-over words at e)) ∙ g .left))

@@ -112,6 +112,7 @@ module _ (m n : ℕ) (s : List ℕ) where
 pub found-lies : (found : Found) (m m′ n n′ : ℕ) (s : List ℕ) → found ≡ partsIn m n s → m′ ≡ m → n′ ≡ n → Lies found m′ n′ (length s)
 found-lies found m m′ n n′ s e p q = rw (e, p, q) (parts-lie m n s)
 
+-- the answer and the two areas together are the input's table, or none where it has none
 pub found-table : (found : Found) (events events′ attributes attributes′ s : List ℕ) → found ≡ partsIn (length events) (length attributes) s →
     events′ ≡ eventsLeft (inputOf (length events) (length attributes) s) events → attributes′ ≡ attributesLeft (inputOf (length events) (length attributes) s) attributes →
     foundOf found events′ attributes′ s ≡ inputOf (length events) (length attributes) s

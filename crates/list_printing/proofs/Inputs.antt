@@ -21,6 +21,7 @@ pub same-found : (b : Buffers) (k : ℕ) (o q : Option Table) → o ≡ q → (o
 same-found b k o q e out n words text scratch h = rw e at h
 
 module _ (found : Found) (x : Parts) (e : found ≡ Is x) where
+  -- the three slices that the code takes by the answer's numbers are the input's table
   pub found-is : (events attributes input : List ℕ) →
       some (record { events = take (x .events) events; attributes = take (x .attributes) attributes; source = take (x .at + x .source - x .at) (drop (x .at) input) })
       ≡ foundOf found events attributes input
@@ -29,9 +30,11 @@ module _ (found : Found) (x : Parts) (e : found ≡ Is x) where
       ap (λ (n : ℕ). some (record { events = take (x .events) events; attributes = take (x .attributes) attributes; source = take n (drop (x .at) input) })) s
       ∙ sym (ap (λ (f : Found). foundOf f events attributes input) e)
 
+  -- the slices by the answer's numbers lie in the areas and in the input: the bounds that the code needs
   pub found-lies : (m n k : ℕ) → Lies found m n k → (x .events ≤ m) × ((x .attributes ≤ n) × (x .at + x .source ≤ k))
   found-lies m n k l = let q : Lies (Is x) m n k = rw e at l in (q .0, (q .1, q .3))
 
+-- the answer Not means that the input holds no table
 pub found-not : (found : Found) → found ≡ Not → (events attributes input : List ℕ) → none ≡ foundOf found events attributes input
 found-not found e events attributes input = sym (ap (λ (f : Found). foundOf f events attributes input) e)
 

@@ -60,6 +60,7 @@ module _ (words : List ℕ) (at : ℕ) where
   part-rest : part ≡ drop at words
   part-rest = take-all (length words - at) (drop at words) (rw (length-drop at words) (omega arith))
 
+  -- where a record stands, its 32 words lie in the area
   pub stands-room : stands part ≡ true → at + 32 ≤ length words
   stands-room e =
       let h = stands-fits part e .0 in
@@ -73,8 +74,10 @@ module _ (words : List ℕ) (at : ℕ) where
       let z : at + 32 - at ≡ 32 = omega arith in
       records-next (drop at words) (ap stands (sym part-rest) ∙ e) ∙ rw (z, drop-drop 32 at words) refl
 
+  -- the part that is lent from the next record on holds the records from there on
   pub records-behind : recordsIn (take (length words - (at + 32)) (drop (at + 32) words)) ≡ recordsIn (drop (at + 32) words)
   records-behind = ap recordsIn (take-all (length words - (at + 32)) (drop (at + 32) words) (rw (length-drop (at + 32) words) (omega arith)))
 
+  -- where no record stands, none follow
   pub records-over : stands part ≡ false → recordsIn (drop at words) ≡ []
   records-over e = records-none (drop at words) (ap stands (sym part-rest) ∙ e)

@@ -18,6 +18,7 @@ use Rattle.list_sums.specs.declared.Summary.{Summary}
 use Rattle.list_sums.proofs.Records.{stands-room, records-here, records-over}
 
 -- ---- the records of a case
+-- a suite or case ends what belongs to the case before it
 pub own-end : (r : List ℕ) (rs : List (List ℕ)) → endsCase r ≡ true → own (r ∷ rs) ≡ []
 own-end r rs e = go (isSuite r) (isCase r) refl refl e
   where
@@ -26,6 +27,7 @@ own-end r rs e = go (isSuite r) (isCase r) refl refl e
     go false true u v x = rw (u, v) refl
     go false false u v x = absurd (true≢false (sym x))
 
+-- a record that isn't a suite or case belongs to the case before it
 pub own-next : (r : List ℕ) (rs : List (List ℕ)) → endsCase r ≡ false → own (r ∷ rs) ≡ r ∷ own rs
 own-next r rs e = go (isSuite r) (isCase r) refl refl e
   where
@@ -161,6 +163,7 @@ module _ {words : List ℕ} {s : Summary} {at : ℕ} (g : Summing words s at) wh
 
 -- ---- what is shown of it
 module _ (text : List ℕ) where
+  -- the status that is shown of a case, from the sums that one pass makes of its status elements
   pub status-summed : (ms rs : List (List ℕ)) → statusShown (statusOf text ms rs) ≡ statusBy (summedOn unsummed ms rs)
   unfolding summedOn statusBy
   status-summed [] rs = refl
@@ -178,6 +181,7 @@ module _ (text : List ℕ) where
   kinds false true k x runs = refl
   kinds false false k x runs = refl
 
+  -- the run kind that is shown of a case, from the sums of its status elements
   pub kind-summed : (ms rs : List (List ℕ)) → runKindShown (statusOf text ms rs) ≡ kindBy (summedOn unsummed ms rs)
   unfolding summedOn kindBy
   kind-summed [] rs = refl
@@ -190,6 +194,7 @@ module _ (text : List ℕ) where
   runs-listed [] = refl
   runs-listed (r ∷ rs) = ap (λ (l : List PublicRun). runListed r ∷ l) (runs-listed rs)
 
+  -- the runs that are listed of a case: none where it is skipped, else all
   pub runs-summed : (ms rs : List (List ℕ)) → runsShown (statusOf text ms rs) ≡ cond (isSkippedBy (summedOn unsummed ms rs)) [] (map runListed rs)
   unfolding summedOn
   runs-summed [] rs = runs-listed rs

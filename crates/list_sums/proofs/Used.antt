@@ -28,6 +28,7 @@ front-used m w =
     let l : length (take m w) ≡ min m (length w) = length-take m w in
     from-front (length (take m w) / 32) m w (omega (arith, min-le-left m (length w)))
 
+-- the records found in the used words are those of the definition
 pub records-used : (words : List ℕ) → recordsIn (usedWords words) ≡ recordsOf words
 unfolding recordsIn recordsOf
 records-used words = front-used mostWords words

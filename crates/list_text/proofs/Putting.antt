@@ -185,12 +185,15 @@ module _ (r : Stored) (out t ys : List ℕ) (used from : ℕ) (e : from ≡ min 
   answer : storedAnswer cause.OutputFull r ≡ placing cause.OutputFull (length (drop from out)) t
   answer = a ∙ ap (λ (z : List ℕ). placing cause.OutputFull (length z) t) (rest-part out from)
 
+  -- a call that was lent the free part of the area and put its text: the text is put behind what is in use
   pub lent-put : {k : Stored} (n : ℕ) → k ≡ Put used → r ≡ Put n → Puts (filled k out) t (filled (Put (used + n)) (putMid from (length out - from) out ys))
   lent-put n q p = rw q (put-behind used from out (putMid from (length out - from) out ys) t e back n (sym (ap (storedAnswer cause.OutputFull) p) ∙ answer))
 
+  -- a call that was lent the free part and had no room: the area counts as full from then on
   pub lent-full : {k : Stored} → k ≡ Put used → r ≡ Full → Puts (filled k out) t (filled Full (putMid from (length out - from) out ys))
   lent-full q p = rw q (full-put used from out (putMid from (length out - from) out ys) t e back (sym (ap (storedAnswer cause.OutputFull) p) ∙ answer))
 
+  -- what such a call put fits into what was free, so that the sum of both doesn't overflow
   pub lent-most : (n : ℕ) → r ≡ Put n → n ≤ length out - used
   lent-most n p =
       let q = put-fits cause.OutputFull (length (drop from out)) t n (sym (ap (storedAnswer cause.OutputFull) p) ∙ answer) in
@@ -201,15 +204,19 @@ module _ (r : Stored) (out t ys : List ℕ) (used from : ℕ) (e : from ≡ min 
 pub record Coming (s₀ : Filled) (w : List ℕ) (s : Filled) (f : List ℕ) : Type 0 where
   pub left : behind s f ≡ behind s₀ w
 
+-- before the first call the whole text is to come
 pub coming-start : (s : Filled) (w : List ℕ) → Coming s w s w
 coming-start s w = record { left = refl }
 
+-- what is to come, said otherwise
 pub coming-on : {s₀ s : Filled} {w f g : List ℕ} → Coming s₀ w s f → f ≡ g → Coming s₀ w s g
 coming-on {s₀} {s} c e = record { left = ap (behind s) (sym e) ∙ c .left }
 
+-- a call puts the next part of what is to come
 pub coming-puts : {s₀ s t : Filled} {w f g : List ℕ} → Coming s₀ w s (f ++ g) → Puts s f t → Coming s₀ w t g
 coming-puts {s₀} {s} {t} {w} {f} {g} c p = record { left = ap (λ (x : Filled). behind x g) (p .same) ∙ behind-behind s f g ∙ c .left }
 
+-- nothing is to come: the whole text was put
 pub coming-done : {s₀ s : Filled} {w : List ℕ} → Coming s₀ w s [] → Puts s₀ w s
 coming-done {s₀} {s} c = record { same = sym (behind-none s) ∙ c .left }
 

@@ -9,6 +9,7 @@ use lib.ListN.{length, take, drop, drop-of-length-le}
 use lib.Seq.{take-nil}
 use Rattle.area.proofs.Parts.{rest-part}
 
+-- cutting at a number or at the area's end, whichever is first, is cutting at the number
 pub take-least : (l : List ℕ) (n : ℕ) → take (min (length l) n) l ≡ take n l
 take-least [] n = take-nil (min 0 n) ∙ sym (take-nil n)
 take-least (x ∷ l) zero = rw (min-zero (suc (length l))) refl

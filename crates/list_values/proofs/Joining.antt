@@ -10,9 +10,11 @@ pub counts-parts : (c : Counts)
     → (32 ∷ decimal (c .tests)) ++ ((32 ∷ decimal (c .failures)) ++ ((32 ∷ decimal (c .errors)) ++ ((32 ∷ decimal (c .skipped)) ++ (32 ∷ orDash decimal (c .disabled))))) ≡ fields (countFields c)
 counts-parts c = simp append-nil
 
+-- three texts with a space before each are three fields
 pub three-parts : (a b c : List ℕ) → (32 ∷ a) ++ ((32 ∷ b) ++ (32 ∷ c)) ≡ fields (a ∷ b ∷ c ∷ [])
 three-parts a b c = simp append-nil
 
+-- fields put in two goes are the fields of both lists
 pub fields-split : (l m : List (List ℕ)) (rest : List ℕ) → fields l ++ (fields m ++ rest) ≡ fields (l ++ m) ++ rest
 fields-split [] m rest = refl
 fields-split (f ∷ l) m rest =

@@ -13,11 +13,13 @@ use Rattle.names.specs.Tags.{tags, tagOf}
 use Rattle.names.specs.Keys as key
 use Rattle.names.specs.Keys.{keys, keyOf}
 
+-- a name compared with itself is the same
 pub same-refl : (a : List ℕ) → sameBytes a a ≡ true
 unfolding sameBytes
 same-refl [] = refl
 same-refl (x ∷ xs) = rw (eq-eqb x x refl) (same-refl xs)
 
+-- the code's comparison of two names tells that they are equal
 pub same-true : (a b : List ℕ) → sameBytes a b ≡ true → a ≡ b
 unfolding sameBytes
 same-true [] [] e = refl
@@ -55,6 +57,7 @@ code-name names s k e =
     let i : Coded 1 names s (suc k) = coded 1 names s (suc k) e (omega arith) in
     let z : suc k - 1 ≡ k = omega arith in (omega (arith, i .most), rw z at (i .name))
 
+-- a name's code is at most the number of names, 0 where it is none of them
 pub code-most : (names : List (List ℕ)) (s : List ℕ) → codeIn names s ≤ length names
 code-most names s = go (codeIn names s) refl
   where

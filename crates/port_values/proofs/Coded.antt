@@ -9,8 +9,10 @@ use Rattle.refusal.specs.Refusal.{Outcome}
 use Rattle.port_values.specs.Codes.{noCode, coded}
 
 module _ {A B : Type 0} (variants : List A) (code : ℕ) (o : Outcome B) where
+  -- a code from the list is taken, and what follows counts
   pub is-code : code < length variants → coded variants code o ≡ o
   is-code h = ap (λ (b : Bool). cond b o noCode) (lt-ltb code (length variants) h)
 
+  -- a number past the list is answered as no code
   pub no-code : length variants ≤ code → coded variants code o ≡ noCode
   no-code h = ap (λ (b : Bool). cond b o noCode) (le-ltb code (length variants) h)

@@ -30,6 +30,7 @@ module _ (x : Reading) (o : Outcome (Unit {0})) (e : x ≡ answerOf o) where
   verdict : x .verdict ≡ verdictOf o
   verdict = ap (λ (y : Reading). y .verdict) e
 
+  -- the verdict Accepted tells that the definition accepts
   pub read-accepted : x .verdict ≡ Accepted → accepted tt ≡ o
   read-accepted v = go o verdict
     where
@@ -37,6 +38,7 @@ module _ (x : Reading) (o : Outcome (Unit {0})) (e : x ≡ answerOf o) where
       go (accepted u) h = refl
       go (refused r) h = let z : _≡_ {A = ℕ} 0 1 = cc in absurd (omega arith)
 
+  -- the verdict IsRefused tells that the definition refuses, and how
   pub read-refused : x .verdict ≡ IsRefused → (r : Refused) × (refused r ≡ o)
   read-refused v = go o verdict
     where

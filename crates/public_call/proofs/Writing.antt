@@ -27,12 +27,14 @@ module _ (out₀ x out f : List ℕ) (cleared : x ≡ zeros (length out₀)) (pu
   same : length x ≡ length out₀
   same = ap length cleared ∙ length-replicate (length out₀) 0
 
+  -- a text that fitted a cleared area: the area's contents, and the number of bytes printed
   pub put-whole : (n : ℕ) → gives n ≡ placing cause.OutputFull (length x) f → (out ≡ laid (zeros (length out₀)) f) × (n ≡ min (length out₀) (length f))
   put-whole n e =
       let p = put-fits cause.OutputFull (length x) f n e in
       let h : length f ≤ length out₀ = (let q = p .0 in omega (arith, same)) in
       (area, p .1 ∙ sym (min-eq-right h))
 
+  -- a text that didn't fit: the area holds its front, and all of the area is printed
   pub put-part : refuses cause.OutputFull ≡ placing cause.OutputFull (length x) f → (out ≡ laid (zeros (length out₀)) f) × (length out ≡ min (length out₀) (length f))
   put-part e =
       let q = full-over cause.OutputFull (length x) f e in

@@ -48,6 +48,7 @@ pub worked-source
     ≡ bytes "<testsuites name=\"r\" tests=\"2\"><testsuite name=\"lab\" tests=\"2\"><testcase name=\"a\" time=\"0.5\"/><testcase name=\"b\"><failure message=\"m\"/><rerunFailure/></testcase></testsuite></testsuites>"
 worked-source = refl
 
+-- the public cases as one theorem, which the theorem of all cases takes up
 pub proved-cases : All cases
 unfolding utf8.need utf8.low utf8.high codeFrom sameBytes keys tags
     digits.digit digits.isNumber digits.places digits.decimal unsigned makeTime

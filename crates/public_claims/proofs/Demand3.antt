@@ -130,6 +130,7 @@ same-listing t u a b agreed same long = either (isRead t a) both-read both-refus
         only-public t a e ∙ ap (λ x. fitted (a .output) (publicText x)) g
         ∙ ap (λ (n : ℕ). fitted n (publicText (public (eventsOf u)))) long ∙ sym (only-public u b f)
 
+-- demand 3 as one theorem, which the theorem of all demands takes up
 pub demand-3 : Demand3
 demand-3 =
     record {

@@ -17,6 +17,7 @@ zero-size : (n : ℕ) → length (zeros n) ≡ n
 zero-size n = length-replicate {A = ℕ} n 0
 
 module _ {words text scratch attributes source : List ℕ} {c : CodedContent} {s : Content} (hd : Holds words text scratch attributes source c s) where
+  -- the words: records in use, and the room behind them
   pub words-size : length words ≡ c .used * 32 + hd .room
   words-size =
       let a = ap length (hd .records) ∙ length-append (joined (s .records)) (zeros (hd .room)) in
@@ -25,6 +26,7 @@ module _ {words text scratch attributes source : List ℕ} {c : CodedContent} {s
       let e = hd .used in
       omega arith
 
+  -- the text area: bytes in use, and those left
   pub text-size : length text ≡ c .fill + hd .left
   text-size =
       let a = ap length (hd .stored) ∙ length-append (s .texts) (zeros (hd .left)) in
@@ -32,6 +34,7 @@ module _ {words text scratch attributes source : List ℕ} {c : CodedContent} {s
       let e = hd .fill in
       omega arith
 
+  -- scratch: description, gathered text, and what is behind both
   pub scratch-size : length scratch ≡ c .description + (c .gathered + length (hd .behind))
   scratch-size =
       let a = ap length (hd .pieces) ∙ length-append (s .description) (s .gathered ++ hd .behind) in
@@ -40,12 +43,15 @@ module _ {words text scratch attributes source : List ℕ} {c : CodedContent} {s
       let e = hd .gathered in
       omega arith
 
+  -- the records in use lie in the words: the bound at `words[used * 32..]`
   pub fits-words : c .used * 32 ≤ length words
   fits-words = let e = words-size in omega arith
 
+  -- the texts in use lie in the text area: the bound at `text[fill..]`
   pub fits-text : c .fill ≤ length text
   fits-text = let e = text-size in omega arith
 
+  -- description and gathered text lie in scratch: the bound at the part behind them
   pub fits-scratch : c .description + c .gathered ≤ length scratch
   fits-scratch = let e = scratch-size in omega arith
 
@@ -55,27 +61,33 @@ module _ {words text scratch attributes source : List ℕ} {c : CodedContent} {s
       let n : hd .room ≡ length words - c .used * 32 = (let q = words-size in omega arith) in
       ap (drop (c .used * 32)) (hd .records) ∙ drop-at (joined (s .records)) (zeros (hd .room)) (c .used * 32) e ∙ ap zeros n
 
+  -- the part that is lent to a new element is cleared
   pub own-part : take (length words - c .used * 32) (drop (c .used * 32) words) ≡ zeros (length (take (length words - c .used * 32) (drop (c .used * 32) words)))
   own-part =
       let n : length (take (length words - c .used * 32) (drop (c .used * 32) words)) ≡ length words - c .used * 32 = ap length (rest-part words (c .used * 32)) ∙ length-drop (c .used * 32) words in
       rest-part words (c .used * 32) ∙ own-zero ∙ ap zeros (sym n)
 
+  -- the words in use are the definition's records, one behind the other
   pub own-front : take (c .used * 32) words ≡ joined (s .records)
   own-front =
       let e : length (joined (s .records)) ≡ c .used * 32 = joined-size (s .records) (hd .whole) ∙ ap (λ (n : ℕ). n * 32) (sym (hd .used)) in
       ap (take (c .used * 32)) (hd .records) ∙ take-at (joined (s .records)) (zeros (hd .room)) (c .used * 32) e
 
+  -- the text area behind the texts is cleared
   pub text-zero : drop (c .fill) text ≡ zeros (length text - c .fill)
   text-zero =
       let n : hd .left ≡ length text - c .fill = (let q = text-size in omega arith) in
       ap (drop (c .fill)) (hd .stored) ∙ drop-at (s .texts) (zeros (hd .left)) (c .fill) (sym (hd .fill)) ∙ ap zeros n
 
+  -- the text area's front is the definition's texts
   pub text-front : take (c .fill) text ≡ s .texts
   text-front = ap (take (c .fill)) (hd .stored) ∙ take-at (s .texts) (zeros (hd .left)) (c .fill) (sym (hd .fill))
 
+  -- the slice that the code takes for the description is the definition's
   pub description-part : take (c .description) scratch ≡ s .description
   description-part = ap (take (c .description)) (hd .pieces) ∙ take-at (s .description) (s .gathered ++ hd .behind) (c .description) (sym (hd .description))
 
+  -- the slice that the code takes for the gathered text is the definition's
   pub gathered-part : take (c .gathered) (drop (c .description) scratch) ≡ s .gathered
   gathered-part =
       ap (λ (l : List ℕ). take (c .gathered) (drop (c .description) l)) (hd .pieces)

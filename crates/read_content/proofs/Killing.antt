@@ -20,6 +20,7 @@ abbrev pub killSpan : ℕ → ℕ → List (List ℕ) → List (List ℕ)
 killSpan zero i rs = rs
 killSpan (suc n) i rs = killSpan n (i + 1) (changed i killed rs)
 
+-- the code's marking of n records in the words is that of the list's
 pub kill-words : (n i : ℕ) (rs : List (List ℕ)) (z : List ℕ) → Whole rs → i + n ≤ length rs → killWords n i (joined rs ++ z) ≡ joined (killSpan n i rs) ++ z
 unfolding killWords
 kill-words zero i rs z w h = refl
@@ -90,6 +91,7 @@ all-hit [] j = refl
 all-hit (r ∷ rs) zero = refl
 all-hit (r ∷ rs) (suc j) = all-hit rs j
 
+-- marking the records of a kind dead leaves all records whole
 pub kind-whole : (κ i : ℕ) (rs : List (List ℕ)) → Whole rs → Whole (killKind κ i rs)
 kind-whole κ i [] w = w
 kind-whole κ zero (r ∷ rs) w = (go (eqb (getD r 0 0) κ), kind-whole κ zero rs (w .1))
@@ -99,11 +101,13 @@ kind-whole κ zero (r ∷ rs) w = (go (eqb (getD r 0 0) κ), kind-whole κ zero 
     go false = w .0
 kind-whole κ (suc i) (r ∷ rs) w = (w .0, kind-whole κ i rs (w .1))
 
+-- marking all records dead leaves them whole
 pub all-whole : (rs : List (List ℕ)) → Whole rs → Whole (killAll rs)
 all-whole [] w = w
 all-whole (r ∷ rs) w = (killed-size r ∙ w .0, all-whole rs (w .1))
 
 -- ---- a list's records are those of the kind
+-- the records that the code marks by a list's place and count are those that the definition marks by kind
 pub span-kind : (κ from : ℕ) (list : CodedList) (rs : List (List ℕ)) → Listed κ from list rs → killSpan (list .count) (list .first) rs ≡ killKind κ from rs
 span-kind κ from list rs l =
     ext-getD [] (killSpan (list .count) (list .first) rs) (killKind κ from rs) (span-size (list .count) (list .first) rs ∙ sym (kind-size κ from rs))

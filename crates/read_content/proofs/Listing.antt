@@ -28,6 +28,7 @@ module _ (rs qs : List (List ℕ)) (size : length qs ≡ length rs) (same : (i :
     each = λ i a b. (l .each i a b .0, same i ∙ l .each i a b .1);
   }
 
+  -- what is dead depends on the records' kinds alone
   pub dead-kinds : {n : ℕ} → Dead n rs → Dead n qs
   dead-kinds d i h = let e = same i in let k = d i h in omega arith
 
@@ -45,6 +46,7 @@ module _ {kind : ℕ} {c c′ : CodedContent} {s s′ : Content} (a : Added kind
       go false p false q =
           let k = kind-past (s′ .records) i (ltb-false i (length (s′ .records)) q) in omega arith
 
+  -- an element added, of another kind than a list's: the list stays as it is
   pub added-listed : {κ from : ℕ} {list : CodedList} → (κ ≡ kind → ⊥) → (κ ≡ extraKind kind → ⊥) → 0 < κ → Listed κ from list (s .records) → Listed κ from list (s′ .records)
   added-listed {κ} {from} {list} d f z l = record {
     inside = let h = l .inside in let m = a .more in omega arith;
@@ -57,6 +59,7 @@ module _ {kind : ℕ} {c c′ : CodedContent} {s s′ : Content} (a : Added kind
       old i h e true q = l .only i h (sym (a .before i (ltb-true i (length (s .records)) q)) ∙ e)
       old i h e false q = absurd (new-kind κ d f z i (ltb-false i (length (s .records)) q) e)
 
+  -- behind an element just added there is no property yet: its list is empty
   pub new-listed : {κ : ℕ} → (κ ≡ kind → ⊥) → (κ ≡ extraKind kind → ⊥) → 0 < κ → Listed κ (length (s .records)) noList (s′ .records)
   new-listed {κ} d f z = record {
     inside = a .more;
@@ -99,6 +102,7 @@ module _ {kind : ℕ} {c c′ : CodedContent} {s s′ : Content} (a : Added kind
           let e : i ≡ length (s .records) = omega arith in
           ((let j = l .inside in omega arith), ap (kindIn (s′ .records)) e ∙ a .main)
 
+  -- an element added leaves the dead records dead
   pub added-dead : {n : ℕ} → n ≤ length (s .records) → Dead n (s .records) → Dead n (s′ .records)
   added-dead h d i l = let e = a .before i (omega arith) in let k = d i l in omega arith
 
@@ -143,6 +147,7 @@ module _ (κ from : ℕ) (rs : List (List ℕ)) (z : 0 < κ) (l : κ < 16) where
           ap (λ (r : List ℕ). getD r 0 0) (sym (kind-miss κ from rs i (λ a b. omega arith))) ∙ e
       go false q u p = sym (kind-other i (eqb-false (kindIn rs i) κ q)) ∙ e
 
+  -- a later list of properties replaces the earlier one: its records are dead, and the new list is empty
   pub listed-anew : {list : CodedList} → Listed κ from list rs → Listed κ from (record { first = length rs; count = 0 }) (killKind κ from rs)
   listed-anew t =
       let n = kind-size κ from rs in
@@ -153,6 +158,7 @@ module _ (κ from : ℕ) (rs : List (List ℕ)) (z : 0 < κ) (l : κ < 16) where
         each = λ i x y. absurd (omega arith);
       }
 
+  -- marking one kind dead leaves the list of another kind as it is
   pub listed-other : {k from′ : ℕ} {list : CodedList} → k < 16 → (k ≡ κ → ⊥) → Listed k from′ list rs → Listed k from′ list (killKind κ from rs)
   listed-other {k} m d t =
       let n = kind-size κ from rs in
@@ -163,11 +169,13 @@ module _ (κ from : ℕ) (rs : List (List ℕ)) (z : 0 < κ) (l : κ < 16) where
         each = λ i x y. (t .each i x y .0, kind-other i (λ e. d (sym (t .each i x y .1) ∙ e)) ∙ t .each i x y .1);
       }
 
+  -- marking a kind dead leaves dead records dead
   pub dead-kind : {n : ℕ} → Dead n rs → Dead n (killKind κ from rs)
   dead-kind d i h =
       let k = d i h in
       let e = kind-other i (λ e. omega arith) in omega arith
 
+-- when a report begins, all records before it are dead
 pub dead-all : (rs : List (List ℕ)) → Whole rs → Dead (length rs) (killAll rs)
 dead-all rs w i h =
     let e = ap (λ (r : List ℕ). getD r 0 0) (all-hit rs i) in
@@ -178,6 +186,7 @@ dead-all rs w i h =
 -- ---- the open elements
 module _ (m : Marks) (c c′ : CodedContent) (s s′ : Content) (sl : c′ .«suite_list» ≡ c .«suite_list») (cl : c′ .«case_list» ≡ c .«case_list»)
     (size : length (s′ .records) ≡ length (s .records)) (same : (i : ℕ) → kindIn (s′ .records) i ≡ kindIn (s .records) i) where
+  -- what is known of the open elements depends on the records' kinds alone: for texts put into records
   pub opened-kinds : (l : Level) → Opened l m c s → Opened l m c′ s′
   opened-kinds top o = tt
   opened-kinds suite o = rw sl (listed-kinds (s .records) (s′ .records) size same o)
@@ -192,6 +201,7 @@ module _ (m : Marks) {kind : ℕ} {c c′ : CodedContent} {s s′ : Content} (a 
   no-case : 5 ≡ extraKind kind → ⊥
   no-case e = omega arith
 
+  -- what is known of the open elements stays when an element is added that isn't a property
   pub opened-added : (l : Level) → Opened l m c s → Opened l m c′ s′
   opened-added top o = tt
   opened-added suite o = rw (a .suite-list) (added-listed a d4 no-suite (lit≤ tt) o)
@@ -209,6 +219,7 @@ opened-at suite e m c s o = o
 opened-at case e m c s o = o
 opened-at status e m c s o = o
 
+-- the event's number plays no part in what is known of the lists
 pub lists-at : (mode : Mode) (e : ℕ) (m : Marks) (c : CodedContent) (s : Content) → Lists mode m c s → Lists mode (goTo e m) c s
 lists-at (at l) e m c s li = (opened-at l e m c s (li .0), li .1)
 lists-at (gathering l o) e m c s li = opened-at l e m c s li

@@ -233,8 +233,10 @@ fit-apt m l o name act.Stop h = refl
 fit-apt m l o name act.Missing h = refl
 fit-apt m l o name (act.Broken why) h = refl
 
+-- the act that a tag gives is one of its mode, so that the other arms of the code can't be reached
 pub plan-apt : (m : CodedMode) (l : Level) (o : Output) (seen : Bool) (k : TagKind) (name : List ℕ) (a : CodedAct) → actIn (modeAt m l o) name a ≡ planAt (modeAt m l o) seen k name → apt a (modeAt m l o) ≡ true
 plan-apt m l o seen k name a e = fit-apt m l o name a (ap (fit m l) e ∙ fitted (plan-fit m l o seen k name))
 
+-- the act that Eof gives is one of its mode, so that the other arms of the code can't be reached
 pub eof-apt : (m : CodedMode) (l : Level) (o : Output) (seen closed : Bool) (name : List ℕ) (a : CodedAct) → actIn (modeAt m l o) name a ≡ planEof (modeAt m l o) seen closed → apt a (modeAt m l o) ≡ true
 eof-apt m l o seen closed name a e = fit-apt m l o name a (ap (fit m l) e ∙ fitted (eof-fit m l o seen closed))

@@ -18,18 +18,22 @@ use Rattle.read_element.specs.inside.Held.{Keyed}
 use Rattle.read_content.specs.Content.{killed, kept}
 use Rattle.read_content.specs.inside.Holds.{inRecord, Whole, kindIn}
 
+-- records put behind others: their words stand behind the others' words
 pub joined-append : (rs qs : List (List ℕ)) → joined (rs ++ qs) ≡ joined rs ++ joined qs
 joined-append [] qs = refl
 joined-append (r ∷ rs) qs = ap (λ (l : List ℕ). r ++ l) (joined-append rs qs) ∙ sym (append-assoc r (joined rs) (joined qs))
 
+-- whole records behind whole records are whole
 pub whole-append : (rs qs : List (List ℕ)) → Whole rs → Whole qs → Whole (rs ++ qs)
 whole-append [] qs h k = k
 whole-append (r ∷ rs) qs h k = (h .0, whole-append rs qs (h .1) k)
 
+-- records of extras are whole
 pub keyed-whole : (n : ℕ) (rs : List (List ℕ)) → Keyed n rs → Whole rs
 keyed-whole n [] k = k
 keyed-whole n (r ∷ rs) k = (k .0, keyed-whole n rs (k .1 .1))
 
+-- whole records take 32 words each
 pub joined-size : (rs : List (List ℕ)) → Whole rs → length (joined rs) ≡ length rs * 32
 joined-size [] h = refl
 joined-size (r ∷ rs) h =
@@ -50,6 +54,7 @@ whole-at (r ∷ rs) (suc i) w h = whole-at rs i (w .1) (omega arith)
 abbrev pub Local : (List ℕ → List ℕ) → Type 0
 Local f = (r t : List ℕ) → length r ≡ 32 → f (r ++ t) ≡ f r ++ t
 
+-- a change of record i in the words is that change in the list of records
 pub joined-changed : (f : List ℕ → List ℕ) → Local f → (rs : List (List ℕ)) (i : ℕ) (z : List ℕ) → Whole rs → i < length rs → inRecord i f (joined rs ++ z) ≡ joined (changed i f rs) ++ z
 joined-changed f loc [] i z k h = absurd (omega arith)
 joined-changed f loc (r ∷ rs) zero z k h = ap f (append-assoc r (joined rs) z) ∙ loc r (joined rs ++ z) (k .0) ∙ sym (append-assoc (f r) (joined rs) z)
@@ -86,14 +91,17 @@ text-local o k s n h r t e = ap (marked k) (pair-local o s n h r t e) ∙ marked
 
 -- a text put where it is taken
 module _ (o k s n : ℕ) where
+  -- putting a text, or leaving it out where it isn't taken, touches one record alone
   pub kept-local : (taken : Bool) → o + 1 < 32 → Local (kept taken (putText o k s n))
   kept-local true h = text-local o k s n h
   kept-local false h = λ r t e. refl
 
+  -- putting a text, or leaving it out, leaves the record's length
   pub kept-size : (taken : Bool) (r : List ℕ) → length (kept taken (putText o k s n) r) ≡ length r
   kept-size true r = text-length o k s n r
   kept-size false r = refl
 
+  -- putting a text, or leaving it out, leaves the record's kind
   pub kept-kind : (taken : Bool) → 2 ≤ o → (r : List ℕ) → getD (kept taken (putText o k s n) r) 0 0 ≡ getD r 0 0
   kept-kind true h r = marked-other k (putPair o s n r) 0 (omega arith) ∙ pair-other o s n r 0 (omega arith) (omega arith)
   kept-kind false h r = refl
@@ -106,6 +114,7 @@ killed-local (w ∷ ws) t e = go (ltb w 16)
     go true = refl
     go false = refl
 
+-- a record marked dead is as long as it was
 pub killed-size : (r : List ℕ) → length (killed r) ≡ length r
 killed-size r = go (ltb (getD r 0 0) 16)
   where
@@ -114,6 +123,7 @@ killed-size r = go (ltb (getD r 0 0) 16)
     go false = refl
 
 -- ---- kinds of records killed
+-- a record that is dead is left as it is
 pub killed-dead : (r : List ℕ) → 16 ≤ getD r 0 0 → killed r ≡ r
 killed-dead r h = ap (λ (b : Bool). cond b (set r 0 (getD r 0 0 + 16)) r) (le-ltb (getD r 0 0) 16 h)
 
@@ -127,11 +137,13 @@ killed-kind (w ∷ ws) h = go (ltb w 16) refl
     go false q = ltb-false w 16 q
 
 -- ---- a list of records changed
+-- a change of one record leaves the number of records
 pub changed-size : (f : List ℕ → List ℕ) (i : ℕ) (rs : List (List ℕ)) → length (changed i f rs) ≡ length rs
 changed-size f i [] = refl
 changed-size f zero (r ∷ rs) = refl
 changed-size f (suc i) (r ∷ rs) = ap suc (changed-size f i rs)
 
+-- records stay whole if one of them is changed and keeps its length
 pub changed-whole : (f : List ℕ → List ℕ) → ((r : List ℕ) → length (f r) ≡ length r) → (i : ℕ) (rs : List (List ℕ)) → Whole rs → Whole (changed i f rs)
 changed-whole f h i [] w = w
 changed-whole f h zero (r ∷ rs) w = (h r ∙ w .0, w .1)
@@ -159,9 +171,11 @@ changed-kind f h (suc i) (r ∷ rs) zero = refl
 changed-kind f h (suc i) (r ∷ rs) (suc j) = changed-kind f h i rs j
 
 -- ---- records behind records
+-- the kinds of records that others stand behind
 pub kind-front : (rs qs : List (List ℕ)) (i : ℕ) → i < length rs → kindIn (rs ++ qs) i ≡ kindIn rs i
 kind-front rs qs i h = ap (λ (r : List ℕ). getD r 0 0) (List·getD-append rs qs [] i h)
 
+-- the kinds of records that stand behind others
 pub kind-behind : (rs qs : List (List ℕ)) (j : ℕ) → kindIn (rs ++ qs) (length rs + j) ≡ kindIn qs j
 kind-behind rs qs j = ap (λ (r : List ℕ). getD r 0 0) (getD-append-add rs qs j [])
 

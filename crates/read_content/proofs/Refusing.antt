@@ -16,6 +16,7 @@ use Rattle.read_content.specs.declared.Performed.the-variants.{Not}
 pub fault-place : (p : Place) (why : Cause) → p .attribute ≡ nowhere → _≡_ {A = Outcome Content} (refusedAt p why) (refused (faultAt p (faultOf why)))
 fault-place p why e = ap (λ (n : ℕ). refused (record { cause = why; path = p .path; event = p .event; attribute = n })) e
 
+-- the code's fault is the definition's refusal, where no attribute is to be named
 pub halts : {Q : CodedContent → Content → Type 0} {words text scratch attributes source : List ℕ} (p : Place) (why : Cause) {o : Outcome Content} {r : Performed}
     → p .attribute ≡ nowhere → o ≡ refusedAt p why → r ≡ Not (faultOf why) → Comes Q p words text scratch attributes source o r
 halts {Q} {words} {text} {scratch} {attributes} {source} p why {o} {r} a e q =

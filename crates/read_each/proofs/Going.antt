@@ -36,6 +36,7 @@ spacious own text = record { records = some (own / 32); text = some text; scratc
 abbrev pub somewhere : Place
 somewhere = record { path = []; event = 0; attribute = 0 }
 
+-- areas are always roomy enough for rooms made of their own lengths: to use a contract once for its bounds
 pub roomy-spacious : (own text : ℕ) → Roomy (spacious own text) 0 own text
 unfolding fits
 roomy-spacious own text = record { for-records = λ n. go n (leb (n * 32) own) refl; for-text = λ n. refl }
@@ -50,9 +51,11 @@ pub record Gone (own text : List ℕ) (m : Outcome Given) (given : Counted) : Ty
   pub holds : Held own text (given .extras) (given .fill) said
   pub same : m ≡ accepted said
 
+-- what a step that went on tells, with the place left out
 pub gone : {p : Place} {own text : List ℕ} {m : Outcome Given} {given : Counted} → Matches p own text m (step.To given) → Gone own text m given
 gone (went {s = g} h) = record { said = g; holds = h; same = refl }
 
+-- a step that halted tells that the definition refuses with this fault
 pub halted : {p : Place} {own text : List ℕ} {m : Outcome Given} {f : Fault} → Matches p own text m (step.Not f) → m ≡ refused (faultAt p f)
 halted stopped = refl
 

@@ -36,6 +36,7 @@ module _ (attributes source : List ℕ) where
       ∙ keys-more (j - first) first
       ∙ ap (λ (k : ℕ). keysOf (attributesFrom attributes source (j - first) first) ++ (keyAt attributes source k ∷ [])) z
 
+  -- where no key is repeated, an attribute's key isn't among those before it
   pub free-key : (first end j : ℕ) → Unrepeated attributes source first end → first ≤ j → j < end
       → among (keyAt attributes source j) (keysOf (attributesFrom attributes source (j - first) first)) ≡ false
   free-key first end j f l h = among-none (keyAt attributes source j) (j - first) first (λ k a b. f k j a (omega arith) h)

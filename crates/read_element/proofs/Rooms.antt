@@ -28,6 +28,7 @@ IsShort why = (why ≡ cause.RecordsSpent) ⊎ ((why ≡ cause.TextFull) ⊎ (wh
 pub data Short {A : Type 0} : Outcome A → Type 0 where
   lacking : {r : Refused} → IsShort (r .cause) → Short (refused r)
 
+-- an outcome that is short is a refusal with 12, 13 or 14
 pub short-refusal : {A : Type 0} {m : Outcome A} → Short m → (r : Refused) × (m ≡ refused r) × IsShort (r .cause)
 short-refusal (lacking {r = r} h) = (r, refl, h)
 
@@ -36,6 +37,7 @@ pub data Agrees {A : Type 0} : Outcome A → Outcome A → Type 0 where
   same : {m : Outcome A} → Agrees m m
   lacks : {m n : Outcome A} → Short m → Agrees m n
 
+-- with less room an outcome is the same or is short: for who asks which
 pub agreed : {A : Type 0} {m n : Outcome A} → Agrees m n → (m ≡ n) ⊎ Short m
 agreed same = inl refl
 agreed (lacks h) = inr h
@@ -66,6 +68,7 @@ unfolding _>>=_
 then-bind (accepted a) k = k a
 then-bind (refused r) k = same
 
+-- agreement goes along one part behind another
 pub bind : {A B : Type 0} {m n : Outcome A} {f g : A → Outcome B} → Agrees m n → ((a : A) → Agrees (f a) (g a)) → Agrees (m >>= f) (n >>= g)
 unfolding _>>=_
 bind (same {m = m}) k = then-bind m k
@@ -77,6 +80,7 @@ unfolding need
 needing true p why h = h
 needing false p why h = same
 
+-- agreement goes along a choice that doesn't depend on the room
 pub choosing : {A : Type 0} (b : Bool) {m n k l : Outcome A} → Agrees m n → Agrees k l → Agrees (cond b m k) (cond b n l)
 choosing true h j = h
 choosing false h j = j
@@ -92,6 +96,7 @@ pub record Wider (rooms rooms′ : Rooms) : Type 0 where
   pub text : AtLeast (rooms .text) (rooms′ .text)
   pub scratch : AtLeast (rooms .scratch) (rooms′ .scratch)
 
+-- no limit is at least as wide as any rooms
 pub wider-unlimited : (rooms : Rooms) → Wider rooms unlimited
 wider-unlimited rooms = record { records = unbounded; text = unbounded; scratch = unbounded }
 
@@ -127,9 +132,11 @@ module _ (rooms rooms′ : Rooms) (w : Wider rooms rooms′) where
       → Agrees (need (fits (rooms .records) n) p cause.RecordsSpent k) (need (fits (rooms′ .records) n) p cause.RecordsSpent l)
   records-fit n p h = fitting (w .records) n p cause.RecordsSpent (inl refl) h
 
+  -- the test for text room: with less room it may refuse, and then with 13
   pub text-fits : {A : Type 0} (n : ℕ) (p : Place) {k l : Outcome A} → Agrees k l → Agrees (need (fits (rooms .text) n) p cause.TextFull k) (need (fits (rooms′ .text) n) p cause.TextFull l)
   text-fits n p h = fitting (w .text) n p cause.TextFull (inr (inl refl)) h
 
+  -- the test for scratch room: with less room it may refuse, and then with 14
   pub scratch-fits : {A : Type 0} (n : ℕ) (p : Place) {k l : Outcome A} → Agrees k l
       → Agrees (need (fits (rooms .scratch) n) p cause.ScratchFull k) (need (fits (rooms′ .scratch) n) p cause.ScratchFull l)
   scratch-fits n p h = fitting (w .scratch) n p cause.ScratchFull (inr (inr refl)) h
@@ -174,6 +181,7 @@ module _ (rooms rooms′ : Rooms) (w : Wider rooms rooms′) where
       λ h.
       attributes-agree p used kind (before ++ (x .key ∷ [])) (j + 1) xs h
 
+  -- an element read with less room comes to the same, or to a refusal for lack of room
   pub element-agrees : (p : Place) (kind j : ℕ) (xs : List Attribute) (records : List (List ℕ)) (texts : List ℕ) →
       Agrees (readElement rooms p kind j xs records texts) (readElement rooms′ p kind j xs records texts)
   unfolding readElement

@@ -31,20 +31,24 @@ pub data ByRules {A : Type 0} : Outcome A → Type 0 where
   fine : {a : A} → ByRules (accepted a)
   low : {r : Refused} → OfRules (number (r .cause)) → ByRules (refused r)
 
+-- a refusal by the rules has one of the rules' numbers
 pub low-number : {A : Type 0} {m : Outcome A} (r : Refused) → ByRules m → m ≡ refused r → OfRules (number (r .cause))
 low-number r fine e = let z : _≡_ {A = ℕ} 0 1 = cc in absurd (omega arith)
 low-number r (low {r = q} h) e = let z : q ≡ r = cc in subst (λ (x : Refused). OfRules (number (x .cause))) z h
 
+-- refusing by the rules alone goes along one part behind another
 pub low-bind : {A B : Type 0} {m : Outcome A} {f : A → Outcome B} → ByRules m → ((a : A) → ByRules (f a)) → ByRules (m >>= f)
 unfolding _>>=_
 low-bind (fine {a = a}) k = k a
 low-bind (low h) k = low h
 
+-- a demand refuses by the rules if its cause is one of theirs
 pub low-need : {A : Type 0} (b : Bool) (p : Place) (why : Cause) → OfRules (number why) → {m : Outcome A} → ByRules m → ByRules (need b p why m)
 unfolding need
 low-need true p why l h = h
 low-need false p why l h = low l
 
+-- refusing by the rules alone goes along a choice
 pub low-cond : {A : Type 0} (b : Bool) {m n : Outcome A} → ByRules m → ByRules n → ByRules (cond b m n)
 low-cond true h k = h
 low-cond false h k = k
@@ -92,6 +96,7 @@ low-attributes p used kind before j (x ∷ xs) g =
     (low-need _ (numbered p j) cause.RepeatedKey (inl (lit≤ tt)) (low-role (numbered p j) used kind (keyOf (x .key)) (roleOf kind (keyOf (x .key))) x g))) λ h.
     low-attributes p used kind (before ++ (x .key ∷ [])) (j + 1) xs h
 
+-- reading an element with no limit refuses by the rules alone
 pub low-element : (p : Place) (kind j : ℕ) (xs : List Attribute) (records : List (List ℕ)) (texts : List ℕ) → ByRules (readElement unlimited p kind j xs records texts)
 unfolding readElement complete
 low-element p kind j xs records texts =

@@ -50,6 +50,7 @@ pub record Stored (rooms : Rooms) (t : List ℕ) : Type 0 where
 pub grows-refl : (s : List ℕ) → Grows s s
 grows-refl s = record { more = []; whole = sym (append-nil s); sound = refl }
 
+-- a text of UTF-8 put behind the texts is growth by whole characters
 pub grows-by : (s v : List ℕ) → utf8 v ≡ true → Grows s (s ++ v)
 grows-by s v e = record { more = v; whole = refl; sound = e }
 
@@ -60,6 +61,7 @@ grows-on {s} g h = record {
   sound = utf8-append (g .more) (h .more) (g .sound) ∙ h .sound;
 }
 
+-- a clean text is stored if it fits: what is to hold behind it is shown with the longer texts
 pub stores : {A : Type 0} {Q : A → Type 0} {rooms : Rooms} {texts : List ℕ} (p : Place) (v : List ℕ) {m : Outcome A}
     → utf8 v ≡ true → unfiltered v ≡ true → Stored rooms texts → (Stored rooms (texts ++ v) → Holds Q m) → Holds Q (need (fits (rooms .text) (length texts + length v)) p cause.TextFull m)
 stores {rooms = rooms} {texts = texts} p v u c s k =
@@ -95,11 +97,13 @@ record Going (rooms : Rooms) (S : Sorts) (κ used : ℕ) (start : List ℕ) (g :
   stored : Stored rooms (g .texts)
   space : fits (rooms .records) (used + 1 + length (g .extras)) ≡ true
 
+-- a change of one record leaves the number of records
 pub length-changed : (i : ℕ) (f : List ℕ → List ℕ) (rs : List (List ℕ)) → length (changed i f rs) ≡ length rs
 length-changed i f [] = refl
 length-changed zero f (r ∷ rs) = refl
 length-changed (suc i) f (r ∷ rs) = ap suc (length-changed i f rs)
 
+-- what holds of each record stays so if one is changed by what keeps it
 pub each-changed : {P : List ℕ → Type 0} (i : ℕ) (f : List ℕ → List ℕ) → ((r : List ℕ) → P r → P (f r)) → {rs : List (List ℕ)} → Each P rs → Each P (changed i f rs)
 each-changed i f h done = done
 each-changed zero f h (more {x = r} p ps) = more (h r p) ps
@@ -232,6 +236,7 @@ pub record Added (rooms : Rooms) (κ : ℕ) (T : Sorts) (records : List (List �
   pub stored : Stored rooms (g .texts)
   pub space : fits (rooms .records) (length (g .records)) ≡ true
 
+-- reading an element where it is accepted: its record and extras stand behind the others, good in a layout
 pub element-read : {rooms : Rooms} {κ : ℕ} {S T : Sorts} (p : Place) (j : ℕ) (xs : List Attribute) (records : List (List ℕ)) (texts : List ℕ)
     → Class κ S T → Stored rooms texts → Holds (Added rooms κ T records texts) (readElement rooms p κ j xs records texts)
 unfolding readElement complete

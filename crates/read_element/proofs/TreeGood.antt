@@ -57,6 +57,7 @@ pub data Final : ℕ → Sorts → Type 0 where
   suiteExtra : Final 13 (pairSorts name pair)
   caseExtra : Final 14 (pairSorts name pair)
 
+-- the kinds of good records are 1 to 14
 pub final-bounds : {κ : ℕ} {S : Sorts} → Final κ S → (1 ≤ κ) × (κ ≤ 14)
 final-bounds report = (lit≤ tt, lit≤ tt)
 final-bounds suite = (lit≤ tt, lit≤ tt)
@@ -180,6 +181,7 @@ case-good (sheet a b c m d e f g h i (named p) (two pb pc) (timed pm pd) pe pf e
     (both (outputs-good 3 a b c m d e f g h i pb pc)
     (both (text-slot r 5 18 pe (bit-flag 5 bs) (refl, refl, refl)) (both (number-slot r 6 20 pf (bit-flag 6 bs) (refl, refl, refl)) refl)))))
 
+-- a record that has the parts of its kind passes the layout's test for a record
 pub sheet-good : {κ : ℕ} {S : Sorts} {texts r : List ℕ} → Final κ S → Sheet S texts κ r → goodRecord texts r ≡ true
 unfolding bitsFor
 sheet-good report h = report-good h

@@ -10,14 +10,17 @@ pub data Holds {A : Type 0} (Q : A → Type 0) : Outcome A → Type 0 where
   accept : {a : A} → Q a → Holds Q (accepted a)
   refuse : {r : Refused} → Holds Q (refused r)
 
+-- what holds of an accepted outcome holds of what it carries
 pub held : {A : Type 0} {Q : A → Type 0} {a : A} → Holds Q (accepted a) → Q a
 held (accept h) = h
 
+-- what holds behind the first part is what the second may assume
 pub bind : {A B : Type 0} {Q : A → Type 0} {R : B → Type 0} {m : Outcome A} {f : A → Outcome B} → Holds Q m → ((a : A) → Q a → Holds R (f a)) → Holds R (m >>= f)
 unfolding _>>=_
 bind (accept {a = a} h) k = k a h
 bind refuse k = refuse
 
+-- what follows from it holds of the outcome too
 pub weaken : {A : Type 0} {Q R : A → Type 0} {m : Outcome A} → Holds Q m → ((a : A) → Q a → R a) → Holds R m
 weaken (accept {a = a} h) k = accept (k a h)
 weaken refuse k = refuse
@@ -34,6 +37,7 @@ unfolding there
 answered p (gives x) = accept refl
 answered p (refuses n) = refuse
 
+-- both ways of a choice, each with what the test told
 pub either : {A : Type 0} {Q : A → Type 0} (b : Bool) {m n : Outcome A} → (b ≡ true → Holds Q m) → (b ≡ false → Holds Q n) → Holds Q (cond b m n)
 either true h k = h refl
 either false h k = k refl

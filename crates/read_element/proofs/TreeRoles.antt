@@ -64,6 +64,7 @@ pub data Class : ℕ → Sorts → Sorts → Type 0 where
   rerunFailure : Class 11 runSorts runSorts
   rerunError : Class 12 runSorts runSorts
 
+-- the parts of an element's record, once its attributes are read, are those of its kind in a layout
 pub class-final : {κ : ℕ} {S T : Sorts} → Class κ S T → Final κ T
 class-final report = TreeGood.report
 class-final suite = TreeGood.suite
@@ -94,6 +95,7 @@ property-roles x = by-key (more (as-first refl) (more (as-value refl) done)) as-
 count-roles : {S : Sorts} {κ : ℕ} → S .second ≡ count → S .third ≡ count → S .fourth ≡ count → S .fifth ≡ count → S .sixth ≡ number → Each (λ x. Suits S κ (x .1)) countKeys
 count-roles a b c d e = more (as-tests a) (more (as-failures b) (more (as-errors c) (more (as-skipped d) (more (as-disabled e) done))))
 
+-- whatever attribute comes, what it may put suits the record of its element
 pub class-roles : {κ : ℕ} {S T : Sorts} → Class κ S T → (x : ℕ) → Suits S κ (roleOf κ x)
 unfolding roleOf reportRole suiteRole caseRole
 class-roles report x =

@@ -122,9 +122,11 @@ pub data Sheet (S : Sorts) (texts : List ℕ) (κ : ℕ) : List ℕ → Type 0 w
       → Fits texts (S .second) e → Fits texts (S .third) f → Fits texts (S .fourth) g → Fits texts (S .fifth) h → Fits texts (S .sixth) i
       → Sheet S texts κ (κ ∷ flagsOf (flags a b c m d e f g i) ∷ rest a b c m d e f g h i)
 
+-- a record's kind, from its parts
 pub sheet-kind : {S : Sorts} {texts : List ℕ} {κ : ℕ} {r : List ℕ} → Sheet S texts κ r → kindOf r ≡ κ
 sheet-kind (sheet a b c m d e f g h i pa pb pt pe pf pg ph pi) = refl
 
+-- a record has 32 words
 pub sheet-size : {S : Sorts} {texts : List ℕ} {κ : ℕ} {r : List ℕ} → Sheet S texts κ r → length r ≡ 32
 sheet-size (sheet a b c m d e f g h i pa pb pt pe pf pg ph pi) = refl
 
@@ -151,6 +153,7 @@ module _ {s t : List ℕ} (w : Grows s t) where
   middle-more (full-value {a = a} {n = n} p) = full-value (good-more a n w p)
   middle-more without = without
 
+  -- a record stays good when the texts grow
   pub sheet-more : {S : Sorts} {κ : ℕ} {r : List ℕ} → Sheet S s κ r → Sheet S t κ r
   sheet-more (sheet a b c m d e f g h i pa pb pt pe pf pg ph pi) =
       sheet a b c m d e f g h i (fits-more pa) (middle-more pb) pt (fits-more pe) (fits-more pf) (fits-more pg) (fits-more ph) (fits-more pi)
@@ -212,6 +215,7 @@ module _ {S : Sorts} {texts : List ℕ} {κ : ℕ} where
       subst (Sheet S texts κ) (sym (marked-flags κ 0 (flags a b c m d e f g i) (rest (valued x n) b c m d e f g h i) (lit≤ tt) (lit≤ tt)))
       (sheet (valued x n) b c m d e f g h i (into q (placed h')) pb pt pe pf pg ph pi)
 
+  -- standard output may be put where the kind has outputs
   pub put-out : {r : List ℕ} (x n : ℕ) → goodAt texts x n ≡ true → S .middle ≡ outputs → Sheet S texts κ r → Sheet S texts κ (putText 4 1 x n r)
   put-out x n h' q (sheet a b c m d e f g h i pa pb pt pe pf pg ph pi) =
       subst (Sheet S texts κ) (sym (marked-flags κ 1 (flags a b c m d e f g i) (rest a (valued x n) c m d e f g h i) (lit≤ tt) (lit≤ tt)))
@@ -222,6 +226,7 @@ module _ {S : Sorts} {texts : List ℕ} {κ : ℕ} where
       subst (Sheet S texts κ) (sym (marked-flags κ 1 (flags a b c m d e f g i) (rest a (valued x n) c m d e f g h i) (lit≤ tt) (lit≤ tt)))
       (sheet a (valued x n) c m d e f g h i pa (new-value q h' pb) pt pe pf pg ph pi)
 
+  -- standard error may be put where the kind has outputs
   pub put-err : {r : List ℕ} (x n : ℕ) → goodAt texts x n ≡ true → S .middle ≡ outputs → Sheet S texts κ r → Sheet S texts κ (putText 6 2 x n r)
   put-err x n h' q (sheet a b c m d e f g h i pa pb pt pe pf pg ph pi) =
       subst (Sheet S texts κ) (sym (marked-flags κ 2 (flags a b c m d e f g i) (rest a b (valued x n) m d e f g h i) (lit≤ tt) (lit≤ tt)))
@@ -232,11 +237,13 @@ module _ {S : Sorts} {texts : List ℕ} {κ : ℕ} where
       subst (Sheet S texts κ) (sym (marked-flags κ 5 (flags a b c m d e f g i) (rest a b c m d (valued x n) f g h i) (lit≤ tt) (lit≤ tt)))
       (sheet a b c m d (valued x n) f g h i pa pb pt (into q (placed h')) pf pg ph pi)
 
+  -- a text may be put at word 20 where the kind has one there: descriptions
   pub put-third : {r : List ℕ} (x n : ℕ) → goodAt texts x n ≡ true → S .third ≡ text → Sheet S texts κ r → Sheet S texts κ (putText 20 6 x n r)
   put-third x n h' q (sheet a b c m d e f g h i pa pb pt pe pf pg ph pi) =
       subst (Sheet S texts κ) (sym (marked-flags κ 6 (flags a b c m d e f g i) (rest a b c m d e (valued x n) g h i) (lit≤ tt) (lit≤ tt)))
       (sheet a b c m d e (valued x n) g h i pa pb pt pe (into q (placed h')) pg ph pi)
 
+  -- a text may be put at word 22 where the kind has one there: stack traces
   pub put-fourth : {r : List ℕ} (x n : ℕ) → goodAt texts x n ≡ true → S .fourth ≡ text → Sheet S texts κ r → Sheet S texts κ (putText 22 7 x n r)
   put-fourth x n h' q (sheet a b c m d e f g h i pa pb pt pe pf pg ph pi) =
       subst (Sheet S texts κ) (sym (marked-flags κ 7 (flags a b c m d e f g i) (rest a b c m d e f (valued x n) h i) (lit≤ tt) (lit≤ tt)))

@@ -24,10 +24,12 @@ use Rattle.refusal.specs.declared.Cause.the-variants as cause
 use Rattle.refusal.specs.declared.Cause.{Cause}
 
 module _ {p : Place} {own text : List ℕ} {b : Bool} (n : Cause) (m : Outcome Given) where
+  -- the code's test held: what meets the outcome behind the demand meets the whole
   pub meets-need : {a : Answer (ℕ × ℕ)} → b ≡ true → Meets p own text m a → Meets p own text (need b p n m) a
   unfolding need
   meets-need e x = rw e x
 
+  -- the code's test failed: its refusal is the definition's
   pub meets-refused : b ≡ false → Meets p own text (need b p n m) (refuses n)
   unfolding need
   meets-refused e = rw e stopped
@@ -49,18 +51,21 @@ module _ {own text : List ℕ} {extras fill : ℕ} {g : Given} (hd : Held own te
   pub text-left : length text - fill ≡ hd .left
   text-left = let s = text-size text (g .texts) (hd .left) (hd .stored) in let f = hd .filled in omega arith
 
+  -- a text put behind those that the area holds: the definition's texts with it at the end, and zeros
   pub text-grown : (v text′ : List ℕ) → length v ≤ length text - fill → text′ ≡ take fill text ++ laid (drop fill text) v → text′ ≡ (g .texts ++ v) ++ zeros (hd .left - length v)
   text-grown v text′ h e =
       e ∙ ap (λ (n : ℕ). take n text ++ laid (drop n text) v) (hd .filled)
       ∙ text-behind text (g .texts) (hd .left) (hd .stored) v (let l = text-left in omega arith)
 
   module _ {rooms : Rooms} {used : ℕ} (ro : Roomy rooms used (length own) (length text)) (v : List ℕ) where
+    -- a text that fits the area fits the definition's rooms
     pub text-room : length v ≤ length text - fill → fits (rooms .text) (length (g .texts) + length v) ≡ true
     text-room h =
         let s = text-size text (g .texts) (hd .left) (hd .stored) in
         let f = hd .filled in
         ro .for-text (length (g .texts) + length v) ∙ le-leb (length (g .texts) + length v) (length text) (omega arith)
 
+    -- a text that doesn't fit the area doesn't fit the definition's rooms
     pub text-none : length text - fill < length v → fits (rooms .text) (length (g .texts) + length v) ≡ false
     text-none h =
         let f = hd .filled in

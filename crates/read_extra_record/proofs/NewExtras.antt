@@ -26,12 +26,14 @@ use Rattle.read_extra_record.proofs.Storing.{end-put, end-full, text-si
 use Rattle.read_extra_record.proofs.Extras.{meets-need, meets-refused, behind-main, text-grown, text-room, text-none}
 use Rattle.refusal.specs.declared.Cause.the-variants as cause
 
+-- setting a presence bit touches the first record alone
 pub marked-local : (k : ℕ) → Local (marked k)
 marked-local k r t e =
     sym (take-append-drop 32 (marked k (r ++ t)))
     ∙ ap (λ (x : List ℕ). x ++ drop 32 (marked k (r ++ t))) (marked-front k (r ++ t) 32 (omega arith) ∙ ap (marked k) (take-at r t 32 e))
     ∙ ap (λ (x : List ℕ). marked k r ++ x) (marked-behind k (r ++ t) 32 (omega arith) ∙ drop-at r t 32 e)
 
+-- putting a text's place touches the first record alone
 pub text-local : (o k s n : ℕ) → o + 1 < 32 → Local (putText o k s n)
 text-local o k s n h r t e = ap (marked k) (pair-local o s n h r t e) ∙ marked-local k (putPair o s n r) t (pair-length o s n r ∙ e)
 
@@ -85,6 +87,7 @@ keyed-snoc n [] r k a b = (a, (b, tt))
 keyed-snoc n (x ∷ rs) r k a b = (k .0, (k .1 .0, keyed-snoc n rs r (k .1 .1) a b))
 
 module _ {own text : List ℕ} {extras fill : ℕ} {g : Given} (hd : Held own text extras fill g) where
+  -- the element's words: its record, its extras' records, and the room behind them
   pub own-size : length own ≡ 32 + (extras * 32 + hd .room)
   own-size =
       ap length (hd .records) ∙ length-append (g .main) (joined (g .extras) ++ zeros (hd .room))

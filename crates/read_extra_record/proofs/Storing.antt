@@ -35,6 +35,7 @@ module _ (fill n : ℕ) (v : List ℕ) where
 
 -- a text behind texts
 module _ (text t : List ℕ) (left : ℕ) (e : text ≡ t ++ zeros left) where
+  -- the text area's length: the texts, and what is left
   pub text-size : length text ≡ length t + left
   text-size = ap length e ∙ length-append t (zeros left) ∙ ap (λ (n : ℕ). length t + n) (length-replicate {A = ℕ} left 0)
 
@@ -71,6 +72,7 @@ extras-changed f loc n (r ∷ rs) (suc i) z k h =
     ∙ ap (λ (x : List ℕ). r ++ x) ih
     ∙ sym (append-assoc r (joined (changed i f rs)) z)
 
+-- putting two words touches the first record alone
 pub pair-local : (o a b : ℕ) → o + 1 < 32 → Local (putPair o a b)
 pair-local o a b h r t e =
     ap (λ (x : List ℕ). set x (o + 1) b) (set-append-left r t o a (omega arith))

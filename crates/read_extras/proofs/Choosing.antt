@@ -58,6 +58,7 @@ place-from own texts z key (r ∷ rs) i y e k = go (sameBytes (textAt texts r 2)
         by true = omega arith
         by false = omega arith
 
+-- the code's search for a key among the extras in the area is the definition's among its records
 pub place-held : {own text : List ℕ} {extras fill : ℕ} {g : Given} → Held own text extras fill g → (key : List ℕ) → placeAt own text key extras 0 ≡ placeOf (g .texts) key (g .extras)
 place-held {own} {text} {extras} {fill} {g} hd key =
     ap (λ (t : List ℕ). placeAt own t key extras 0) (hd .stored)

@@ -203,6 +203,7 @@ unfolding run
 low-run [] s = low-step Eof s
 low-run (e ∷ es) s = low-bind (low-step e s) λ t. low-run es t
 
+-- with no limit, a table is refused with a number of the rules only
 pub run-number : (es : List Event) (s : Machine) (r : Refused) → run unlimited es s ≡ refused r → OfRules (number (r .cause))
 run-number es s r e = low-number r (low-run es s) e
 
@@ -212,6 +213,7 @@ not-room (inl h) l m = omega arith
 not-room (inr (inl e)) l m = omega arith
 not-room (inr (inr e)) l m = omega arith
 
+-- a number of the rules is none of 12 to 14
 pub rules-not-short : (why : Cause) → OfRules (number why) → ¬ IsShort why
 rules-not-short why h (inl e) = let z : number why ≡ 12 = ap number e in not-room h (omega arith) (omega arith)
 rules-not-short why h (inr (inl e)) = let z : number why ≡ 13 = ap number e in not-room h (omega arith) (omega arith)

@@ -40,6 +40,7 @@ module _ (rooms : Rooms) (j : ℕ) (xs : List Attribute) (s : Machine) where
   unfolding act perform turn marksAfter _>>=_
   act-passes m = refl
 
+  -- the act at the end of the report: reading is finished, one event further, and the content is as it was
   pub act-stops : act rooms stop j xs s ≡ accepted (moved finished (s .marks .event + 1) s)
   unfolding act perform turn marksAfter _>>=_
   act-stops = refl

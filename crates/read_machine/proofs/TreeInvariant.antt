@@ -193,6 +193,7 @@ ended (listing l) seen closed t k c s w = refuse
 ended (skipping l skipped depth) seen closed t k c s w = refuse
 ended finished seen closed t k c s w = accept (record { sound = s; order = w })
 
+-- a run from a good state: where it is accepted, its records and texts are such as a layout has
 pub ran : {rooms : Rooms} {es : List Event} (s : Machine) → Each FairEvent es → Good rooms s → Holds (Ended rooms) (run rooms es s)
 unfolding run
 ran s done g = ended (s .control .mode) (s .control .seen) (s .control .closed) (s .control .tally) (s .marks) (s .content) (g .sound) (g .order)

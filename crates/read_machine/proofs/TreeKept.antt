@@ -84,6 +84,7 @@ pub all-killed : {texts : List ℕ} {rs : List (List ℕ)} → Each (Kept texts)
 all-killed done = done
 all-killed (more k ks) = more (kept-killed k) (all-killed ks)
 
+-- marking all records dead leaves their number
 pub length-all : (rs : List (List ℕ)) → length (killAll rs) ≡ length rs
 length-all [] = refl
 length-all (r ∷ rs) = ap suc (length-all rs)
@@ -97,6 +98,7 @@ kind-killed-kept κ i done = done
 kind-killed-kept κ zero (more {x = r} k ks) = more (kept-cond (eqb (kindOf r) κ) (kept-killed k) k) (kind-killed-kept κ zero ks)
 kind-killed-kept κ (suc i) (more k ks) = more k (kind-killed-kept κ i ks)
 
+-- marking a kind dead leaves the number of records
 pub length-kind : (κ i : ℕ) (rs : List (List ℕ)) → length (killKind κ i rs) ≡ length rs
 length-kind κ i [] = refl
 length-kind κ zero (r ∷ rs) = ap suc (length-kind κ zero rs)

@@ -17,6 +17,7 @@ abbrev pub kinds : List (List ℕ) → List ℕ
 kinds [] = []
 kinds (r ∷ rs) = kindOf r ∷ kinds rs
 
+-- the kinds of records behind records
 pub kinds-append : (rs qs : List (List ℕ)) → kinds (rs ++ qs) ≡ kinds rs ++ kinds qs
 kinds-append [] qs = refl
 kinds-append (r ∷ rs) qs = ap (λ (l : List ℕ). kindOf r ∷ l) (kinds-append rs qs)

@@ -110,6 +110,7 @@ skip-plan {seen} l skipped depth End name = go (sameBytes name skipped) depth
     go true (suc d) = skips-on
     go false d = skips-on
 
+-- each act that a tag gives is one of its mode's: proofs on acts go by the list of these
 pub tag-plan : (m : Mode) (seen : Bool) (k : TagKind) (name : List ℕ) → Planned seen m (planAt m seen k name)
 unfolding planAt
 tag-plan (at top) seen k name = top-plan seen k (tagOf name)
@@ -121,6 +122,7 @@ tag-plan (listing l) seen k name = list-plan l k (tagOf name)
 tag-plan (skipping l skipped depth) seen k name = skip-plan l skipped depth k name
 tag-plan finished seen k name = stays
 
+-- each act that Eof gives is one of its mode's
 pub eof-plan : (m : Mode) (seen closed : Bool) → Planned seen m (planEof m seen closed)
 unfolding planEof
 eof-plan (at top) seen closed = choose seen (λ e. pick closed (stops e) breaks) (λ e. misses)
@@ -132,6 +134,7 @@ eof-plan (listing l) seen closed = breaks
 eof-plan (skipping l skipped depth) seen closed = breaks
 eof-plan finished seen closed = stays
 
+-- each act that Fault gives is one of its mode's
 pub fault-plan : {seen : Bool} (m : Mode) → Planned seen m (planFault m)
 unfolding planFault
 fault-plan (at l) = breaks

@@ -29,6 +29,7 @@ use Rattle.read_content.proofs.Listing.{added-listed, new-listed, one-listed, l
 no : {A : Type 0} → _≡_ {A = Bool} false true → A
 no e = absurd (let z : _≡_ {A = ℕ} 0 1 = ap (λ (b : Bool). cond b 1 0) e in omega arith)
 
+-- what follows from what is known behind an act may be told in its place
 pub comes-on : {Q R : CodedContent → Content → Type 0} {p : Place} {words text scratch attributes source : List ℕ} {o : Outcome Content} {r : Performed}
     → Comes Q p words text scratch attributes source o r → ((c : CodedContent) (s : Content) → Q c s → R c s) → Comes R p words text scratch attributes source o r
 comes-on (went {s = s} {c = c} (h, q)) k = went (h, k c s q)
@@ -194,6 +195,7 @@ module _ {words text scratch attributes source : List ℕ} {c : CodedContent} {s
   property-comes p l rooms j xs {kind} {old} {words′} {text′} {added} {r} ke li oe f q =
       rw (q, oe) (property-on p l li (subst (λ (k : ℕ). Comes (Added k c s) p words′ text′ scratch attributes source (adding rooms p k j xs s) added) ke f))
 
+  -- a list has no more properties than there are records: the bound of its count
   pub few-properties : (l : Level) → Lists (listing l) m c s → listOf l c .count ≤ c .used
   few-properties top li = absurd (li .1 .1)
   few-properties suite li = let e = li .1 .1 in omega arith
@@ -271,6 +273,7 @@ module _ (m : Marks) (c : CodedContent) (s : Content) where
   opens-status kind a b d (skipping l name depth) e li = no e
   opens-status kind a b d finished e li = no e
 
+-- the kinds of elements that a mode opens are 1 to 12
 pub opens-bounds : (kind : ℕ) (mode : Mode) → opens kind mode ≡ true → (1 ≤ kind) × (kind ≤ 12)
 opens-bounds kind (at top) e = go (eqb kind 1) refl (eqb kind 2) refl e
   where

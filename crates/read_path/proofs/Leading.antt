@@ -34,6 +34,7 @@ pub with-key : (p : Path) (key : ℕ) → (key ≡ 0 → ⊥) → longer p (attr
 with-key p zero n = absurd (n refl)
 with-key p (suc k) n = refl
 
+-- a path of at most five elements has room for an Attribute, and the code puts it there
 pub leads-within : {p : Path} {es : List PathElement} (key : ℕ) → Leads p es → length es ≤ 5 → Leads (withAttribute p key) (pathTo es key)
 leads-within zero l h = l
 leads-within {p} {es} (suc k) l h = leads-with {e = attributeElement (suc k)} l refl refl h

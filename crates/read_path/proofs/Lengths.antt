@@ -30,6 +30,7 @@ level-room l m = omega (arith, level-short l m)
 one-more : (l : Level) (m : Marks) (e : PathElement) → length (levelPath l m ++ (e ∷ [])) ≤ 5
 one-more l m e = omega (arith, level-short l m, length-append (levelPath l m) (e ∷ []))
 
+-- a mode's path has at most five elements
 pub mode-short : (mode : Mode) (m : Marks) → length (modePath mode m) ≤ 5
 mode-short (at l) m = level-room l m
 mode-short (gathering l o) m = one-more l m _
@@ -37,6 +38,7 @@ mode-short (listing l) m = one-more l m _
 mode-short (skipping l name depth) m = level-room l m
 mode-short finished m = omega arith
 
+-- the path of an act that has room has at most five elements
 pub path-short : (a : Act) (mode : Mode) (m : Marks) → hasRoom a ≡ true → length (pathOf a mode m) ≤ 5
 path-short (readProperty top) mode m h = omega arith
 path-short (readProperty suite) mode m h = omega arith
@@ -141,6 +143,7 @@ planned-room (listing status) seen k name h = absurd (h refl)
 planned-room (skipping l skipped depth) seen k name h = skip-room l skipped depth k name
 planned-room finished seen k name h = refl
 
+-- the act that Eof gives has room for an Attribute in its path
 pub eof-room : (mode : Mode) (seen closed : Bool) → hasRoom (planEof mode seen closed) ≡ true
 unfolding planEof
 eof-room (at top) seen closed = one-of seen (cond closed stop (broken cause.EofInElement)) missing (one-of closed stop (broken cause.EofInElement) refl refl) refl
@@ -152,6 +155,7 @@ eof-room (listing l) seen closed = refl
 eof-room (skipping l skipped depth) seen closed = refl
 eof-room finished seen closed = refl
 
+-- the act that Fault gives has room for an Attribute in its path
 pub fault-room : (mode : Mode) → hasRoom (planFault mode) ≡ true
 unfolding planFault
 fault-room (at l) = refl

@@ -15,6 +15,7 @@ pub level-of : (c : CodedControl) → levelOf (c .level) ≡ levelIn (modeOf c)
 level-of c = sym (level-in (c .mode) (levelOf (c .level)) (outputOf (c .output)))
 
 -- ---- the event's number
+-- an act leaves the event's number, which the step alone raises
 pub event-kept : (a : Act) (n : ℕ) (m : Marks) → marksAfter a n m .event ≡ m .event
 unfolding marksAfter
 event-kept (openReport e) n m = refl
@@ -38,9 +39,11 @@ pub goes-onward : (a : Act) (n : ℕ) (m : Marks) → goTo (m .event + 1) (marks
 goes-onward a n m = ap (λ (e : ℕ). goTo (e + 1) (marksAfter a n m)) (sym (event-kept a n m))
 
 -- ---- indices
+-- marks that are at most n are at most any larger number
 pub low-weak : {n k : ℕ} {m : Marks} → n ≤ k → Low n m → Low k m
 low-weak h l = record { event = omega arith; suiteIndex = omega arith; caseIndex = omega arith; propertyIndex = omega arith }
 
+-- marks that are at most n stay at most the event's number when reading goes on to a later event
 pub low-going : {n e : ℕ} {m : Marks} → n ≤ e → Low n m → Low e (goTo e m)
 low-going h l = record { event = omega arith; suiteIndex = omega arith; caseIndex = omega arith; propertyIndex = omega arith }
 

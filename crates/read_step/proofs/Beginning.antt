@@ -31,6 +31,7 @@ module _ (t : Tally) (m : CodedMarks) (k : CodedContent) where
   pub begun : t ≡ noStatus → marksOf m ≡ marks 0 0 0 0 0 0 0 0 0 0 → k ≡ noContent → starting t m k ≡ beginning
   begun a b e = ap (λ (x : Tally). starting x m k) a ∙ ap (λ (x : CodedMarks). starting (beginning .control .tally) x k) (no-marks b) ∙ ap (λ (x : CodedContent). starting (beginning .control .tally) (beginning .marks) x) e
 
+-- cleared areas and the first state of the code are the definition's begin
 pub begin-stands : (attributes source scratch : List ℕ) (words text : ℕ) → Stands attributes source (zeros words) (zeros text) scratch (beginning .content) (machineOf beginning nothing)
 begin-stands attributes source scratch words text =
     record {

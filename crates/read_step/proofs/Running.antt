@@ -12,6 +12,7 @@ use Rattle.read_machine.specs.Machine.{Machine, step, run, begin}
 use Rattle.read_step.specs.inside.Standing.{runOn}
 
 module _ (rooms : Rooms) (events attributes source : List ℕ) where
+  -- the run of all events is the run from the first event on, as the code's loop goes
   pub run-start : run rooms (resolve events attributes source) begin ≡ runOn rooms events attributes source begin
   unfolding resolve
   run-start = let z : countOf events ≡ countOf events - 0 = omega arith in ap (λ (n : ℕ). run rooms (resolveFrom events attributes source n 0) begin) z

@@ -26,6 +26,7 @@ module _ (events attributes source : List ℕ) (good : tableOf events attributes
   checked : checkOf events attributes source ≡ Good
   checked = same-check (checkOf events attributes source) Good good
 
+  -- the sizes of a good table are in range: the bounds that the code's sums need
   pub sizes : ValidSizes (length events) (length attributes) (length source)
   sizes = good-sizes events attributes source checked
 

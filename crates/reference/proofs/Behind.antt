@@ -59,6 +59,7 @@ pub record Found (s : List ℕ) (c w : ℕ) : Type 0 where
   pub char : xmlChar c ≡ true
   pub code : c < 0x110000
 
+-- what is known where a reference was found: it ends in the text, and its character is one of XML
 pub ref-found : (s : List ℕ) (c w : ℕ) → refAt s ≡ Is c w → Found s c w
 ref-found s c w e =
     let k = ref-cut s c w e in
@@ -71,6 +72,7 @@ ref-found s c w e =
       code = char-code c x;
     }
 
+-- the bytes that a reference takes lie in the text
 pub ref-fits : (s : List ℕ) → bytesOf (refAt s) ≤ length s
 ref-fits s = go (refAt s) refl
   where

@@ -23,6 +23,7 @@ refs-drop [] (suc k) = refl
 refs-drop (b ∷ s) zero = refl
 refs-drop (b ∷ s) (suc k) = refs-drop s k
 
+-- decoding from place k on is decoding the rest
 pub decoded-drop : (s : List ℕ) (k : ℕ) → decoded s k ≡ decoded (drop k s) 0
 decoded-drop [] zero = refl
 decoded-drop [] (suc k) = refl
@@ -79,6 +80,7 @@ plain-refs (b ∷ s) e =
     let p = and-eq-true-iff (not (eqb b 0x26)) (noAmpersand s) .0 e in
     rw (not-true (eqb b 0x26) (p .0)) (plain-refs s (p .1))
 
+-- a text without ampersands stands for itself
 pub plain-decoded : (s : List ℕ) → noAmpersand s ≡ true → decoded s 0 ≡ s
 plain-decoded [] e = refl
 plain-decoded (b ∷ s) e =
@@ -90,9 +92,11 @@ module _ (name t : List ℕ) (e : isNamed name ≡ true) where
   behind : drop (suc (length name)) (name ++ 0x3B ∷ t) ≡ t
   behind = let z : suc (length name) ≡ length name + 1 = omega arith in rw (z, drop-append-add name (0x3B ∷ t) 1) refl
 
+  -- a named reference in front changes nothing about the rest's references being good
   pub refs-name : refsOk (0x26 ∷ name ++ 0x3B ∷ t) 0 ≡ refsOk t 0
   refs-name = rw (ref-name name t e) (refs-drop (name ++ 0x3B ∷ t) (suc (length name)) ∙ ap (λ (l : List ℕ). refsOk l 0) behind)
 
+  -- a named reference in front stands for its character, before what the rest stands for
   pub decoded-name : decoded (0x26 ∷ name ++ 0x3B ∷ t) 0 ≡ encode (charOf name) ++ decoded t 0
   decoded-name = rw (ref-name name t e) (ap (λ (l : List ℕ). encode (charOf name) ++ l) (decoded-drop (name ++ 0x3B ∷ t) (suc (length name)) ∙ ap (λ (l : List ℕ). decoded l 0) behind))
 
@@ -117,5 +121,6 @@ decoded-within (b ∷ s) zero = go (eqb b 0x26) (decoded-within s 0) (decoded-wi
         rw (length-append (encode (codeOf (refAt s))) (decoded s (bytesOf (refAt s)))) (omega (arith, encode-length s, ref-fits s, length-drop (bytesOf (refAt s)) s))
     go false plain over = omega arith
 
+-- a text stands for no more bytes than it has: the area for it needn't be longer
 pub decoded-length : (s : List ℕ) → length (decoded s 0) ≤ length s
 decoded-length s = decoded-within s 0

@@ -171,10 +171,12 @@ module _ (k : ℕ) (h : k < 5) where
   unfolding entities
   five-code = own-code entities own-five k h
 
+  -- each of the five names passes the test for such a name: for writing, which uses them
   pub five-entity : isEntity (getD entities k []) ≡ true
   unfolding isEntity
   five-entity = rw five-code (lt-ltb 0 (suc k) (omega arith))
 
+  -- each of the five names stands for its character: for writing, which uses them
   pub five-char : entityChar (getD entities k []) ≡ getD entityChars k 0
   unfolding entityChar
   five-char = let z : suc k - 1 ≡ k = omega arith in rw (five-code, z) refl

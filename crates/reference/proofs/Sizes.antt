@@ -64,6 +64,7 @@ module _ (name : List ℕ) where
       go true q z = omega (arith, entity-ascii name q)
       go false q z = short-number name (digits-of z) h
 
+  -- a character takes no more bytes than its name: why decoding never lengthens
   pub char-size : isNamed name ≡ true → length (encode (charOf name)) ≤ length name
   char-size e = go (decLt (length name) 4)
     where

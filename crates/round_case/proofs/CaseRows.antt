@@ -18,6 +18,7 @@ use Rattle.round_case.specs.inside.Kept.{StatusWhole}
 
 -- ---- pairs
 module _ {κ : ℕ} {texts : List ℕ} where
+  -- records that show pairs are of the pairs' kind
   pub pairs-kind : {rs : List (List ℕ)} {ps : List Pair} → PairsShown κ texts rs ps → Each (λ r. kindOf r ≡ κ) rs
   pairs-kind none = done
   pairs-kind (more h hs) = others (h .blank .kind) (pairs-kind hs)
@@ -25,6 +26,7 @@ module _ {κ : ℕ} {texts : List ℕ} where
   pairs-test : (q : ℕ → Bool) (t : Bool) → q κ ≡ t → {rs : List (List ℕ)} {ps : List Pair} → PairsShown κ texts rs ps → Each (λ r. q (kindOf r) ≡ t) rs
   pairs-test q t e h = each-on (λ r k. ap q k ∙ e) (pairs-kind h)
 
+  -- the pairs read off these records are the pairs, whatever texts are behind
   pub pairs-back : (z : List ℕ) {rs : List (List ℕ)} {ps : List Pair} → PairsShown κ texts rs ps → map (pairOf (texts ++ z)) rs ≡ ps
   pairs-back z none = refl
   pairs-back z (more h hs) = ap₂ _∷_ (h .pair z) (pairs-back z hs)

@@ -110,6 +110,7 @@ module _ (c : TestCase) (h : CaseClean c) (plain : PlainCase c) {i : ℕ} {recor
   written [] e a = alone e a
   written {n} {s} (x ∷ xs) e a = subst (λ (l : List Event). Reads n (startTag (bytes "testcase") (caseAttributes c) ∷ (l ++ (endTag (bytes "testcase") ∷ []))) s (Whole c i records texts)) e (started a)
 
+-- reading a plain case's own events behind a suite leaves records from which the case is read back
 pub case-read : (c : TestCase) → every fitsRow (caseRows c) ≡ true → PlainCase c → (n i : ℕ) (records : List (List ℕ)) (texts : List ℕ) (s : Machine) → Stands suite i records texts s
     → CaseRead i records texts (numbered n (serializeTestCase c)) c s
 unfolding serializeTestCase

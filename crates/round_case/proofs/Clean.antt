@@ -59,12 +59,14 @@ pub record Clean (t : Text) : Type 0 where
   pub plain : unfiltered t ≡ true
   pub bare : trimmed t ≡ t
 
+-- a clean text written as a Text event is gathered as itself
 pub clean-piece : {t : Text} → Clean t → pieceOf TextPiece (escaped t) ≡ gives t
 unfolding pieceOf
 clean-piece {t} c =
     sym (both-yes (utf8 (escaped t)) (refsOk (escaped t) 0) (gives (decoded (escaped t) 0)) (refuses cause.BadReference) (refuses cause.NotUtf8) (utf8-escaped t ∙ c .good) (refs-escaped t))
     ∙ ap (λ (l : List ℕ). gives l) (decoded-escaped t)
 
+-- gathered text that differs from a clean one only in white space at its ends is stored as that one
 pub clean-same : {t : Text} → Clean t → (v : List ℕ) → trimmed v ≡ trimmed t → cleaned v ≡ t
 clean-same {t} c v e = ap filtered (e ∙ c .bare) ∙ filtered-same t (c .plain)
 
@@ -78,6 +80,7 @@ abbrev pub Describes : Option Text → Type 0
 Describes none = Unit {0}
 Describes (some t) = Clean t × (isEmpty t ≡ false)
 
+-- a text that may be missing is clean where it fits a cell and has no white space at its ends
 pub cleans : (v : Option Text) → fitsCell (ofText v) ≡ true → every bare (listed v) ≡ true → Cleans v
 cleans none f b = tt
 cleans (some t) f b =

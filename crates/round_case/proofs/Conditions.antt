@@ -17,10 +17,12 @@ use Rattle.round_case.proofs.Runs.{RunClean}
 use Rattle.round_case.proofs.Statuses.{ReasonClean, StatusClean}
 
 module _ {A : Type 0} (p : A → Bool) where
+  -- what holds of every element of two lists joined holds of every one of the first
   pub every-front : (xs ys : List A) → every p (xs ++ ys) ≡ true → every p xs ≡ true
   every-front [] ys e = refl
   every-front (x ∷ xs) ys e = both (and-left (p x) (every p (xs ++ ys)) e) (every-front xs ys (and-right (p x) (every p (xs ++ ys)) e))
 
+  -- what holds of every element of two lists joined holds of every one of the second
   pub every-behind : (xs ys : List A) → every p (xs ++ ys) ≡ true → every p ys ≡ true
   every-behind [] ys e = e
   every-behind (x ∷ xs) ys e = every-behind xs ys (and-right (p x) (every p (xs ++ ys)) e)

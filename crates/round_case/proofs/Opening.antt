@@ -40,6 +40,7 @@ grows p κ j xs records texts o =
       holds = record { main = o .main; extras = o .extras; added = o .added; whole = refl; shown = o .shown; pairs = o .pairs };
     }
 
+-- no pairs take no records
 pub no-pairs : {κ : ℕ} {texts : List ℕ} {rs : List (List ℕ)} → PairsShown κ texts rs [] → rs ≡ []
 no-pairs none = refl
 

@@ -61,6 +61,7 @@ good-pairs κ (p ∷ ps) e =
     more (record { key = f .first; value = f .out }) (good-pairs κ ps (and-right (fitsRow (pairRow κ p)) (every fitsRow (map (pairRow κ) ps)) e))
 
 module _ (p : Place) (j : ℕ) (records : List (List ℕ)) (texts : List ℕ) where
+  -- a report's attributes as they are written are read into a record that shows the report
   pub report-opened : (r : Report) → fitsRow (reportRow r) ≡ true → WholeTime (r .time) → WholeMoment (r .timestamp)
       → Opened kind.report (λ t x. ReportShown t x r) [] records texts (readElement unlimited p kind.report j (reportAttributes r) records texts)
   report-opened r f d m =
@@ -68,6 +69,7 @@ module _ (p : Place) (j : ℕ) (records : List (List ℕ)) (texts : List ℕ) wh
       opened p j (reportAttributes r) g (stored (ofText (r .name))) (report-filled texts r (fitting (reportRow r) f) d m .reads .run [] j report-keys)
       (complete-report p g) refl (report-shown (length texts) r (stands-new texts (r .name))) noPairs
 
+  -- a suite's attributes as they are written are read into records that show the suite and its extras
   pub suite-opened : (s : TestSuite) → fitsRow (suiteRow s) ≡ true → every fitsRow (map (pairRow kind.suiteExtra) (s .extra)) ≡ true
       → WholeTime (s .time) → WholeMoment (s .timestamp) → goodKeys suiteKeys (keysOf (s .extra)) ≡ true
       → Opened kind.suite (λ t x. SuiteShown t x s) (s .extra) records texts (readElement unlimited p kind.suite j (suiteAttributes s) records texts)
@@ -87,6 +89,7 @@ module _ (p : Place) (j : ℕ) (records : List (List ℕ)) (texts : List ℕ) wh
       (subst (λ (t : List ℕ). SuiteShown t r s) (sym (w .grown)) (suite-later named (w .added) r (suite-shown x s (stands-new texts (some (s .name))))))
       (w .shown)
 
+  -- a case's attributes as they are written are read into records that show the case and its extras
   pub case-opened : (c : TestCase) → fitsRow (caseRow c) ≡ true → every fitsRow (map (pairRow kind.caseExtra) (c .extra)) ≡ true
       → WholeTime (c .time) → WholeMoment (c .timestamp) → goodKeys caseKeys (keysOf (c .extra)) ≡ true
       → Opened kind.case (λ t x. CaseShown t x c) (c .extra) records texts (readElement unlimited p kind.case j (caseAttributes c) records texts)
@@ -110,6 +113,7 @@ module _ (p : Place) (j : ℕ) (records : List (List ℕ)) (texts : List ℕ) wh
       (case-shown x y c (stands-more named classed x (some (c .name)) (stands-new texts (some (c .name)))) (stands-new named (c .classname)))))
       (w .shown)
 
+  -- a run's attributes as they are written are read into a record that shows the run
   pub run-opened : (family : FlakyOrRerun) (e : TestRerun) → fitsRow (runRow family e) ≡ true → WholeTime (e .time) → WholeMoment (e .timestamp)
       → Opened (kindOfRun family (e .kind)) (λ t x. RunShown family t x e) [] records texts
       (readElement unlimited p (kindOfRun family (e .kind)) j (stamped (e .timestamp) ++ (timed (e .time) ++ statusAttributes (e .message) (e .type))) records texts)
@@ -128,6 +132,7 @@ module _ (p : Place) (j : ℕ) (records : List (List ℕ)) (texts : List ℕ) wh
       (run-shown x y family e (stands-more (texts ++ a) b x (e .message) (stands-new texts (e .message))) (stands-new (texts ++ a) (e .type)))
       noPairs
 
+  -- a status element's message and type as they are written are read into a record that shows them
   pub main-opened : (κ : ℕ) → IsMain κ → (m : Reason) → fitsCell (ofText (m .message)) ≡ true → fitsCell (ofText (m .type)) ≡ true
       → Opened κ (λ t x. MainShown κ t x m) [] records texts (readElement unlimited p κ j (statusAttributes (m .message) (m .type)) records texts)
   main-opened κ k m f h =
@@ -144,6 +149,7 @@ module _ (p : Place) (j : ℕ) (records : List (List ℕ)) (texts : List ℕ) wh
       (main-shown κ x y m (stands-more (texts ++ a) b x (m .message) (stands-new texts (m .message))) (stands-new (texts ++ a) (m .type)))
       noPairs
 
+  -- a property's name and value as they are written are read into a record that shows the pair
   pub property-opened : (κ : ℕ) → IsProperty κ → (q : Pair) → fitsRow (pairRow κ q) ≡ true
       → Opened κ (λ t x. PairShown κ t x q) [] records texts (readElement unlimited p κ j (textual (bytes "name") (q .key) ++ textual (bytes "value") (q .value)) records texts)
   property-opened κ k q f =

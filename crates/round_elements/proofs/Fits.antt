@@ -23,6 +23,7 @@ every-head c cs e = and-left (fitsCell c) (every fitsCell cs) e
 every-tail : (c : Cell) (cs : List Cell) → every fitsCell (c ∷ cs) ≡ true → every fitsCell cs ≡ true
 every-tail c cs e = and-right (fitsCell c) (every fitsCell cs) e
 
+-- a row that fits, part by part
 pub fitting : (r : Row) → fitsRow r ≡ true → Fitting r
 unfolding fitsRow
 fitting r f =

@@ -28,6 +28,7 @@ unset : (texts r : List ℕ) (k o : ℕ) → hasBit k r ≡ false → Lasting te
 unset texts r k o e z = rw e refl
 
 module _ {texts r : List ℕ} where
+  -- behind its attributes a suite's record holds no outputs yet
   pub suite-begun : {s : TestSuite} → SuiteShown texts r s → SuiteHeld s none none texts r
   suite-begun h = record {
     blank = h .blank;
@@ -39,6 +40,7 @@ module _ {texts r : List ℕ} where
     err = unset texts r bit.err word.err (h .err);
   }
 
+  -- behind its attributes a case's record holds no outputs yet
   pub case-begun : {c : TestCase} → CaseShown texts r c → CaseHeld c none none texts r
   case-begun h = record {
     blank = h .blank;
@@ -51,6 +53,7 @@ module _ {texts r : List ℕ} where
     err = unset texts r bit.err word.err (h .err);
   }
 
+  -- behind its attributes a run's record holds none of its four texts yet
   pub run-begun : {family : FlakyOrRerun} {x : TestRerun} → RunShown family texts r x → RunHeld family x none none none none texts r
   run-begun h = record {
     blank = h .blank;
@@ -64,6 +67,7 @@ module _ {texts r : List ℕ} where
     description = unset texts r bit.description word.description (h .description);
   }
 
+  -- behind its attributes a status element's record holds no description yet
   pub main-begun : {κ : ℕ} {m : Reason} → MainShown κ texts r m → MainHeld κ m none texts r
   main-begun h = record {
     blank = h .blank;
@@ -75,6 +79,7 @@ module _ {texts r : List ℕ} where
 
 -- ---- more texts are stored
 module _ {texts r : List ℕ} (u : List ℕ) where
+  -- what a suite's record holds stays when texts are stored behind
   pub suite-on : {s : TestSuite} {o e : Option Text} → SuiteHeld s o e texts r → SuiteHeld s o e (texts ++ u) r
   suite-on h = record {
     blank = h .blank;
@@ -86,6 +91,7 @@ module _ {texts r : List ℕ} (u : List ℕ) where
     err = lasting-more texts u (λ t. systemErr t r) (h .err);
   }
 
+  -- what a case's record holds stays when texts are stored behind
   pub case-on : {c : TestCase} {o e : Option Text} → CaseHeld c o e texts r → CaseHeld c o e (texts ++ u) r
   case-on h = record {
     blank = h .blank;
@@ -98,6 +104,7 @@ module _ {texts r : List ℕ} (u : List ℕ) where
     err = lasting-more texts u (λ t. systemErr t r) (h .err);
   }
 
+  -- what a run's record holds stays when texts are stored behind
   pub run-on : {family : FlakyOrRerun} {x : TestRerun} {s o e d : Option Text} → RunHeld family x s o e d texts r → RunHeld family x s o e d (texts ++ u) r
   run-on h = record {
     blank = h .blank;
@@ -111,6 +118,7 @@ module _ {texts r : List ℕ} (u : List ℕ) where
     description = lasting-more texts u (λ t. description t r) (h .description);
   }
 
+  -- what a status element's record holds stays when texts are stored behind
   pub main-on : {κ : ℕ} {m : Reason} {d : Option Text} → MainHeld κ m d texts r → MainHeld κ m d (texts ++ u) r
   main-on h = record {
     blank = h .blank;
@@ -134,6 +142,7 @@ module _ (texts r v : List ℕ) where
   name-on : {a : Text} {r′ : List ℕ} → Kept r r′ → Lasting texts (λ t. textAt t r word.name) a → Lasting (texts ++ v) (λ t. textAt t r′ word.name) a
   name-on {r′ = r′} k h = lasting-kept texts v (λ t. textAt t r word.name) (λ t. textAt t r′ word.name) (k .name) h
 
+  -- standard output stored and put into a suite's record
   pub suite-out : {s : TestSuite} {o e : Option Text} → SuiteHeld s o e texts r → SuiteHeld s (some v) e (texts ++ v) (putText word.out bit.out (length texts) (length v) r)
   suite-out h =
       let k = out-kept (length texts) (length v) r in
@@ -147,6 +156,7 @@ module _ (texts r v : List ℕ) where
         err = lasting-kept texts v (λ t. systemErr t r) (λ t. systemErr t (put word.out bit.out)) (k .err) (h .err);
       }
 
+  -- standard error stored and put into a suite's record
   pub suite-err : {s : TestSuite} {o e : Option Text} → SuiteHeld s o e texts r → SuiteHeld s o (some v) (texts ++ v) (putText word.err bit.err (length texts) (length v) r)
   suite-err h =
       let k = err-kept (length texts) (length v) r in
@@ -160,6 +170,7 @@ module _ (texts r v : List ℕ) where
         err = later-text word.err bit.err texts v r (h .blank .long) (lit< tt) (lit< tt);
       }
 
+  -- standard output stored and put into a case's record
   pub case-out : {c : TestCase} {o e : Option Text} → CaseHeld c o e texts r → CaseHeld c (some v) e (texts ++ v) (putText word.out bit.out (length texts) (length v) r)
   case-out h =
       let k = out-kept (length texts) (length v) r in
@@ -174,6 +185,7 @@ module _ (texts r v : List ℕ) where
         err = lasting-kept texts v (λ t. systemErr t r) (λ t. systemErr t (put word.out bit.out)) (k .err) (h .err);
       }
 
+  -- standard error stored and put into a case's record
   pub case-err : {c : TestCase} {o e : Option Text} → CaseHeld c o e texts r → CaseHeld c o (some v) (texts ++ v) (putText word.err bit.err (length texts) (length v) r)
   case-err h =
       let k = err-kept (length texts) (length v) r in
@@ -189,6 +201,7 @@ module _ (texts r v : List ℕ) where
       }
 
   module _ {family : FlakyOrRerun} {x : TestRerun} {s o e d : Option Text} (h : RunHeld family x s o e d texts r) where
+    -- a stack trace stored and put into a run's record
     pub run-trace : RunHeld family x (some v) o e d (texts ++ v) (putText word.stackTrace bit.stackTrace (length texts) (length v) r)
     run-trace =
         let k = trace-kept (length texts) (length v) r in
@@ -205,6 +218,7 @@ module _ (texts r v : List ℕ) where
           description = lasting-kept texts v (λ t. description t r) (λ t. description t r′) (k .description) (h .description);
         }
 
+    -- standard output stored and put into a run's record
     pub run-out : RunHeld family x s (some v) e d (texts ++ v) (putText word.out bit.out (length texts) (length v) r)
     run-out =
         let k = out-kept (length texts) (length v) r in
@@ -221,6 +235,7 @@ module _ (texts r v : List ℕ) where
           description = lasting-kept texts v (λ t. description t r) (λ t. description t r′) (k .description) (h .description);
         }
 
+    -- standard error stored and put into a run's record
     pub run-err : RunHeld family x s o (some v) d (texts ++ v) (putText word.err bit.err (length texts) (length v) r)
     run-err =
         let k = err-kept (length texts) (length v) r in
@@ -237,6 +252,7 @@ module _ (texts r v : List ℕ) where
           description = lasting-kept texts v (λ t. description t r) (λ t. description t r′) (k .description) (h .description);
         }
 
+    -- a description stored and put into a run's record
     pub run-description : RunHeld family x s o e (some v) (texts ++ v) (putText word.description bit.description (length texts) (length v) r)
     run-description =
         let k = description-kept (length texts) (length v) r in
@@ -253,6 +269,7 @@ module _ (texts r v : List ℕ) where
           description = later-text word.description bit.description texts v r (h .blank .long) (lit< tt) (lit< tt);
         }
 
+  -- a description stored and put into a status element's record
   pub main-description : {κ : ℕ} {m : Reason} {d : Option Text} → MainHeld κ m d texts r → MainHeld κ m (some v) (texts ++ v) (putText word.description bit.description (length texts) (length v) r)
   main-description h =
       let k = description-kept (length texts) (length v) r in

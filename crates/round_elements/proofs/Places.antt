@@ -13,6 +13,7 @@ use Rattle.tree_record.specs.Words as word
 use Rattle.round_elements.specs.inside.Opened.{Lasting, PairShown, PairsShown, none as noPairs, more, ReportShown, SuiteShown, CaseShown}
 use Rattle.round_elements.proofs.Steps.{textCell}
 
+-- what lasts with texts lasts with longer ones
 pub lasting-more : {A : Type 0} (s u : List ℕ) (f : List ℕ → A) {a : A} → Lasting s f a → Lasting (s ++ u) f a
 lasting-more s u f h z = ap f (append-assoc s u z) ∙ h (u ++ z)
 
@@ -36,9 +37,11 @@ text-shown s r k o x (some t) b v w h = λ z. rw (b, v, w) (ap (λ (l : Text). s
 
 -- ---- what a record shows it shows with more texts
 module _ (s u r : List ℕ) where
+  -- a record that shows a pair shows it with longer texts
   pub pair-later : {κ : ℕ} {p : Pair} → PairShown κ s r p → PairShown κ (s ++ u) r p
   pair-later h = record { blank = h .blank; pair = lasting-more s u (λ t. pairOf t r) (h .pair) }
 
+  -- a record that shows a report's own fields shows them with longer texts
   pub report-later : {p : Report} → ReportShown s r p → ReportShown (s ++ u) r p
   report-later h = record {
     blank = h .blank;
@@ -72,6 +75,7 @@ module _ (s u r : List ℕ) where
     err = h .err;
   }
 
+-- records that show pairs show them with longer texts
 pub pairs-later : {κ : ℕ} {rs : List (List ℕ)} {ps : List Pair} (s u : List ℕ) → PairsShown κ s rs ps → PairsShown κ (s ++ u) rs ps
 pairs-later s u noPairs = noPairs
 pairs-later s u (more {r = r} h hs) = more (pair-later s u r h) (pairs-later s u hs)

@@ -45,6 +45,7 @@ all-eight a b c d e f g h q =
       and-right g h q₆,
     )
 
+-- a plain report's conditions, one by one
 pub conditions : (r : Report) → plain r ≡ true → Conditions r
 unfolding plain
 conditions r e =

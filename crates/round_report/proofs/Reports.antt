@@ -153,6 +153,7 @@ pub run-back : (r : Report) → sound r ≡ true → plain r ≡ true
     × (length (s .content .texts) ≤ length (laidOut (written r) .bytes))
 run-back r s p = let g = plain-parts r s p in (last r g, last-run r g, last-report r g, records-many r g, texts-many r g)
 
+-- the round trip: a sound and plain report, written and read with no limit on areas, is the report
 pub read-back : (r : Report) → sound r ≡ true → plain r ≡ true → deserialize (written r) ≡ accepted (some r)
 unfolding deserialize _>>=_
 read-back r s p =

@@ -25,6 +25,7 @@ run-suits n m k (e ∷ es) s l =
     bind-held (step-suits n m k e s (omega (arith, l))) (step-reaches e s) λ t u.
     run-suits n m k es t (omega (arith, l, u))
 
+-- a run that is accepted with no limit is the same with areas for what it leaves and scratch for its pieces
 pub run-suffices : (es : List Event) (s : Machine) (n m k : ℕ) → run unlimited es begin ≡ accepted s →
     length (s .content .records) ≤ n → length (s .content .texts) ≤ m → pieces es ≤ k →
     run (record { records = some n; text = some m; scratch = some k }) es begin ≡ accepted s

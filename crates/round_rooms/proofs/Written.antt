@@ -155,6 +155,7 @@ numbered-items n (Piece k s ∷ es) = ap (λ (is : List Item). itemsOfEvent (Pie
 numbered-items n (Eof ∷ es) = ap (λ (is : List Item). itemsOfEvent Eof ++ is) (numbered-items (n + 0) es)
 numbered-items n (Fault ∷ es) = ap (λ (is : List Item). itemsOfEvent Fault ++ is) (numbered-items (n + 0) es)
 
+-- a text area as long as the written bytes suffices to read them
 pub text-written : (r : Report) → mostTextOf (written r) ≤ length (laidOut (written r) .bytes)
 unfolding written laidOut
 text-written r =
@@ -162,5 +163,6 @@ text-written r =
     let e : laidSize (numbered 0 (serializeReport r)) ≡ laidSize (serializeReport r) = ap (λ (is : List Item). length (laidBytes is)) (numbered-items 0 (serializeReport r)) in
     omega (arith, p .most, e, numbered-text 0 (serializeReport r))
 
+-- scratch as long as the written bytes suffices to read them
 pub pieces-written : (r : Report) → pieces (written r) ≤ length (laidOut (written r) .bytes)
 pieces-written r = omega (arith, pieces-stored (written r), text-written r)

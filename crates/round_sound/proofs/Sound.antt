@@ -51,6 +51,7 @@ module _ (words text : List ℕ) where
       let b = records-begun words text e in
       (reportAt (usedText text) (b .top) (b .behind), ap (reportFrom (usedText text)) (b .whole))
 
+  -- the report that a layout holds is sound, as the round trip asks
   pub layout-sound : (r : Report) → areWords words ≡ true → layout words text ≡ true → reportOf words text ≡ some r → sound r ≡ true
   unfolding reportOf
   layout-sound r w e h = rows-sound (usedText text) (text-good words text e) (recordsOf words) (records-begun words text e) r (records-fine words text e w) h
@@ -65,6 +66,7 @@ module _ (words text : List ℕ) where
       let k = records-limit words .1 in
       (omega arith, omega arith)
 
+  -- the report that a layout holds has no more rows than a layout may have records
   pub layout-rows : (r : Report) → layout words text ≡ true → reportOf words text ≡ some r → length (rowsOf r) ≤ mostRecords
   layout-rows r e h = report-rows r h .0
 

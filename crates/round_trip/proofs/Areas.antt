@@ -46,6 +46,7 @@ module _ (words text : List ℕ) (r : Report) (whole : layout words text ≡ tru
   unfolding tableOf eventsOf
   table-own = ap (λ (q : Option Report). laidOut (writtenOr q)) holds
 
+  -- writing a report that fits is accepted, with the sizes of its table
   pub write-accepts : writingAnswer words text e a b ≡ gives (sizesOf r)
   unfolding writingAnswer
   write-accepts =
@@ -72,18 +73,21 @@ module _ (words text : List ℕ) (r : Report) (whole : layout words text ≡ tru
   bytes-in : length (ownBytes r) ≤ b
   bytes-in = let h = leb-true (length (ownBytes r)) (min b mostBytes) (and-right attributesFit bytesFit (and-right eventsFit (attributesFit && bytesFit) f)) in omega arith
 
+  -- the event words in use are those of the report's own table
   pub events-used : take (sizesOf r .events * 5) (eventsLeft words text e a b) ≡ ownEvents r
   unfolding eventsLeft
   events-used =
       ap (λ (t : Table). take (sizesOf r .events * 5) (leftFor (writingAnswer words text e a b) e (t .events))) table-own
       ∙ used (writingAnswer words text e a b) (sizesOf r) e (ownEvents r) (sizesOf r .events * 5) write-accepts events-in (events-whole r)
 
+  -- the attribute words in use are those of the report's own table
   pub attributes-used : take (sizesOf r .attributes * 5) (attributesLeft words text e a b) ≡ ownAttributes r
   unfolding attributesLeft
   attributes-used =
       ap (λ (t : Table). take (sizesOf r .attributes * 5) (leftFor (writingAnswer words text e a b) a (t .attributes))) table-own
       ∙ used (writingAnswer words text e a b) (sizesOf r) a (ownAttributes r) (sizesOf r .attributes * 5) write-accepts attributes-in (attributes-whole r)
 
+  -- the bytes in use are those of the report's own table
   pub bytes-used : take (sizesOf r .bytes) (bytesLeft words text e a b) ≡ ownBytes r
   unfolding bytesLeft
   bytes-used =

@@ -88,14 +88,17 @@ module _ (r : Report) (s : sound r ≡ true) (p : plain r ≡ true) {words text 
   own-reading : reading (ownEvents r) (ownAttributes r) (ownBytes r) words text scratch ≡ readAs words text scratch (accepted last)
   own-reading = reading-roomy (ownEvents r) (ownAttributes r) (ownBytes r) words text scratch last (own-passes r p) ran-free records-in texts-in pieces-in
 
+  -- reading a report's own table with areas that suffice is accepted
   pub own-accepted : reading (ownEvents r) (ownAttributes r) (ownBytes r) words text scratch .outcome ≡ accepted tt
   unfolding readAs
   own-accepted = ap (λ (q : Read). q .outcome) own-reading
 
+  -- what reading a report's own table leaves is a layout
   pub own-layout : layout (reading (ownEvents r) (ownAttributes r) (ownBytes r) words text scratch .words) (reading (ownEvents r) (ownAttributes r) (ownBytes r) words text scratch .text) ≡ true
   unfolding readAs
   own-layout = ap (λ (q : Read). layout (q .words) (q .text)) own-reading ∙ reading-layout words text scratch es last (resolve-fair (ownEvents r) (ownAttributes r) (ownBytes r)) ran
 
+  -- the report that this layout holds is the one that was written
   pub own-report : reportOf (reading (ownEvents r) (ownAttributes r) (ownBytes r) words text scratch .words) (reading (ownEvents r) (ownAttributes r) (ownBytes r) words text scratch .text) ≡ some r
   unfolding readAs
   own-report =

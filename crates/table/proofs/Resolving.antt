@@ -8,13 +8,16 @@ use Rattle.table.specs.Table.{word, countOf}
 use Rattle.table.specs.Event.{kindAt, bytesAt, attributeAt, attributesFrom, eventOf, eventAt, resolveFrom, resolve}
 
 module _ (attributes source : List ℕ) where
+  -- an empty range has no attributes
   pub attributes-none : (j : ℕ) → attributesFrom attributes source 0 j ≡ []
   unfolding attributesFrom
   attributes-none j = refl
 
+  -- where the loop has reached the end of the range, no attributes are left
   pub attributes-end : (end j : ℕ) → end ≤ j → attributesFrom attributes source (end - j) j ≡ []
   attributes-end end j h = let z : end - j ≡ 0 = omega arith in ap (λ (n : ℕ). attributesFrom attributes source n j) z ∙ attributes-none j
 
+  -- one attribute, and those behind it: a turn of the loop along a range
   pub attributes-next : (end j : ℕ) → j < end → attributesFrom attributes source (end - j) j ≡ attributeAt attributes source j ∷ attributesFrom attributes source (end - (j + 1)) (j + 1)
   unfolding attributesFrom
   attributes-next end j h = let z : end - j ≡ suc (end - (j + 1)) = omega arith in ap (λ (n : ℕ). attributesFrom attributes source n j) z
@@ -35,9 +38,11 @@ module _ (events attributes source : List ℕ) where
   unfolding resolveFrom
   resolve-none i = refl
 
+  -- where the loop has reached the last event, none are left
   pub resolve-end : (n i : ℕ) → n ≤ i → resolveFrom events attributes source (n - i) i ≡ []
   resolve-end n i h = let z : n - i ≡ 0 = omega arith in ap (λ (m : ℕ). resolveFrom events attributes source m i) z ∙ resolve-none i
 
+  -- one event, and those behind it: a turn of the loop along the table
   pub resolve-next : (n i : ℕ) → i < n → resolveFrom events attributes source (n - i) i ≡ eventAt events attributes source i ∷ resolveFrom events attributes source (n - (i + 1)) (i + 1)
   unfolding resolveFrom
   resolve-next n i h = let z : n - i ≡ suc (n - (i + 1)) = omega arith in ap (λ (m : ℕ). resolveFrom events attributes source m i) z

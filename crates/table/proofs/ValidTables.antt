@@ -147,9 +147,11 @@ module _ (events attributes source : List ℕ) where
       go true p q = (p, q)
       go false p q = let z : _≡_ {A = ℕ} 0 1 = cc in absurd (omega arith)
 
+  -- a table that passed refusal 11 has sizes in range
   pub good-sizes : checkOf events attributes source ≡ Good → ValidSizes (length events) (length attributes) (length source)
   good-sizes e = sizes-valid (length events) (length attributes) (length source) (of-good e .0)
 
+  -- each event of a table that passed refusal 11 is valid: its bytes and attributes lie in the table
   pub good-event : checkOf events attributes source ≡ Good → (i : ℕ) → i < countOf events → ValidEvent events attributes (length source) i
   good-event e i h = event-valid events attributes (length source) i (from-good events attributes (length source) (countOf events) 0 i (of-good e .1) (omega arith) (omega arith))
 

@@ -9,6 +9,7 @@ use Rattle.table.specs.Table.{word}
 use Rattle.table.specs.Event.{part}
 
 module _ (table : List ℕ) (i : ℕ) where
+  -- the k-th word of an entry, where the code is lent the table from the entry on
   pub word-at : (k : ℕ) → word table i k ≡ getD (drop (i * 5) table) k 0
   word-at k = sym (getD-drop (i * 5) table k 0)
 

@@ -19,6 +19,7 @@ pub data Ranged (events : List ℕ) (i : ℕ) : ℕ → ℕ → Type 0 where
   some : i < countOf events → 0 < word events i 4 → Ranged events i (word events i 3) (word events i 3 + word events i 4)
 
 module _ (events : List ℕ) (i : ℕ) where
+  -- the range that the code takes of an event's attributes is the event's
   pub ranged : Ranged events i (firstAt events i) (endAt events i)
   ranged = go (eqb (attributesAt events i) 0) refl
     where
@@ -30,6 +31,7 @@ module _ (events : List ℕ) (i : ℕ) where
       go true p = none (eqb-true (attributesAt events i) 0 p)
       go false p = let h = within (leb (countOf events) i) refl (eqb-false (attributesAt events i) 0 p) in some (h .0) (h .1)
 
+-- a range begins no later than it ends
 pub range-order : {events : List ℕ} {i first end : ℕ} → Ranged events i first end → first ≤ end
 range-order (none e) = omega arith
 range-order (some h k) = omega arith

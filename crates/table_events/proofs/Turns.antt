@@ -122,6 +122,7 @@ farther : (i n : ℕ) (s : Skip) → Far (i + 1) (i + 1 + n) s → Far i (i + su
 farther i n (next j) f = (let l = f .0 in omega arith, let h = f .1 in omega arith)
 farther i n (brokenAt why j) f = (let l = f .0 in omega arith, let h = f .1 in omega arith)
 
+-- a skip goes on by at least one event, and not over the end
 pub skip-far : (name : List ℕ) (depth i : ℕ) (es : List Event) → Far i (i + length es) (skipOf name depth i es)
 unfolding skipOf
 skip-far name depth i [] = (omega arith, omega arith)

@@ -22,6 +22,7 @@ abbrev two : Bool → Bool → Answer (Unit {0})
 two t u = cond t (cond u (gives tt) (refuses cause.BadReference)) (refuses cause.NotUtf8)
 
 module _ (s : List ℕ) where
+  -- a value that passed the check is UTF-8 with good references
   pub checked-good : gives tt ≡ checkedOf s → (utf8 s ≡ true) × (refsOk s 0 ≡ true)
   checked-good = go (utf8 s) (refsOk s 0)
     where

@@ -43,6 +43,7 @@ module _ (s : List ℕ) (i : ℕ) where
   pub filter-end : length s ≤ i → filtered (drop i s) ≡ []
   filter-end h = ap filtered (drop-of-length-le s h)
 
+-- the filter goes part by part
 pub filtered-append : (s t : List ℕ) → filtered (s ++ t) ≡ filtered s ++ filtered t
 filtered-append [] t = refl
 filtered-append (b ∷ s) t = go (dropped b) (filtered-append s t)
@@ -51,6 +52,7 @@ filtered-append (b ∷ s) t = go (dropped b) (filtered-append s t)
     go true ih = ih
     go false ih = ap (λ (l : List ℕ). b ∷ l) ih
 
+-- filtering never lengthens
 pub length-filtered : (s : List ℕ) → length (filtered s) ≤ length s
 length-filtered [] = omega arith
 length-filtered (b ∷ s) = go (dropped b) (length-filtered s)
@@ -68,6 +70,7 @@ unfiltered-filtered (b ∷ s) = go (dropped b) refl (unfiltered-filtered s)
     go true q ih = ih
     go false q ih = ap (λ (t : Bool). not t && unfiltered (filtered s)) q ∙ ih
 
+-- a text with nothing to filter stays as it is
 pub filtered-same : (s : List ℕ) → unfiltered s ≡ true → filtered s ≡ s
 filtered-same [] e = refl
 filtered-same (b ∷ s) e = go (dropped b) refl (filtered-same s)
@@ -79,6 +82,7 @@ filtered-same (b ∷ s) e = go (dropped b) refl (filtered-same s)
 pub filtered-twice : (s : List ℕ) → filtered (filtered s) ≡ filtered s
 filtered-twice s = filtered-same (filtered s) (unfiltered-filtered s)
 
+-- a joined text has nothing to filter exactly if both its parts have nothing
 pub unfiltered-append : (s t : List ℕ) → unfiltered (s ++ t) ≡ (unfiltered s && unfiltered t)
 unfiltered-append [] t = refl
 unfiltered-append (b ∷ s) t = go (dropped b) (unfiltered-append s t)
@@ -104,5 +108,6 @@ ok-filtered (b ∷ s) (suc n) lo hi h e =
     ap (λ (l : List ℕ). ok l (suc n) lo hi) (filter-keep b s (kept-high b (omega arith)))
     ∙ ap (λ (t : Bool). t && ok (filtered s) n 0x80 0xBF) (p .0) ∙ ok-filtered s n 0x80 0xBF (lit≤ tt) (p .1)
 
+-- UTF-8 stays UTF-8, since whole characters are taken out
 pub utf8-filtered : (s : List ℕ) → utf8 s ≡ true → utf8 (filtered s) ≡ true
 utf8-filtered s e = ok-filtered s 0 0x80 0xBF (lit≤ tt) e

@@ -89,20 +89,25 @@ module _ (clean : Bool) (s : List ℕ) (i : ℕ) (h : i < length s) (p : Piece)
   some : 0 < length (drop i s)
   some = rw (length-drop i s) (omega arith)
 
+  -- a piece has as many bytes as it says
   pub piece-length : length (take (p .n) (p .bytes)) ≡ p .n
   piece-length = length-take-le (p .n) (p .bytes) (k .fits)
 
+  -- a piece takes some byte of the value, so that the loop ends
   pub piece-moves : 0 < p .width
   piece-moves = rw (here .takes) (width-in (drop i s) some .0)
 
+  -- a piece ends in the value: the bound for the next turn
   pub piece-fits : i + p .width ≤ length s
   piece-fits = rw (here .takes) (let f : pieceWidth (drop i s) ≤ length (drop i s) = width-in (drop i s) some .1 in omega (arith, simp length-drop at f))
 
+  -- what the value stands for from here on: the piece, and what it stands for behind it
   pub piece-next : cleaned clean (decoded (drop i s) 0) ≡ take (p .n) (p .bytes) ++ cleaned clean (decoded (drop (i + p .width) s) 0)
   piece-next =
       ap (cleaned clean) (piece-on (drop i s) some ∙ ap (λ (l : List ℕ). pieceOf (drop i s) ++ decoded l 0) (drop-drop (pieceWidth (drop i s)) i s))
       ∙ cleaned-append clean (pieceOf (drop i s)) (decoded (drop (i + pieceWidth (drop i s)) s) 0)
       ∙ rw (here .front, here .takes) refl
 
+-- behind the end a value stands for nothing more
 pub piece-end : (clean : Bool) (s : List ℕ) (i : ℕ) → length s ≤ i → cleaned clean (decoded (drop i s) 0) ≡ []
 piece-end clean s i h = ap (λ (l : List ℕ). cleaned clean (decoded l 0)) (drop-of-length-le s h) ∙ cleaned-nil clean

@@ -18,12 +18,15 @@ use Rattle.text.proofs.Putting.{both-yes}
 use Rattle.refusal.specs.declared.Cause.the-variants as cause
 
 module _ (s : List ℕ) where
+  -- the stored text of a UTF-8 value is UTF-8
   pub utf8-value : utf8 s ≡ true → utf8 (valueText s) ≡ true
   utf8-value e = utf8-filtered (decoded s 0) (utf8-decoded s e)
 
+  -- stored text has nothing left to filter
   pub unfiltered-value : unfiltered (valueText s) ≡ true
   unfiltered-value = unfiltered-filtered (decoded s 0)
 
+  -- stored text is no longer than its value
   pub length-value : length (valueText s) ≤ length s
   length-value = le-trans (length-filtered (decoded s 0)) (decoded-length s)
 

@@ -9,9 +9,11 @@ use Rattle.utf8.proofs.Encoding.{utf8-encode}
 use Rattle.reference.specs.Reference.{charOf}
 use Rattle.text_pieces.specs.Gather.{referenceText, newline}
 
+-- the newline that is gathered for an Indent is UTF-8
 pub utf8-newline : utf8 newline ≡ true
 unfolding need
 utf8-newline = refl
 
+-- the text that is gathered for a reference is UTF-8
 pub utf8-reference : (name : List ℕ) → utf8 (referenceText name) ≡ true
 utf8-reference name = sym (ap utf8 (append-nil (encode (charOf name)))) ∙ utf8-encode (charOf name) []

@@ -40,9 +40,11 @@ point-between (b ∷ w) f d =
     ap (λ (t : Bool). cond t 0 (suc (point (w ++ (0x2E ∷ f))))) (ne-eqb b 0x2E (λ (q : b ≡ 0x2E). omega arith)) ∙ ap suc (point-between w f (k .1))
 
 module _ (w f : List ℕ) (d : allDigits 10 w ≡ true) where
+  -- digits, a point and a fraction: the whole part is the digits
   pub whole-between : whole (w ++ (0x2E ∷ f)) ≡ w
   whole-between = ap (λ (n : ℕ). take n (w ++ (0x2E ∷ f))) (point-between w f d) ∙ take-at w (0x2E ∷ f) (length w) refl
 
+  -- digits, a point and a fraction: the fraction is what follows the point
   pub fraction-between : fraction (w ++ (0x2E ∷ f)) ≡ f
   fraction-between =
       ap (λ (n : ℕ). drop n (w ++ (0x2E ∷ f))) (ap suc (point-between w f d) ∙ sym (add-one (length w)))

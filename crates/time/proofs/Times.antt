@@ -93,10 +93,12 @@ module _ (w f : List ℕ) where
       go true false c d h = refl
       go true true c d h = ap (λ (t : Bool). t && d) h
 
+  -- what makes two parts a time: digits, at most nine behind the point, and seconds in range
   pub good-parts : allDigits 10 w ≡ true → allDigits 10 f ≡ true → length f ≤ 9 → 0 < length w + length f → value 10 w ≤ 8388607 → makeTime w f ≡ true
   unfolding makeTime
   good-parts a b c d e = rw (a, b, le-leb (length f) 9 c, lt-ltb 0 (length w + length f) d, lt-ltb (value 10 w) 8388608 (omega arith)) refl
 
+  -- what a time's two parts have
   pub time-parts : makeTime w f ≡ true → (allDigits 10 w ≡ true) × (allDigits 10 f ≡ true) × (length f ≤ 9) × (value 10 w < 8388608)
   unfolding makeTime
   time-parts h =
@@ -148,6 +150,7 @@ pub time-utf8 : (s : List ℕ) → isTime s ≡ true → utf8 s ≡ true
 time-utf8 s h = let p = time-parts (whole s) (fraction s) h in parts-utf8 s (p .0) (p .1)
 
 module _ (s : List ℕ) where
+  -- a text that is a time is answered with its seconds and nanoseconds
   pub time-is : isTime s ≡ true → timeOf s ≡ gives (secondsOf s, nanosOf s)
   time-is h = rw (time-utf8 s h, h) refl
 

@@ -67,8 +67,10 @@ module _ {out o f : List ℕ} {k : ℕ} (t : List ℕ) (l : Laying out o k f t) 
 
 -- the text, or nothing of it
 module _ (out f : List ℕ) where
+  -- the text fitted: the area is as a call that leaves no piece must leave it
   pub whole-put : (n : ℕ) → gives n ≡ placing cause.OutputFull (length out) f → laid out f ≡ whole out f
   whole-put n e = rw (le-leb (length f) (length out) (put-fits cause.OutputFull (length out) f n e .0)) refl
 
+  -- the text didn't fit: clearing the area leaves no piece of it
   pub whole-full : refuses cause.OutputFull ≡ placing cause.OutputFull (length out) f → (o : List ℕ) → o ≡ laid out f → zeros (length o) ≡ whole out f
   whole-full e o w = rw (lt-leb (length f) (length out) (full-over cause.OutputFull (length out) f e)) (ap zeros (ap length w ∙ length-laid out f))

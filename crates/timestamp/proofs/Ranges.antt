@@ -32,6 +32,7 @@ pub record InRange (m : Moment) : Type 0 where
   pub nanos-below : m .nanos < 1000000000
   pub offset-most : m .offset ≤ 2878
 
+-- the bounds of a moment in range, one by one
 pub range-facts : (m : Moment) → inRange m ≡ true → InRange m
 unfolding inRange
 range-facts m e = record {
@@ -87,6 +88,7 @@ offset-small z e = go (isUtc z) e
         sign true = omega (arith, most 23 (part 1 2 z) (passes (offsetTests z) 2 e), most 59 (part 4 2 z) (passes (offsetTests z) 4 e))
         sign false = omega arith
 
+-- a moment that was read from a timestamp is in range
 pub timestamp-range : (s : List ℕ) (m : Moment) → timestampOf s ≡ gives m → inRange m ≡ true
 unfolding isTimestamp
 timestamp-range s m e = let p = timestamp-read s m e in ap inRange (p .1) ∙ range-whole (momentOf s) (ranges (p .0))

@@ -12,6 +12,7 @@ use Rattle.utf8.specs.Utf8.{utf8}
 use Rattle.text.specs.Filter.{unfiltered}
 use Rattle.tree_report.specs.Layout.{filled, allZero, goodText}
 
+-- the texts up to the first zero byte are the area's front
 pub filled-front : (s : List ℕ) → take (length (filled s)) s ≡ filled s
 filled-front [] = refl
 filled-front (b ∷ s) = go (eqb b 0) (filled-front s)

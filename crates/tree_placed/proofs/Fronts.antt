@@ -54,36 +54,45 @@ module _ (k : ℕ) (r z : List ℕ) (h : 1 < length r) where
 
 -- ---- at the front of records
 module _ (r z : List ℕ) (h : length r ≡ 32) where
+  -- two words put into the first record leave those behind it
   pub pair-fronts : (o a b : ℕ) → o ≤ 30 → putPair o a b (r ++ z) ≡ putPair o a b r ++ z
   pair-fronts o a b l = pair-append o a b r z (omega arith)
 
+  -- a text's place and bit put into the first record leave those behind it
   pub text-fronts : (o k x n : ℕ) → o ≤ 30 → putText o k x n (r ++ z) ≡ putText o k x n r ++ z
   text-fronts o k x n l =
       let m = pair-length o x n r in
       ap (marked k) (pair-fronts o x n l) ∙ marked-append k (putPair o x n r) z (omega arith)
 
+  -- a count put into the first record leaves those behind it
   pub count-fronts : (o n : ℕ) → o ≤ 30 → putCount o n (r ++ z) ≡ putCount o n r ++ z
   count-fronts o n l = pair-fronts o (n % 2 ^ 32) (n / 2 ^ 32) l
 
+  -- a number and its bit put into the first record leave those behind it
   pub number-fronts : (k o n : ℕ) → o ≤ 30 → marked k (putCount o n (r ++ z)) ≡ marked k (putCount o n r) ++ z
   number-fronts k o n l = text-fronts o k (n % 2 ^ 32) (n / 2 ^ 32) l
 
+  -- a timestamp put into the first record leaves those behind it
   pub moment-fronts : (m : Moment) → putMoment m (r ++ z) ≡ putMoment m r ++ z
   moment-fronts m =
       let n = words-length 8 (momentWords m) r in
       ap (marked 3) (words-append 8 (momentWords m) r z (omega arith)) ∙ marked-append 3 (putWords 8 (momentWords m) r) z (omega arith)
 
+  -- a time put into the first record leaves those behind it
   pub time-fronts : (t : ℕ × ℕ) → putTime t (r ++ z) ≡ putTime t r ++ z
   time-fronts t = text-fronts 16 4 (t .0) (t .1) (omega arith)
 
+  -- a UUID put into the first record leaves those behind it
   pub uuid-fronts : (w : Words) → putUuid w (r ++ z) ≡ putUuid w r ++ z
   uuid-fronts w =
       let n = words-length 4 (uuidWords w) r in
       ap (marked 1) (words-append 4 (uuidWords w) r z (omega arith)) ∙ marked-append 1 (putWords 4 (uuidWords w) r) z (omega arith)
 
+  -- a presence bit set in the first record leaves those behind it
   pub mark-fronts : (k : ℕ) → marked k (r ++ z) ≡ marked k r ++ z
   mark-fronts k = marked-append k r z (omega arith)
 
+  -- a presence bit cleared in the first record leaves those behind it
   pub unmark-fronts : (k : ℕ) → unmarked k (r ++ z) ≡ unmarked k r ++ z
   unmark-fronts k = unmarked-append k r z (omega arith)
 

@@ -56,6 +56,7 @@ stands-read texts x t h z =
     let n : length (drop x texts) ≡ length texts - x = length-drop x texts in
     ap (take (length t)) (drop-append-le x texts z (omega arith)) ∙ take-append-le (length t) (drop x texts) z (omega arith) ∙ h .0
 
+-- a text that stands in the texts stands there when UTF-8 is put behind them
 pub stands-more : (texts v : List ℕ) → utf8 v ≡ true → (x : ℕ) (c : Cell) → StandsAt texts x c → StandsAt (texts ++ v) x c
 stands-more texts v u x absent h = tt
 stands-more texts v u x (written t) h = (stands-read texts x t h v, good-more texts v x (length t) u (h .1))
@@ -77,5 +78,6 @@ in-texts-more texts v u {p} h = record {
   fourth = stands-more texts v u (p .places .fourth) (p .row .fourth) (h .fourth);
 }
 
+-- the texts of all records stand where they stood when UTF-8 is put behind the texts
 pub each-in-texts-more : (texts v : List ℕ) → utf8 v ≡ true → {ps : List Placed} → Each (InTexts texts) ps → Each (InTexts (texts ++ v)) ps
 each-in-texts-more texts v u h = each-on (λ p i. in-texts-more texts v u i) h

@@ -35,58 +35,71 @@ behind p =
     ∷ firstWord 0 (p .row .sixth) ∷ secondWord (p .row .sixth)
     ∷ 0 ∷ 0 ∷ 0 ∷ 0 ∷ []
 
+-- a placed record has 32 words
 pub record-length : (p : Placed) → length (recordOf p) ≡ 32
 unfolding recordOf
 record-length p = refl
 
+-- a blank record is the placed record with no cell given
 pub put-blank : (κ : ℕ) → blank κ ≡ recordOf (blankPlaced κ)
 unfolding recordOf
 put-blank κ = refl
 
 module _ (p : Placed) where
   -- ---- a text
+  -- the store of a text at word 2 is the row with that first text
   pub put-first : (x : ℕ) (v : Text) → putText 2 0 x (length v) (recordOf p) ≡ recordOf (firstText x v p)
   unfolding recordOf
   put-first x v = marked-flags (p .row .kind) 0 (presence (p .row)) (behind (firstText x v p)) (lit≤ tt) (lit≤ tt)
 
+  -- standard output's store is the row with that output
   pub put-out : (x : ℕ) (v : Text) → putText 4 1 x (length v) (recordOf p) ≡ recordOf (outText x v p)
   unfolding recordOf
   put-out x v = marked-flags (p .row .kind) 1 (presence (p .row)) (behind (outText x v p)) (lit≤ tt) (lit≤ tt)
 
+  -- standard error's store is the row with that output
   pub put-err : (x : ℕ) (v : Text) → putText 6 2 x (length v) (recordOf p) ≡ recordOf (errText x v p)
   unfolding recordOf
   put-err x v = marked-flags (p .row .kind) 2 (presence (p .row)) (behind (errText x v p)) (lit≤ tt) (lit≤ tt)
 
+  -- the store of a text at word 18 is the row with that second text
   pub put-second : (x : ℕ) (v : Text) → putText 18 5 x (length v) (recordOf p) ≡ recordOf (secondText x v p)
   unfolding recordOf
   put-second x v = marked-flags (p .row .kind) 5 (presence (p .row)) (behind (secondText x v p)) (lit≤ tt) (lit≤ tt)
 
+  -- the store of a text at word 20 is the row with that third text
   pub put-third : (x : ℕ) (v : Text) → putText 20 6 x (length v) (recordOf p) ≡ recordOf (thirdText x v p)
   unfolding recordOf
   put-third x v = marked-flags (p .row .kind) 6 (presence (p .row)) (behind (thirdText x v p)) (lit≤ tt) (lit≤ tt)
 
+  -- the store of a text at word 22 is the row with that fourth text
   pub put-fourth : (x : ℕ) (v : Text) → putText 22 7 x (length v) (recordOf p) ≡ recordOf (fourthText x v p)
   unfolding recordOf
   put-fourth x v = marked-flags (p .row .kind) 7 (presence (p .row)) (behind (fourthText x v p)) (lit≤ tt) (lit≤ tt)
 
   -- ---- a value with a presence bit
+  -- a timestamp's store is the row with that timestamp
   pub put-moment : (m : Moment) → putMoment m (recordOf p) ≡ recordOf (onRow (withTimestamp (some m)) p)
   unfolding recordOf
   put-moment m = marked-flags (p .row .kind) 3 (presence (p .row)) (behind (onRow (withTimestamp (some m)) p)) (lit≤ tt) (lit≤ tt)
 
+  -- a time's store is the row with that time
   pub put-time : (t : ℕ × ℕ) → putTime t (recordOf p) ≡ recordOf (onRow (withTime (some (record { seconds = t .0; nanos = t .1 }))) p)
   unfolding recordOf
   put-time t = marked-flags (p .row .kind) 4 (presence (p .row)) (behind (onRow (withTime (some (record { seconds = t .0; nanos = t .1 }))) p)) (lit≤ tt) (lit≤ tt)
 
+  -- a number of assertions stored is the row with that number
   pub put-assertions : (n : ℕ) → marked 6 (putCount 20 n (recordOf p)) ≡ recordOf (onRow (withThird (ofNumber (some n))) p)
   unfolding recordOf
   put-assertions n = marked-flags (p .row .kind) 6 (presence (p .row)) (behind (onRow (withThird (ofNumber (some n))) p)) (lit≤ tt) (lit≤ tt)
 
+  -- a number of disabled tests stored is the row with that number
   pub put-disabled : (n : ℕ) → marked 8 (putCount 26 n (recordOf p)) ≡ recordOf (onRow (withSixth (ofNumber (some n))) p)
   unfolding recordOf
   put-disabled n = marked-flags (p .row .kind) 8 (presence (p .row)) (behind (onRow (withSixth (ofNumber (some n))) p)) (lit≤ tt) (lit≤ tt)
 
   -- ---- words without a presence bit, where the cell had none
+  -- a UUID's store is the row with that UUID, where no standard error was
   pub put-uuid : (w : Words) → isGiven (p .row .err) ≡ false → putUuid w (recordOf p) ≡ recordOf (onRow (withMiddle (uuidFront (some w)) (uuidBack (some w))) p)
   unfolding recordOf
   put-uuid w e =
@@ -96,6 +109,7 @@ module _ (p : Placed) where
       ∷ isGiven (p .row .second) ∷ isGiven (p .row .third) ∷ isGiven (p .row .fourth) ∷ isGiven (p .row .sixth) ∷ p .row .isFlaky ∷ [])
       ∷ behind (onRow (withMiddle (uuidFront (some w)) (uuidBack (some w))) p)) e
 
+  -- a count of tests stored is the row with that count
   pub put-tests : (n : ℕ) → isGiven (p .row .second) ≡ false → putCount 18 n (recordOf p) ≡ recordOf (onRow (withSecond (ofCount n)) p)
   unfolding recordOf
   put-tests n e =
@@ -104,6 +118,7 @@ module _ (p : Placed) where
       ∷ b ∷ isGiven (p .row .third) ∷ isGiven (p .row .fourth) ∷ isGiven (p .row .sixth) ∷ p .row .isFlaky ∷ [])
       ∷ behind (onRow (withSecond (ofCount n)) p)) e
 
+  -- a count of failures stored is the row with that count
   pub put-failures : (n : ℕ) → isGiven (p .row .third) ≡ false → putCount 20 n (recordOf p) ≡ recordOf (onRow (withThird (ofCount n)) p)
   unfolding recordOf
   put-failures n e =
@@ -112,6 +127,7 @@ module _ (p : Placed) where
       ∷ isGiven (p .row .second) ∷ b ∷ isGiven (p .row .fourth) ∷ isGiven (p .row .sixth) ∷ p .row .isFlaky ∷ [])
       ∷ behind (onRow (withThird (ofCount n)) p)) e
 
+  -- a count of errors stored is the row with that count
   pub put-errors : (n : ℕ) → isGiven (p .row .fourth) ≡ false → putCount 22 n (recordOf p) ≡ recordOf (onRow (withFourth (ofCount n)) p)
   unfolding recordOf
   put-errors n e =
@@ -120,19 +136,23 @@ module _ (p : Placed) where
       ∷ isGiven (p .row .second) ∷ isGiven (p .row .third) ∷ b ∷ isGiven (p .row .sixth) ∷ p .row .isFlaky ∷ [])
       ∷ behind (onRow (withFourth (ofCount n)) p)) e
 
+  -- a count of skipped tests stored is the row with that count
   pub put-skipped : (n : ℕ) → putCount 24 n (recordOf p) ≡ recordOf (onRow (withFifth (ofCount n)) p)
   unfolding recordOf
   put-skipped n = refl
 
   -- ---- the flaky bit, and the kind
+  -- the flaky bit set is the row that is flaky
   pub put-flaky : marked 9 (recordOf p) ≡ recordOf (onRow (withFlaky true) p)
   unfolding recordOf
   put-flaky = marked-flags (p .row .kind) 9 (presence (p .row)) (behind p) (lit≤ tt) (lit≤ tt)
 
+  -- the flaky bit cleared is the row that isn't flaky
   pub clear-flaky : unmarked 9 (recordOf p) ≡ recordOf (onRow (withFlaky false) p)
   unfolding recordOf
   clear-flaky = unmarked-flags (p .row .kind) 9 (presence (p .row)) (behind p) (lit≤ tt) (lit≤ tt)
 
+  -- the kind's store is the row with that kind
   pub put-kind : (k : ℕ) → set (recordOf p) 0 k ≡ recordOf (onRow (withKind k) p)
   unfolding recordOf
   put-kind k = refl

@@ -98,6 +98,7 @@ module _ (r : Report) (ps : List Placed) (texts : List ℕ) (n m : ℕ)
   good : allGood texts (recordsIn ps) ≡ true
   good = sym (ap (λ (l : List Placed). allGood texts (recordsIn l)) on) ∙ all-good (good-rows r) (every-each fitsRow (rowsOf r) fit) (spotsOf ps) held
 
+  -- records of a report's rows, and texts in which theirs stand, are a layout, wherever each text stands
   pub placed-layout : layout (laid (zeros n) (joined (recordsIn ps))) (laid (zeros m) texts) ≡ true
   unfolding layout
   placed-layout =
@@ -107,6 +108,7 @@ module _ (r : Report) (ps : List Placed) (texts : List ℕ) (n m : ℕ)
       (both (ap (goodOrder nothing) records ∙ order-placed r ps rows)
       (ap (λ (rs : List (List ℕ)). allZero (drop (length rs * 32) (usedWords (laid (zeros n) (joined (recordsIn ps)))))) records ∙ zeros-behind whole n limit-records room-records)))
 
+  -- the report that such a layout holds is the rows' report
   pub placed-report : reportOf (laid (zeros n) (joined (recordsIn ps))) (laid (zeros m) texts) ≡ some r
   unfolding reportOf
   placed-report =

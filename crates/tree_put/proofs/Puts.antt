@@ -20,18 +20,23 @@ same-bits j r r′ e = ap (λ (n : ℕ). eqb (n / maskOf j % 2) 1) e
 
 -- two words
 module _ (o a b : ℕ) (r : List ℕ) where
+  -- putting two words leaves the record's length
   pub pair-length : length (putPair o a b r) ≡ length r
   pair-length = length-set (set r o a) (o + 1) b ∙ length-set r o a
 
+  -- the first of two words put is there
   pub pair-first : o < length r → getD (putPair o a b r) o 0 ≡ a
   pair-first h = field-other (set r o a) (o + 1) b o (omega arith) ∙ field-same r o a h
 
+  -- the second of two words put is there
   pub pair-second : o + 1 < length r → getD (putPair o a b r) (o + 1) 0 ≡ b
   pair-second h = field-same (set r o a) (o + 1) b (rw (length-set r o a) h)
 
+  -- every other word stays
   pub pair-other : (p : ℕ) → (p ≡ o → ⊥) → (p ≡ o + 1 → ⊥) → getD (putPair o a b r) p 0 ≡ getD r p 0
   pair-other p h h′ = field-other (set r o a) (o + 1) b p h′ ∙ field-other r o a p h
 
+  -- two words put behind the presence bits leave the bits
   pub pair-bits : (j : ℕ) → 1 < o → hasBit j (putPair o a b r) ≡ hasBit j r
   pair-bits j h = same-bits j r (putPair o a b r) (pair-other 1 (omega arith) (omega arith))
 
@@ -54,6 +59,7 @@ pub words-length : (o : ℕ) (vs r : List ℕ) → length (putWords o vs r) ≡ 
 words-length o [] r = refl
 words-length o (v ∷ vs) r = words-length (o + 1) vs (set r o v) ∙ length-set r o v
 
+-- words put from o on leave those before it
 pub words-before : (o : ℕ) (vs r : List ℕ) (p : ℕ) → p < o → getD (putWords o vs r) p 0 ≡ getD r p 0
 words-before o [] r p h = refl
 words-before o (v ∷ vs) r p h = words-before (o + 1) vs (set r o v) p (omega arith) ∙ field-other r o v p (omega arith)
@@ -93,12 +99,15 @@ count-back o n r h =
 pub text-length : (o k start n : ℕ) (r : List ℕ) → length (putText o k start n r) ≡ length r
 text-length o k start n r = marked-length k (putPair o start n r) ∙ pair-length o start n r
 
+-- putting a UUID leaves the record's length
 pub uuid-length : (w : Words) (r : List ℕ) → length (putUuid w r) ≡ length r
 uuid-length w r = marked-length 1 (putWords 4 (uuidWords w) r) ∙ words-length 4 (uuidWords w) r
 
+-- putting a timestamp leaves the record's length
 pub moment-length : (m : Moment) (r : List ℕ) → length (putMoment m r) ≡ length r
 moment-length m r = marked-length 3 (putWords 8 (momentWords m) r) ∙ words-length 8 (momentWords m) r
 
+-- putting a time leaves the record's length
 pub time-length : (t : ℕ × ℕ) (r : List ℕ) → length (putTime t r) ≡ length r
 time-length t r = marked-length 4 (putPair 16 (t .0) (t .1) r) ∙ pair-length 16 (t .0) (t .1) r
 
@@ -106,6 +115,7 @@ time-length t r = marked-length 4 (putPair 16 (t .0) (t .1) r) ∙ pair-length 1
 pub uuid-put : (w : Words) (r : List ℕ) {r₁ r₂ out : List ℕ} → r₁ ≡ putPair 4 (w .a) (w .b) r → r₂ ≡ putPair 6 (w .c) (w .d) r₁ → out ≡ marked 1 r₂ → out ≡ putUuid w r
 uuid-put w r e₁ e₂ e = e ∙ ap (marked 1) (e₂ ∙ ap (putPair 6 (w .c) (w .d)) e₁)
 
+-- the code's five stores of a timestamp, one behind the other, are the definition's
 pub moment-put :
     (m : Moment) (r : List ℕ) {r₁ r₂ r₃ r₄ out : List ℕ} → r₁ ≡ putPair 8 (m .year) (m .month) r → r₂ ≡ putPair 10 (m .day) (m .hour) r₁
     → r₃ ≡ putPair 12 (m .minute) (m .second) r₂ → r₄ ≡ putPair 14 (m .nanos) (m .offset) r₃ → out ≡ marked 3 r₄ → out ≡ putMoment m r

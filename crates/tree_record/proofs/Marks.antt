@@ -13,10 +13,12 @@ use Rattle.tree_record.specs.Record.{maskOf, hasBit, marked}
 use Rattle.tree_record.proofs.Bits.{bit-set, bit-other, bit-fits}
 
 module _ (k : ℕ) (r : List ℕ) where
+  -- a bit that is set is set by doing nothing
   pub marked-already : hasBit k r ≡ true → marked k r ≡ r
   unfolding marked
   marked-already e = rw e refl
 
+  -- a bit that isn't set is set by adding its value: the code's store
   pub marked-anew : hasBit k r ≡ false → marked k r ≡ set r 1 (getD r 1 0 + maskOf k)
   unfolding marked
   marked-anew e = rw e refl
@@ -29,6 +31,7 @@ module _ (k : ℕ) (r : List ℕ) where
       go true e = rw (marked-already k r e) (y e)
       go false e = rw (marked-anew k r e) (n e)
 
+  -- setting a bit leaves the record's length
   pub marked-length : length (marked k r) ≡ length r
   marked-length = by-cases (λ x. length x ≡ length r) (λ _. refl) (λ _. length-set r 1 (getD r 1 0 + maskOf k))
 
@@ -36,6 +39,7 @@ module _ (k : ℕ) (r : List ℕ) where
   pub marked-other : (p : ℕ) → (p ≡ 1 → ⊥) → getD (marked k r) p 0 ≡ getD r p 0
   marked-other p h = by-cases (λ x. getD x p 0 ≡ getD r p 0) (λ _. refl) (λ _. field-other r 1 (getD r 1 0 + maskOf k) p h)
 
+  -- a bit that was set is there
   pub marked-bit : 1 < length r → hasBit k (marked k r) ≡ true
   marked-bit h = by-cases (λ x. hasBit k x ≡ true) (λ e. e) λ e.
       ap (λ (n : ℕ). eqb (n / maskOf k % 2) 1) (field-same r 1 (getD r 1 0 + maskOf k) h)
@@ -56,6 +60,7 @@ module _ (k : ℕ) (r : List ℕ) where
     front-bit : hasBit k (take n r) ≡ hasBit k r
     front-bit = ap (λ (v : ℕ). eqb (v / maskOf k % 2) 1) (getD-take n r 1 0 h)
 
+    -- a front of the record that has the bits' word: setting a bit there is setting it in the whole
     pub marked-front : take n (marked k r) ≡ marked k (take n r)
     marked-front = go (hasBit k r) refl
       where
@@ -66,6 +71,7 @@ module _ (k : ℕ) (r : List ℕ) where
             ∙ ap (λ (v : ℕ). set (take n r) 1 (v + maskOf k)) (sym (getD-take n r 1 0 h))
             ∙ sym (marked-anew k (take n r) (front-bit ∙ e))
 
+    -- setting a bit leaves all words behind the bits
     pub marked-behind : drop n (marked k r) ≡ drop n r
     marked-behind = by-cases (λ x. drop n x ≡ drop n r) (λ _. refl) (λ _. drop-set-lt n r 1 (getD r 1 0 + maskOf k) h)
 

@@ -56,6 +56,7 @@ module _ {rs : List (List ℕ)} (w : Each Whole rs) (n : ℕ) (limit : length rs
       let b : length (take 2097152 l) ≡ min 2097152 (length l) = length-take 2097152 l in
       ap (λ (s : List ℕ). recordsFrom (length (take 2097152 s) / 32) s) laid-records ∙ records-from w (length (take 2097152 l) / 32) k (omega arith)
 
+  -- behind the records that were put into a cleared area it is zero, as a layout asks
   pub zeros-behind : allZero (drop (length rs * 32) (usedWords (laid (zeros n) (joined rs)))) ≡ true
   zeros-behind =
       let p = take-area (joined rs) (n - length (joined rs)) 2097152 (let e = joined-length w in omega arith) in

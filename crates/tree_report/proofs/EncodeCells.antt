@@ -27,6 +27,7 @@ module _ (F : ℕ) where
   half true = omega arith
   half false = omega arith
 
+-- bit k of the word that is made of flags is flag k
 pub bit-flag : (k : ℕ) (bs : List Bool) → eqb (flagsOf bs / 2 ^ k % 2) 1 ≡ getD bs k false
 bit-flag k [] = rw (zero-div (2 ^ k))
 bit-flag zero (b ∷ bs) = low-bit (flagsOf bs) b
@@ -48,6 +49,7 @@ bits-weights r bs e (k ∷ ks) =
     let b : hasBit k r ≡ getD bs (min k 9) false = ap (λ (n : ℕ). eqb (n / maskOf k % 2) 1) e ∙ bit-flag (min k 9) bs in
     rw (b, weight (getD bs (min k 9) false) (maskOf k), bits-weights r bs e ks) refl
 
+-- a record whose flags come to no more than these bits' has only these bits set
 pub only-bits : (r : List ℕ) (bs : List Bool) (ks : List ℕ) → getD r 1 0 ≡ flagsOf bs → flagsOf bs ≡ weights ks bs → onlyBits ks r ≡ true
 only-bits r bs ks e h = eq-eqb (getD r 1 0) (bitsOf ks r) (e ∙ h ∙ sym (bits-weights r bs e ks))
 
@@ -70,6 +72,7 @@ pub record NumberBack (r : List ℕ) (k o : ℕ) (n : Option ℕ) : Type 0 where
   pub good : slot (hasBit k r) true (zeroAt r o 2) ≡ true
   pub back : given (hasBit k r) (numberAt r o) ≡ n
 
+-- a number's cell in a record is good, and the number is read back
 pub number-back : (fill : ℕ) (r : List ℕ) (k o : ℕ) (n : Option ℕ) → hasBit k r ≡ isGiven (ofNumber n) → Pairing r o (firstWord fill (ofNumber n)) (secondWord (ofNumber n)) → NumberBack r k o n
 number-back fill r k o none b w = record { good = rw (b, w .2) refl; back = rw b refl }
 number-back fill r k o (some n) b w = record { good = rw b refl; back = rw (b, w .0, w .1) (ap (λ (m : ℕ). some m) (mod-add-div' n 4294967296)) }
@@ -81,6 +84,7 @@ pub record MomentBack (r : List ℕ) (m : Option Moment) : Type 0 where
   pub good : fitsMoment m ≡ true → momentSlot r ≡ true
   pub back : timestamp r ≡ m
 
+-- a timestamp's words in a record are good, and the timestamp is read back
 pub moment-back : (r : List ℕ) (m : Option Moment) → hasBit 3 r ≡ isSome m → momentOf r ≡ momentOrZero m → take 8 (drop 8 r) ≡ momentWords (momentOrZero m) → MomentBack r m
 moment-back r none b e w = record { good = λ f. rw (b, w) refl; back = rw b refl }
 moment-back r (some m) b e w = record { good = λ f. rw (b, e) f; back = rw (b, e) refl }
@@ -89,6 +93,7 @@ pub record TimeBack (r : List ℕ) (d : Option Duration) : Type 0 where
   pub good : fitsTime d ≡ true → timeSlot r ≡ true
   pub back : time r ≡ d
 
+-- a time's words in a record are good, and the time is read back
 pub time-back : (r : List ℕ) (d : Option Duration) → hasBit 4 r ≡ isSome d → Pairing r 16 (timeOrZero d .seconds) (timeOrZero d .nanos) → TimeBack r d
 time-back r none b w = record { good = λ f. rw (b, w .2) refl; back = rw b refl }
 time-back r (some d) b w = record { good = λ f. rw (b, w .0, w .1) f; back = rw (b, w .0, w .1) refl }

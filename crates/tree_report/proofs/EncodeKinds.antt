@@ -23,6 +23,7 @@ suiteKinds = 13 ∷ 4 ∷ 3 ∷ caseKinds
 pairs-kinds : (kind : ℕ) (ks : List ℕ) → among ks kind ≡ true → (ps : List Pair) → Kinds ks (map (pairRow kind) ps)
 pairs-kinds kind ks e ps = each-map (pairRow kind) (λ p. e) ps
 
+-- the rows of runs have the kinds of runs only
 pub runs-kinds : (family : FlakyOrRerun) (runs : List TestRerun) → Kinds runKinds (map (runRow family) runs)
 runs-kinds family runs = each-map (runRow family) (λ r. one family (r .kind)) runs
   where
@@ -35,25 +36,30 @@ runs-kinds family runs = each-map (runRow family) (λ r. one family (r .kind)) r
 runs-status : (family : FlakyOrRerun) (runs : List TestRerun) → Kinds statusKinds (map (runRow family) runs)
 runs-status family runs = kinds-more 6 (7 ∷ 8 ∷ runKinds) (kinds-more 7 (8 ∷ runKinds) (kinds-more 8 runKinds (runs-kinds family runs)))
 
+-- the rows of a status have the kinds of status elements only
 pub status-kinds : (s : TestCaseStatus) → Kinds statusKinds (statusRows s)
 status-kinds (success runs) = runs-status flaky runs
 status-kinds (nonSuccess failure reason family runs) = more refl (runs-status family runs)
 status-kinds (nonSuccess error reason family runs) = more refl (runs-status family runs)
 status-kinds (skipped reason) = more refl done
 
+-- the rows below a case begin no case and no suite, so that they are found as its own
 pub below-case : (c : TestCase) → Kinds caseKinds (map (pairRow 14) (c .extra) ++ (map (pairRow 5) (c .properties) ++ statusRows (c .status)))
 below-case c =
     each-append (pairs-kinds 14 caseKinds refl (c .extra))
     (each-append (pairs-kinds 5 caseKinds refl (c .properties)) (kinds-more 14 (5 ∷ statusKinds) (kinds-more 5 statusKinds (status-kinds (c .status)))))
 
+-- the rows of cases begin no suite, so that they are found below their suite
 pub cases-kinds : (cs : List TestCase) → Kinds (3 ∷ caseKinds) (rowsOfEach caseRows cs)
 cases-kinds cs = each-rows caseRows (λ c. more refl (kinds-more 3 caseKinds (below-case c))) cs
 
+-- the rows below a suite begin no suite, so that they are found as its own
 pub below-suite : (s : TestSuite) → Kinds suiteKinds (map (pairRow 13) (s .extra) ++ (map (pairRow 4) (s .properties) ++ rowsOfEach caseRows (s .cases)))
 below-suite s =
     each-append (pairs-kinds 13 suiteKinds refl (s .extra))
     (each-append (pairs-kinds 4 suiteKinds refl (s .properties)) (kinds-more 13 (4 ∷ 3 ∷ caseKinds) (kinds-more 4 (3 ∷ caseKinds) (cases-kinds (s .cases)))))
 
+-- all kinds that the rows of a report have
 pub report-kinds : (r : Report) → Kinds (1 ∷ 2 ∷ suiteKinds) (rowsOf r)
 report-kinds r =
     more refl (kinds-more 1 (2 ∷ suiteKinds) (each-rows suiteRows (λ s. more refl (kinds-more 2 suiteKinds (below-suite s))) (r .suites)))

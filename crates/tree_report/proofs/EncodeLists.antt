@@ -13,33 +13,41 @@ use Rattle.tree_report.specs.ReportOf.{only, until, branches}
 use Rattle.tree_report.specs.Encode.{Cell, stored, storedIn, Row, cellsOf, cellsIn, recordAt, recordsAt, rowsOfEach, every}
 
 -- ---- tests
+-- two tests that hold, as one
 pub both : {a b : Bool} → a ≡ true → b ≡ true → (a && b) ≡ true
 both {a} {b} p q = and-eq-true-iff a b .1 (p, q)
 
+-- the first of two tests that hold
 pub and-left : (a b : Bool) → (a && b) ≡ true → a ≡ true
 and-left a b e = and-eq-true-iff a b .0 e .0
 
+-- the second of two tests that hold
 pub and-right : (a b : Bool) → (a && b) ≡ true → b ≡ true
 and-right a b e = and-eq-true-iff a b .0 e .1
 
 -- ---- P of each
 module _ {A : Type 0} {P : A → Type 0} where
+  -- what holds of each of two lists holds of each of them joined
   pub each-append : {xs ys : List A} → Each P xs → Each P ys → Each P (xs ++ ys)
   each-append done q = q
   each-append (more p ps) q = more p (each-append ps q)
 
+  -- what follows from it holds of each too
   pub each-on : {Q : A → Type 0} → ((x : A) → P x → Q x) → {xs : List A} → Each P xs → Each Q xs
   each-on f done = done
   each-on f (more {x = x} p ps) = more (f x p) (each-on f ps)
 
+-- a computed test of every element, as a fact of each
 pub every-each : {A : Type 0} (p : A → Bool) (xs : List A) → every p xs ≡ true → Each (λ x. p x ≡ true) xs
 every-each p [] e = done
 every-each p (x ∷ xs) e = more (and-left (p x) (every p xs) e) (every-each p xs (and-right (p x) (every p xs) e))
 
+-- what holds of every value of f holds of each of a list's
 pub each-map : {A B : Type 0} {P : B → Type 0} (f : A → B) → ((x : A) → P (f x)) → (xs : List A) → Each P (map f xs)
 each-map f h [] = done
 each-map f h (x ∷ xs) = more (h x) (each-map f h xs)
 
+-- what holds of the rows of every element holds of the rows of all
 pub each-rows : {A : Type 0} {P : Row → Type 0} (f : A → List Row) → ((x : A) → Each P (f x)) → (xs : List A) → Each P (rowsOfEach f xs)
 each-rows f h [] = done
 each-rows f h (x ∷ xs) = each-append (h x) (each-rows f h xs)
@@ -69,28 +77,35 @@ records-append (r ∷ rs) qs fill =
 
 -- ---- the records that pass a test, and those behind one
 module _ (p : List ℕ → Bool) where
+  -- if all pass, all are chosen
   pub only-all : {rs : List (List ℕ)} → Each (λ r. p r ≡ true) rs → only p rs ≡ rs
   only-all done = refl
   only-all (more {x = r} h hs) = rw h (ap (λ (l : List (List ℕ)). r ∷ l) (only-all hs))
 
+  -- a record that passes is chosen
   pub only-first : (r : List ℕ) (rs : List (List ℕ)) → p r ≡ true → only p (r ∷ rs) ≡ r ∷ only p rs
   only-first r rs e = rw e refl
 
+  -- a record that doesn't pass is left out
   pub only-rest : (r : List ℕ) (rs : List (List ℕ)) → p r ≡ false → only p (r ∷ rs) ≡ only p rs
   only-rest r rs e = rw e refl
 
+  -- if none pass, none are chosen
   pub only-none : {rs : List (List ℕ)} → Each (λ r. p r ≡ false) rs → only p rs ≡ []
   only-none done = refl
   only-none (more h hs) = rw h (only-none hs)
 
+  -- those that pass, before those that don't, are what is chosen
   pub only-front : {rs qs : List (List ℕ)} → Each (λ r. p r ≡ true) rs → Each (λ r. p r ≡ false) qs → only p (rs ++ qs) ≡ rs
   only-front done k = only-none k
   only-front (more {x = r} h hs) k = rw h (ap (λ (l : List (List ℕ)). r ∷ l) (only-front hs k))
 
+  -- those that don't pass, before others, are left out
   pub only-behind : {rs : List (List ℕ)} (qs : List (List ℕ)) → Each (λ r. p r ≡ false) rs → only p (rs ++ qs) ≡ only p qs
   only-behind qs done = refl
   only-behind qs (more h hs) = rw h (only-behind qs hs)
 
+  -- records that begin no branch, before others, are left out
   pub branches-behind : {rs : List (List ℕ)} (qs : List (List ℕ)) → Each (λ r. p r ≡ false) rs → branches p (rs ++ qs) ≡ branches p qs
   branches-behind qs done = refl
   branches-behind qs (more h hs) = rw h (branches-behind qs hs)
@@ -100,6 +115,7 @@ module _ (p : List ℕ → Bool) where
   Starts [] = Unit {0}
   Starts (q ∷ qs) = p q ≡ true
 
+  -- the records up to the next that begins a branch
   pub until-next : {rs : List (List ℕ)} (qs : List (List ℕ)) → Each (λ r. p r ≡ false) rs → Starts qs → until p (rs ++ qs) ≡ rs
   until-next [] done e = refl
   until-next (q ∷ qs) done e = rw e refl

@@ -297,6 +297,7 @@ report-step : (r : Report) (g : ℕ) → Step nothing (recordAt g (reportRow r))
 unfolding recordAt mayFollow following mayEnd ruled
 report-step r g = record { alive = refl; allowed = refl; leaves = record { level = lit≤ tt; ends = refl } }
 
+-- a report's records pass the layout's test of order, wherever its texts begin
 pub order-good : (r : Report) (g : ℕ) → goodOrder nothing (recordsAt g (rowsOf r)) ≡ true
 unfolding goodOrder
 order-good r g =

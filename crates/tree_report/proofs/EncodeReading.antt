@@ -24,6 +24,7 @@ standing-left : {texts : List ℕ} {fill : ℕ} (a b : List Row) (ss : List Cell
 standing-left {texts} {fill} a b ss h =
     subst (λ (l : List Cell). Standing texts fill l) (ap (λ (l : List Cell). l ++ ss) (cells-append a b) ∙ append-assoc (cellsIn a) (cellsIn b) ss) h
 
+-- the family of a run is read back from its kind
 pub run-family : (family : FlakyOrRerun) (k : NonSuccessKind) → cond (leb (kindOfRun family k) 10) flaky rerun ≡ family
 run-family flaky failure = refl
 run-family flaky error = refl
@@ -45,6 +46,7 @@ all-runs family runs g = only-all isRun (each-record (λ r. isRun r ≡ true) (e
     one : (k : NonSuccessKind) → (leb 9 (kindOfRun family k) && leb (kindOfRun family k) 12) ≡ true
     one k = let b = run-bounds family k in both (le-leb 9 (kindOfRun family k) (b .0)) (le-leb (kindOfRun family k) 12 (b .1))
 
+-- the kind of a status element is told from that of a run
 pub main-test : (kind : NonSuccessKind) → ((leb 6 (kindOfMain kind) && leb (kindOfMain kind) 8) ≡ true) × ((leb 9 (kindOfMain kind) && leb (kindOfMain kind) 12) ≡ false)
 main-test failure = (refl, refl)
 main-test error = (refl, refl)

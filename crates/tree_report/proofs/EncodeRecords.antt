@@ -27,6 +27,7 @@ pub record Common (texts r : List ℕ) (t : Option Text) (m : Option Moment) (d 
   pub moment : MomentBack r m
   pub time : TimeBack r d
 
+-- the parts that a report, suite or case has in common are good in a layout, if its times fit
 pub good-common : {texts r : List ℕ} {t : Option Text} {m : Option Moment} {d : Option Duration} → Common texts r t m d → fitsMoment m ≡ true → fitsTime d ≡ true → goodCommon texts r ≡ true
 unfolding goodCommon
 good-common c f g = both (c .text .good) (both (c .moment .good f) (c .time .good g))
@@ -81,6 +82,7 @@ module _ (kind : ℕ) (isFlaky : Bool) (e : TestRerun) where
 abbrev pub GoodRow : Row → Type 0
 GoodRow row = (texts : List ℕ) (fill : ℕ) (ss : List Cell) → Standing texts fill (cellsOf row ++ ss) → fitsRow row ≡ true → goodRecord texts (recordAt fill row) ≡ true
 
+-- of a row that fits, timestamp and time do
 pub fits-times : (row : Row) → fitsRow row ≡ true → (fitsMoment (row .timestamp) ≡ true) × (fitsTime (row .time) ≡ true)
 unfolding fitsRow
 fits-times row f =
@@ -88,6 +90,7 @@ fits-times row f =
     (fitsMoment (row .timestamp) && fitsTime (row .time)) f in
     (and-left (fitsMoment (row .timestamp)) (fitsTime (row .time)) g, and-right (fitsMoment (row .timestamp)) (fitsTime (row .time)) g)
 
+-- a record that is no report, suite or case is good if its own test passes
 pub other-record : (texts r : List ℕ) → 4 ≤ kindOf r → kindOf r ≤ 14 → goodOther texts r ≡ true → goodRecord texts r ≡ true
 unfolding goodRecord
 other-record texts r l h g =
@@ -173,12 +176,14 @@ run-kind flaky error = refl
 run-kind rerun failure = refl
 run-kind rerun error = refl
 
+-- the kinds of runs are 9 to 12
 pub run-bounds : (family : FlakyOrRerun) (k : NonSuccessKind) → (9 ≤ kindOfRun family k) × (kindOfRun family k ≤ 12)
 run-bounds flaky failure = (lit≤ tt, lit≤ tt)
 run-bounds flaky error = (lit≤ tt, lit≤ tt)
 run-bounds rerun failure = (lit≤ tt, lit≤ tt)
 run-bounds rerun error = (lit≤ tt, lit≤ tt)
 
+-- the presence bits that a run may have
 pub run-bits : (kind : ℕ) → 9 ≤ kind → kind ≤ 12 → bitsFor kind ≡ 0 ∷ 1 ∷ 2 ∷ 3 ∷ 4 ∷ 5 ∷ 6 ∷ 7 ∷ []
 unfolding bitsFor
 run-bits kind l m = rw (lt-leb kind 5 (omega arith), lt-leb 13 kind (omega arith), lt-leb kind 7 (omega arith), lt-leb kind 8 (omega arith)) refl
@@ -253,6 +258,7 @@ pub record CountsBack (r : List ℕ) (c : Counts) : Type 0 where
   pub good : goodCounts r ≡ true
   pub back : counts r ≡ c
 
+-- the counts of a record are good, and are read back
 pub counts-back : (r : List ℕ) (c : Counts) → numberAt r 18 ≡ c .tests → numberAt r 20 ≡ c .failures → numberAt r 22 ≡ c .errors
     → numberAt r 24 ≡ c .skipped → NumberBack r 8 26 (c .disabled) → zeroAt r 28 4 ≡ true → CountsBack r c
 unfolding goodCounts
@@ -308,12 +314,14 @@ pub record UuidBack (r : List ℕ) (u : Option Words) : Type 0 where
   pub good : slot (hasBit 1 r) true (zeroAt r 4 4) ≡ true
   pub back : uuid r ≡ u
 
+-- the UUID of a record is good, and is read back
 pub uuid-back : (r : List ℕ) (fill : ℕ) (fill′ : ℕ) (u : Option Words) → hasBit 1 r ≡ isGiven (uuidFront u)
     → take 4 (drop 4 r) ≡ firstWord fill (uuidFront u) ∷ secondWord (uuidFront u) ∷ firstWord fill′ (uuidBack u) ∷ secondWord (uuidBack u) ∷ []
     → Pairing r 4 (firstWord fill (uuidFront u)) (secondWord (uuidFront u)) → Pairing r 6 (firstWord fill′ (uuidBack u)) (secondWord (uuidBack u)) → UuidBack r u
 uuid-back r fill fill′ none b w v v′ = record { good = rw (b, w) refl; back = rw b refl }
 uuid-back r fill fill′ (some u) b w v v′ = record { good = rw b refl; back = rw (b, v .0, v .1, v′ .0, v′ .1) refl }
 
+-- the second half of a UUID has no presence bit of its own
 pub back-hidden : (u : Option Words) → isGiven (uuidBack u) ≡ false
 back-hidden none = refl
 back-hidden (some u) = refl

@@ -44,6 +44,7 @@ clean-nonzero b e = go (eqb b 0) refl
     go true z = absurd (true≢false (sym (ap dropped (eqb-true b 0 z)) ∙ e))
     go false z = z
 
+-- with zeros behind them, texts are found again: none of them has a zero byte
 pub filled-texts : (t : List ℕ) (k : ℕ) → unfiltered t ≡ true → filled (t ++ zeros k) ≡ t
 filled-texts [] zero e = refl
 filled-texts [] (suc k) e = refl
@@ -51,6 +52,7 @@ filled-texts (b ∷ t) k e =
     let n = clean-nonzero b (not-true (dropped b) (and-left (not (dropped b)) (unfiltered t) e)) in
     rw n (ap (λ (l : List ℕ). b ∷ l) (filled-texts t k (and-right (not (dropped b)) (unfiltered t) e)))
 
+-- texts with zeros behind them pass the layout's test
 pub good-texts : (t : List ℕ) (k : ℕ) → utf8 t ≡ true → unfiltered t ≡ true → goodText (t ++ zeros k) ≡ true
 unfolding goodText
 good-texts t k u c = rw (filled-texts t k c) (both u (both c (rw (drop-append-seam t (zeros k)) (zero-zeros k))))

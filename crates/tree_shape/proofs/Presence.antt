@@ -17,18 +17,22 @@ module _ (texts r : List ℕ) where
   unfolding goodRecord
   dead-record h = rw (le-ltb (getD r 0 0) 16 h) refl
 
+  -- the code's test of a report's record is the layout's
   pub report-record : getD r 0 0 ≡ 1 → goodReport texts r ≡ goodRecord texts r
   unfolding goodRecord
   report-record e = rw e refl
 
+  -- the code's test of a suite's record is the layout's
   pub suite-record : getD r 0 0 ≡ 2 → goodSuite texts r ≡ goodRecord texts r
   unfolding goodRecord
   suite-record e = rw e refl
 
+  -- the code's test of a case's record is the layout's
   pub case-record : getD r 0 0 ≡ 3 → goodCase texts r ≡ goodRecord texts r
   unfolding goodRecord
   case-record e = rw e refl
 
+  -- the code's test of any other record is the layout's
   pub other-record : getD r 0 0 < 16 → (getD r 0 0 ≡ 1 → ⊥) → (getD r 0 0 ≡ 2 → ⊥) → (getD r 0 0 ≡ 3 → ⊥) → (leb (getD r 0 0) 14 && goodOther texts r) ≡ goodRecord texts r
   unfolding goodRecord
   other-record h a b c = rw (lt-ltb (getD r 0 0) 16 h, ne-eqb (getD r 0 0) 1 a, ne-eqb (getD r 0 0) 2 b, ne-eqb (getD r 0 0) 3 c) refl

@@ -7,9 +7,11 @@ use native.Mathlib.Omega.{arith}
 use lib.ListN.{take, drop}
 use Rattle.tree_report.specs.Layout.{allZero, zeroAt, slot}
 
+-- the slot's bit is set: the code's answer is the test of its value
 pub slot-present : {b p x y : Bool} (z : Bool) → b ≡ p → b ≡ true → x ≡ y → x ≡ slot p y z
 slot-present z e t q = rw (sym e ∙ t) q
 
+-- the slot's bit isn't set: the code's answer is the test for zeros
 pub slot-absent : {b p x : Bool} (y : Bool) {z : Bool} → b ≡ p → b ≡ false → x ≡ z → x ≡ slot p y z
 slot-absent y e t q = rw (sym e ∙ t) q
 

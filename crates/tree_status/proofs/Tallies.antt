@@ -8,9 +8,11 @@ use lib.Dec.{leb, ltb}
 use Rattle.tree_status.specs.declared.Tally.{Tally}
 use Rattle.tree_status.specs.Status.{noStatus, tallied, Few}
 
+-- a tally with no count above n has none above a larger number
 pub few-more : {n m : ℕ} {t : Tally} → Few n t → n ≤ m → Few m t
 few-more f h = record { mains = omega arith; flaky = omega arith; reruns = omega arith }
 
+-- the empty tally has no count above any number
 pub few-none : (n : ℕ) → Few n noStatus
 few-none n = record { mains = omega arith; flaky = omega arith; reruns = omega arith }
 

@@ -34,6 +34,7 @@ module _ (P : List ℕ → Type 0) where
 trimmed-each : (s : List ℕ) → utf8 s ≡ true → Each Char (noEnd (noStart (chars s)))
 trimmed-each s e = end-each Char (noStart (chars s)) (start-each Char (chars s) (chars-each s e))
 
+-- UTF-8 stays UTF-8, since whole characters are trimmed
 pub utf8-trimmed : (s : List ℕ) → utf8 s ≡ true → utf8 (trimmed s) ≡ true
 utf8-trimmed s e = joined-utf8 (noEnd (noStart (chars s))) (trimmed-each s e)
 
@@ -69,6 +70,7 @@ trimmed-part s =
           ∙ ap (λ (l : List ℕ). p .before ++ l) (append-assoc (trimmed s) rest (p .after));
     }
 
+-- trimming never lengthens
 pub trimmed-length : (s : List ℕ) → length (trimmed s) ≤ length s
 trimmed-length s = let p = trimmed-part s in omega (arith, simp length-append at (ap length (p .whole)))
 

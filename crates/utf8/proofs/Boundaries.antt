@@ -28,6 +28,7 @@ boundary-drop (suc i) (b ∷ s) j h =
     let e : suc i + j ≡ suc (i + j) = omega arith in
     ap (boundary (b ∷ s)) e ∙ boundary-suc b s (i + j) ∙ boundary-drop i s j (omega arith)
 
+-- a boundary lies in the text or at its end
 pub boundary-in : (s : List ℕ) (i : ℕ) → boundary s i ≡ true → i ≤ length s
 boundary-in s i e = go (decLt (length s) i)
   where
@@ -67,6 +68,7 @@ boundary-start (b ∷ s) e = boundary-zero b s ∙ go (within 0x80 0xBF b) refl
     go true q = absurd (tail-first b s e (within-in 0x80 0xBF b q))
     go false q = rw q
 
+-- where UTF-8 is put behind a text there is a boundary
 pub boundary-append : (a b : List ℕ) → utf8 b ≡ true → boundary (a ++ b) (length a) ≡ true
 boundary-append a b e =
     let z : length a + 0 ≡ length a = omega arith in

@@ -82,6 +82,7 @@ utf8-encode c t = go (isScalar c) refl
     go true s = char-on (encode-char c s) t
     go false s = ap (λ (l : List ℕ). utf8 (l ++ t)) (form-0 c s)
 
+-- a character has at most four bytes, whatever the number is
 pub encode-most : (c : ℕ) → length (encode c) ≤ 4
 encode-most c = go (isScalar c) refl
   where

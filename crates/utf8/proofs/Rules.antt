@@ -21,6 +21,7 @@ ok-append (x ∷ a) b zero lo hi e = ok-append a b (need x) (low x) (high x) e
 ok-append (x ∷ a) b (suc n) lo hi e =
     let p = and-eq-true-iff (within lo hi x) (ok a n 0x80 0xBF) .0 e in rw (p .0) (ok-append a b n 0x80 0xBF (p .1))
 
+-- UTF-8 in front of a text changes nothing about its being UTF-8
 pub utf8-append : (a b : List ℕ) → utf8 a ≡ true → utf8 (a ++ b) ≡ utf8 b
 utf8-append a b e = ok-append a b 0 0x80 0xBF e
 
@@ -123,6 +124,7 @@ module _ (a : ℕ) {lo hi b : ℕ} (p : In lo hi b) (s : List ℕ) where
     width-row (b ∷ c ∷ d ∷ s) a _ _ _ r ∙ simp (in-within lo hi b p, in-within 0x80 0xBF c q, in-within 0x80 0xBF d t),
   )
 
+-- an ASCII byte in front changes nothing about a text's being UTF-8
 pub ascii-on : (b : ℕ) (s : List ℕ) → b < 0x80 → utf8 (b ∷ s) ≡ utf8 s
 ascii-on b s h = ap (λ (n : ℕ). ok s n (low b) (high b)) (need-ascii b h) ∙ ok-zero s (low b) (high b)
 
@@ -141,6 +143,7 @@ in-front (four-f4 {a = a} h p q t) s = on-3 a p s (row-f4 a h) q t
 pub char-on : {c : List ℕ} → Char c → (s : List ℕ) → utf8 (c ++ s) ≡ utf8 s
 char-on h s = in-front h s .0
 
+-- a character by itself is UTF-8
 pub char-utf8 : {c : List ℕ} → Char c → utf8 c ≡ true
 char-utf8 {c} h = sym (ap utf8 (append-nil c)) ∙ char-on h []
 
@@ -148,6 +151,7 @@ char-utf8 {c} h = sym (ap utf8 (append-nil c)) ∙ char-on h []
 pub width-char : {c : List ℕ} → Char c → (s : List ℕ) → width (c ++ s) ≡ length c
 width-char h s = in-front h s .1
 
+-- a character has one to four bytes
 pub char-size : {c : List ℕ} → Char c → (1 ≤ length c) × (length c ≤ 4)
 char-size (one h) = (lit≤ tt, lit≤ tt)
 char-size (two h p) = (lit≤ tt, lit≤ tt)
@@ -168,11 +172,13 @@ abbrev pub ascii : List ℕ → Bool
 ascii [] = true
 ascii (b ∷ s) = ltb b 0x80 && ascii s
 
+-- ASCII in front changes nothing about a text's being UTF-8
 pub ascii-append : (a s : List ℕ) → ascii a ≡ true → utf8 (a ++ s) ≡ utf8 s
 ascii-append [] s e = refl
 ascii-append (b ∷ a) s e =
     let p = and-eq-true-iff (ltb b 0x80) (ascii a) .0 e in ascii-on b (a ++ s) (ltb-true b 0x80 (p .0)) ∙ ascii-append a s (p .1)
 
+-- ASCII is UTF-8
 pub ascii-utf8 : (a : List ℕ) → ascii a ≡ true → utf8 a ≡ true
 ascii-utf8 a e = sym (ap utf8 (append-nil a)) ∙ ascii-append a [] e
 

@@ -23,6 +23,7 @@ need-most b = go (ltb b 0x80) (ltb b 0xE0) (ltb b 0xF0) (ltb b 0xF5)
     go false false false true = lit≤ tt
     go false false false false = lit≤ tt
 
+-- the byte behind a lead byte is at least 80 (hexadecimal)
 pub low-least : (b : ℕ) → 0x80 ≤ low b
 unfolding low
 low-least b = go (eqb b 0xE0) (eqb b 0xF0)
@@ -42,6 +43,7 @@ high-most b = go (ltb b 0xC2 || ltb 0xF4 b) (eqb b 0xED) (eqb b 0xF4)
     go false false true = lit≤ tt
     go false false false = lit≤ tt
 
+-- behind an ASCII byte nothing is needed
 pub need-ascii : (b : ℕ) → b < 0x80 → need b ≡ 0
 unfolding need
 need-ascii b h = simp (lt-ltb b 0x80 h)
@@ -87,14 +89,17 @@ module _ (s : List ℕ) (i k lo hi : ℕ) where
         ap (λ (l : List ℕ). ok l k lo hi) (drop-next s i h) ∙ ap (λ (n : ℕ). ok (getD s i 0 ∷ drop (i + 1) s) n lo hi) (one-less k m)
         ∙ ap (λ (u : Bool). u && ok (drop (i + 1) s) (k - 1) 0x80 0xBF) e
 
+    -- one following byte, and those behind it: a turn of the code's loop
     pub runs-next : (t : Bool) → 0 < k → within lo hi (getD s i 0) ≡ t → runs (drop i s) k lo hi ≡ (t && runs (drop (i + 1) s) (k - 1) 0x80 0xBF)
     runs-next t m e =
         ap (λ (l : List ℕ). runs l k lo hi) (drop-next s i h) ∙ ap (λ (n : ℕ). runs (getD s i 0 ∷ drop (i + 1) s) n lo hi) (one-less k m)
         ∙ ap (λ (u : Bool). u && runs (drop (i + 1) s) (k - 1) 0x80 0xBF) e
 
+  -- bytes are needed where the list ends: there is no character
   pub runs-end : 0 < k → length s ≤ i → runs (drop i s) k lo hi ≡ false
   runs-end m h = rw (drop-of-length-le s h, one-less k m)
 
+  -- no more bytes are needed: there is a character
   pub runs-done : k ≤ 0 → runs (drop i s) k lo hi ≡ true
   runs-done h = let z : k ≡ 0 = omega arith in rw z
 
@@ -102,13 +107,16 @@ module _ (s : List ℕ) (i k lo hi : ℕ) where
 pub width-some : (s : List ℕ) (b : ℕ) → runs s (need b) (low b) (high b) ≡ true → width (b ∷ s) ≡ suc (need b)
 width-some s b e = rw e
 
+-- a lead byte whose following bytes don't suit begins no character
 pub width-none : (s : List ℕ) (b : ℕ) → runs s (need b) (low b) (high b) ≡ false → width (b ∷ s) ≡ 0
 width-none s b e = rw e
 
+-- no bytes begin no character
 pub width-empty : (s : List ℕ) → length s ≡ 0 → width s ≡ 0
 width-empty [] e = refl
 width-empty (b ∷ s) e = absurd (omega arith)
 
+-- the first character lies in the list
 pub width-length : (s : List ℕ) → width s ≤ length s
 width-length [] = omega arith
 width-length (b ∷ s) = go (runs s (need b) (low b) (high b)) refl
@@ -117,6 +125,7 @@ width-length (b ∷ s) = go (runs s (need b) (low b) (high b)) refl
     go true q = let z : need b ≤ length s = runs-length s (need b) (low b) (high b) q in rw (width-some s b q) (omega arith)
     go false q = rw (width-none s b q) (omega arith)
 
+-- the first character has at most four bytes
 pub width-most : (s : List ℕ) → width s ≤ 4
 width-most [] = omega arith
 width-most (b ∷ s) = go (runs s (need b) (low b) (high b)) refl
@@ -130,8 +139,10 @@ module _ (s : List ℕ) (n lo hi : ℕ) (h : 0 < length s) (en : n ≡ need (get
   found : (t : Bool) → t ≡ runs (drop 1 s) n lo hi → runs (drop 1 s) (need (getD s 0 0)) (low (getD s 0 0)) (high (getD s 0 0)) ≡ t
   found t e = rw (← en, ← el, ← eh) (sym e)
 
+  -- the code found the following bytes: its answer is the character's width
   pub width-found : (t : Bool) → t ≡ runs (drop 1 s) n lo hi → t ≡ true → n + 1 ≡ width s
   width-found t e q = add-one n ∙ ap suc en ∙ sym (ap width (drop-next s 0 h) ∙ width-some (drop 1 s) (getD s 0 0) (found t e ∙ q))
 
+  -- the code missed one of them: its answer 0 is the width
   pub width-missed : (t : Bool) → t ≡ runs (drop 1 s) n lo hi → t ≡ false → 0 ≡ width s
   width-missed t e q = sym (ap width (drop-next s 0 h) ∙ width-none (drop 1 s) (getD s 0 0) (found t e ∙ q))

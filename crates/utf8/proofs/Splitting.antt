@@ -27,10 +27,12 @@ module _ (b : ℕ) (s : List ℕ) where
       go true q = rw (following-some q) (runs-length s (need b) (low b) (high b) q)
       go false q = rw (following-none q) (omega arith)
 
+-- a step goes on by some byte, so that the loop ends
 pub step-some : (s : List ℕ) → 0 < length s → 0 < step s
 step-some [] h = absurd (omega arith)
 step-some (b ∷ s) h = omega arith
 
+-- a step stays in the list
 pub step-length : (s : List ℕ) → step s ≤ length s
 step-length [] = omega arith
 step-length (b ∷ s) = let f = following-length b s in omega arith
@@ -44,6 +46,7 @@ step-width (b ∷ s) h = go (runs s (need b) (low b) (high b)) refl
     go true q = ap suc (following-some b s q) ∙ sym (width-some s b q)
     go false q = let z = width-none s b q in absurd (omega arith)
 
+-- where no character begins, a step is one byte
 pub step-stray : (s : List ℕ) → 0 < length s → width s ≡ 0 → step s ≡ 1
 step-stray [] h e = absurd (omega arith)
 step-stray (b ∷ s) h e = go (runs s (need b) (low b) (high b)) refl
@@ -65,6 +68,7 @@ first-char (b ∷ s) h = go (runs s (need b) (low b) (high b)) refl
     go true q = rw (width-some s b q) (run-char b s q)
     go false q = let z = width-none s b q in absurd (omega arith)
 
+-- where no character begins, the first byte by itself is no UTF-8
 pub first-stray : (s : List ℕ) → 0 < length s → width s ≡ 0 → utf8 (take 1 s) ≡ false
 first-stray [] h e = absurd (omega arith)
 first-stray (b ∷ s) h e = go (need b) refl
@@ -113,6 +117,7 @@ split-each (b ∷ s) (suc k) lo hi e = split-each s k 0x80 0xBF (and-eq-true-iff
 pub chars-each : (s : List ℕ) → utf8 s ≡ true → Each Char (chars s)
 chars-each s e = split-each s 0 0x80 0xBF e
 
+-- characters joined are UTF-8
 pub joined-utf8 : (cs : List (List ℕ)) → Each Char cs → utf8 (joined cs) ≡ true
 joined-utf8 [] a = refl
 joined-utf8 (c ∷ cs) a = char-on (a .0) (joined cs) ∙ joined-utf8 cs (a .1)
@@ -136,6 +141,7 @@ split-append (x ∷ a) b (suc k) lo hi e = split-append a b k 0x80 0xBF (and-eq-
 pub chars-append : (a b : List ℕ) → utf8 a ≡ true → chars (a ++ b) ≡ chars a ++ chars b
 chars-append a b e = split-append a b 0 0x80 0xBF e
 
+-- a character in front is split off as the first
 pub chars-char : {c : List ℕ} → Char c → (s : List ℕ) → chars (c ++ s) ≡ c ∷ chars s
 chars-char {c} h s =
     let n = char-size h in

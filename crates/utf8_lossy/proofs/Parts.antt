@@ -126,11 +126,14 @@ module _ (s : List ℕ) (n lo hi k : ℕ) (h : 0 < length s) (en : n ≡ need (g
 
 -- what stands for it
 module _ (s : List ℕ) (p : Part) (e : Parted s p) where
+  -- the part lies in the list
   pub parted-fits : p .width ≤ length s
   parted-fits = rw (e .takes) (part-length s)
 
+  -- a whole part stands for its own bytes
   pub parted-whole : p .whole ≡ true → take (p .width) s ≡ partText s
   parted-whole q = ap (λ (n : ℕ). take n s) (e .takes) ∙ sym (ap (λ (t : Bool). cond t (take (partWidth s) s) replacement) (sym (e .kept) ∙ q))
 
+  -- a part that isn't whole stands for the replacement character
   pub parted-bad : p .whole ≡ false → replacement ≡ partText s
   parted-bad q = sym (ap (λ (t : Bool). cond t (take (partWidth s) s) replacement) (sym (e .kept) ∙ q))

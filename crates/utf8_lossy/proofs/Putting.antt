@@ -22,9 +22,11 @@ module _ (s : List ℕ) (i : ℕ) (h : i < length s) (p : Part) (e : Parted (tak
   takes-here : p .width ≡ partWidth (drop i s)
   takes-here = e .takes ∙ ap partWidth (rest-part s i)
 
+  -- a part takes some byte, so that the loop ends
   pub part-moves : 0 < p .width
   part-moves = rw takes-here (part-some (drop i s) (rw (length-drop i s) (omega arith)))
 
+  -- a part ends in the list: the bound for the next turn
   pub part-fits : i + p .width ≤ length s
   part-fits = let m = part-length (drop i s) in let n = length-drop i s in omega (arith, takes-here)
 
@@ -57,14 +59,17 @@ module _ (s : List ℕ) (i : ℕ) (h : i < length s) (p : Part) (e : Parted (tak
         a ∙ ap (λ (z : List ℕ). placing short (length z) (f (partText (take (length s - i) (drop i s))))) (rest-part out k)
         ∙ ap (λ (z : List ℕ). placing short (length (drop k out)) (f (partText z))) (rest-part s i) ∙ ap (λ (n : ℕ). placing short n t) (length-drop k out)
 
+    -- the call had no room for the part's text: the way out, with the refusal and the area
     pub part-full : r ≡ Full → (refuses short ≡ placing short (length out₀) (f (lossy s))) × (after ≡ laid out₀ (f (lossy s)))
     part-full q = laying-over t g turn short after back (full-over short (length out - k) t (sym (ap (storedAnswer short) q) ∙ answer))
 
+    -- the call put the part's text: a turn of the loop
     pub part-put : (n : ℕ) → r ≡ Put n → Laying out₀ after (k + n) (f (lossy s)) g
     part-put n q =
         let m = put-fits short (length out - k) t n (sym (ap (storedAnswer short) q) ∙ answer) in
         rw (m .1) (laying-chunk t g turn after back (m .0))
 
+    -- what was put so far lies in the area
     pub put-room : (n : ℕ) → r ≡ Put n → k + n ≤ length out
     put-room n q =
         let m = put-fits short (length out - k) t n (sym (ap (storedAnswer short) q) ∙ answer) in

@@ -27,6 +27,7 @@ lossy-on (b ∷ s) = ap (λ (l : List ℕ). partText (b ∷ s) ++ l) (lossy-drop
 pub lossy-next : (s : List ℕ) (i : ℕ) → lossy (drop i s) ≡ partText (drop i s) ++ lossy (drop (i + partWidth (drop i s)) s)
 lossy-next s i = lossy-on (drop i s) ∙ ap (λ (l : List ℕ). partText (drop i s) ++ lossy l) (drop-drop (partWidth (drop i s)) i s)
 
+-- behind the end nothing is left to read
 pub lossy-end : (s : List ℕ) (i : ℕ) → length s ≤ i → lossy (drop i s) ≡ []
 lossy-end s i h = ap lossy (drop-of-length-le s h)
 
@@ -61,5 +62,6 @@ length-from (b ∷ s) zero =
     rw (length-append (partText (b ∷ s)) (lossyFrom s (behind b s))) (omega (arith, text-most b s, length-from s (behind b s)))
 length-from (b ∷ s) (suc k) = let h = length-from s k in omega arith
 
+-- read lossily, a text has at most three times its bytes: the bound for areas
 pub length-lossy : (s : List ℕ) → length (lossy s) ≤ 3 * length s
 length-lossy s = let h = length-from s 0 in omega arith

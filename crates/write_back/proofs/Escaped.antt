@@ -53,10 +53,12 @@ byte-back t =
     (five-refs 4 (lit< tt) t, five-decoded 4 (lit< tt) t)
     (λ b n e. (rw (ne-eqb b 0x26 n) refl, rw (ne-eqb b 0x26 n) refl))
 
+-- the references of escaped text are good
 pub refs-escaped : (s : List ℕ) → refsOk (escaped s) 0 ≡ true
 refs-escaped [] = refl
 refs-escaped (b ∷ s) = byte-back (escaped s) b .0 ∙ refs-escaped s
 
+-- escaped text stands for the text
 pub decoded-escaped : (s : List ℕ) → decoded (escaped s) 0 ≡ s
 decoded-escaped [] = refl
 decoded-escaped (b ∷ s) = byte-back (escaped s) b .1 ∙ ap (λ (l : List ℕ). b ∷ l) (decoded-escaped s)
@@ -67,10 +69,12 @@ length-escaped s = rw (decoded-escaped s) at (decoded-length (escaped s))
 
 -- as the value of an attribute
 module _ (s : List ℕ) where
+  -- an escaped attribute value is stored as the text, if nothing of it is filtered
   pub value-escaped : unfiltered s ≡ true → valueText (escaped s) ≡ s
   value-escaped e = ap filtered (decoded-escaped s) ∙ filtered-same s e
 
   module _ (u : utf8 s ≡ true) where
+    -- an escaped value passes the check of values
     pub checked-escaped : checkedOf (escaped s) ≡ gives tt
     checked-escaped = sym (both-yes (utf8 (escaped s)) (refsOk (escaped s) 0) (gives tt) (refuses cause.BadReference) (refuses cause.NotUtf8) (utf8-escaped s ∙ u) (refs-escaped s))
 

@@ -212,6 +212,7 @@ module _ (m : Moment) (r : InRange m) (whole : m .nanos % 1000000 ≡ 0) where
       (fraction-value millis (sign (m .offset)) _ (no-digit (m .offset) (r .offset-most)) small ∙ (omega arith))
       (ap offsetOf zone-is ∙ zone-value (m .offset) (r .offset-most))
 
+-- the text of a moment in range, of whole milliseconds, reads back as the moment
 pub timestamp-back : (m : Moment) → inRange m ≡ true → m .nanos % 1000000 ≡ 0 → timestampOf (timestampText m) ≡ gives m
 unfolding timestampOf
 timestamp-back m e whole = let r = range-facts m e in rw (utf8-timestamp m, form m r whole) (ap gives (moment m r whole))

@@ -69,6 +69,7 @@ module _ (w : Words) where
     unfolding uuidText
     words = same-words (wordsOf (uuidText w)) w (word-value (w .a) a) (halves (w .b) b) (halves (w .c) c) (word-value (w .d) d)
 
+    -- the text of four words of 32 bits reads back as these words
     pub uuid-back : uuidOf (uuidText w) ≡ gives w
     unfolding uuidOf
     uuid-back = rw (utf8-uuid w, form) (ap gives words)

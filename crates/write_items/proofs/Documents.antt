@@ -98,6 +98,7 @@ module _ (text : List ℕ) where
   unfolding written
   written-items all rep e = document-items all rep e ∙ sym (items-numbered 0 (serializeReport rep))
 
+-- the items that the code puts, record by record, are those of the report's events
 pub tree-items : (words text : List ℕ) (rep : Report) → reportOf words text ≡ some rep → documentIn (usedText text) (recordsOf words) ≡ itemsOf (written rep)
 unfolding reportOf
 tree-items words text = written-items (usedText text) (recordsOf words)

@@ -30,5 +30,6 @@ module _ (m : Moment) where
   unfolding dateText clockText offsetText timestampText
   timestamp-ascii = simp (digit-ascii, sign-ascii (m .offset))
 
+  -- a written timestamp is UTF-8, whatever the moment is
   pub utf8-timestamp : utf8 (timestampText m) ≡ true
   utf8-timestamp = ascii-utf8 (timestampText m) timestamp-ascii

@@ -71,10 +71,12 @@ module _ {es : List Event} (w : Each Writable es) where
         ∙ ap (λ (n : ℕ). checkFrom events attributes (length source) n 0) count ∙ laid-checked events attributes source w standing
 
 -- ---- those of a report
+-- a written table resolves to the very events that were written
 pub resolve-written : (r : Report) → resolve (laidOut (written r) .events) (laidOut (written r) .attributes) (laidOut (written r) .bytes) ≡ written r
 unfolding written
 resolve-written r = resolve-laid (writable-report r)
 
+-- a report's table that fits its areas is accepted by refusal 11's test
 pub table-written : (r : Report) (e a b : ℕ) → fits (laidOut (written r)) e a b ≡ true
     → tableOf (laidOut (written r) .events) (laidOut (written r) .attributes) (laidOut (written r) .bytes) ≡ accepted tt
 unfolding written

@@ -21,12 +21,14 @@ pairsIn [] = 0
 pairsIn (entry kind s n ∷ is) = pairsIn is
 pairsIn (pair key value ∷ is) = suc (pairsIn is)
 
+-- five words for each event
 pub length-events : (a b : ℕ) (is : List Item) → length (eventWords a b is) ≡ entriesIn is * 5
 unfolding eventWords entriesIn
 length-events a b [] = refl
 length-events a b (entry kind s n ∷ is) = omega (arith, length-events a (b + length s) is)
 length-events a b (pair key value ∷ is) = length-events (a + 1) (b + length (key ++ value)) is
 
+-- five words for each attribute
 pub length-attributes : (b : ℕ) (is : List Item) → length (attributeWords b is) ≡ pairsIn is * 5
 unfolding attributeWords pairsIn
 length-attributes b [] = refl

@@ -31,10 +31,12 @@ module _ (shown : List (List ℕ) → List Item) where
     pub sameBytes : length (s .byteArea) ≡ length (s₀ .byteArea)
     pub coming : Coming s₀ (shown (recordsIn words)) s (shown (recordsIn (drop at words)))
 
+  -- before the first record everything is to come
   pub going-start : (s : Areas) (words : List ℕ) → Going s words s 0
   going-start s words = record { fits = omega arith; sameEvents = refl; sameAttributes = refl; sameBytes = refl; coming = coming-start s (shown (recordsIn words)) }
 
   module _ {s₀ : Areas} {words : List ℕ} {s : Areas} {at : ℕ} (g : Going s₀ words s at) where
+    -- the loop's condition failed: an area is full or no record is left, and either way all was put
     pub going-stop : (a b : Bool) → shown [] ≡ [] → (a && b) ≡ false → a ≡ not (isFull (s .mark)) → b ≡ stands (take (length words - at) (drop at words)) → Wrote s₀ (shown (recordsIn words)) s
     going-stop true b none e p q = coming-done (coming-on (g .coming) (ap shown (records-over words at (sym q ∙ e)) ∙ none))
     going-stop false b none e p q = coming-shut (g .coming) (full-mark (s .mark) (sym p))
@@ -49,13 +51,16 @@ module _ (shown : List (List ℕ) → List Item) where
       next : shown (recordsIn (drop at words)) ≡ shown (here ∷ rest)
       next = ap shown (records-here words at t)
 
+      -- the loop was left at a record from which on nothing is written: all was put
       pub going-end : shown (here ∷ rest) ≡ [] → Wrote s₀ (shown (recordsIn words)) s
       going-end e = coming-done (coming-on (g .coming) (next ∙ e))
 
+      -- a record of which nothing is written is passed over
       pub going-pass : shown (here ∷ rest) ≡ shown rest → Going s₀ words s (at + 32)
       going-pass e =
           record { fits = stands-room words at t; sameEvents = g .sameEvents; sameAttributes = g .sameAttributes; sameBytes = g .sameBytes; coming = coming-on (g .coming) (next ∙ e) }
 
+      -- a record of which f is written, and a call that put f: the loop stands one record further
       pub going-wrote : {s′ : Areas} (f : List Item) → shown (here ∷ rest) ≡ f ++ shown rest → Wrote s f s′ → length (s′ .eventArea) ≡ length (s .eventArea)
           → length (s′ .attributeArea) ≡ length (s .attributeArea) → length (s′ .byteArea) ≡ length (s .byteArea) → Going s₀ words s′ (at + 32)
       going-wrote f e w x y z =

@@ -113,18 +113,22 @@ module _ (text r : List ℕ) where
   status-empty name e = rw e (tag-items Empty name (slots text r (12 ∷ 13 ∷ [])) (statusAttributes (first text r) (second text r)) (status-slots text r))
 
   -- ---- a run
+  -- a run without a description: nothing is put for it
   pub not-described : hasBit 6 r ≡ false → [] ≡ itemsOf (describedRun text r)
   unfolding describedRun itemsOf
   not-described e = rw e refl
 
+  -- a run's description with elements behind it: its Text and an Indent
   pub described-indented : hasBit 6 r ≡ true → hasChild text r ≡ true → (entry 3 (escaped (textAt text r 20)) 0 ∷ []) ++ (entry 9 [] 0 ∷ []) ≡ itemsOf (describedRun text r)
   unfolding describedRun itemsOf
   described-indented e h = rw (e, h) refl
 
+  -- a run's description with nothing behind it: its Text alone
   pub described-alone : hasBit 6 r ≡ true → hasChild text r ≡ false → entry 3 (escaped (textAt text r 20)) 0 ∷ [] ≡ itemsOf (describedRun text r)
   unfolding describedRun itemsOf
   described-alone e h = rw (e, h) refl
 
+  -- a run's description and stack trace, put one behind the other
   pub traced-items : itemsOf (describedRun text r) ++ itemsOf (optional (serializeOutput (tagName 13)) (stackTrace text r)) ≡ itemsOf (tracedRun text r)
   unfolding tracedRun tagName tags
   traced-items = sym (items-append (describedRun text r) (optional (serializeOutput (bytes "stackTrace")) (stackTrace text r)))
@@ -133,6 +137,7 @@ module _ (text r : List ℕ) where
   unfolding itemsOf
   end-items name = refl
 
+  -- a run's texts, outputs and end tag, put one behind the other
   pub closed-items : (name : List ℕ) → itemsOf (tracedRun text r) ++ (itemsOf (serializeOutputs (systemOut text r) (systemErr text r)) ++ (entry 2 name 0 ∷ [])) ≡ itemsOf (closedRun text r name)
   unfolding closedRun
   closed-items name =
@@ -171,6 +176,7 @@ module _ (text r : List ℕ) where
   run-named false false true = refl
   run-named false false false = refl
 
+  -- the start tag with its attributes, and all the rest: a run as the definition writes it
   pub run-items : (f : Bool) (tag : ℕ) → tag ≡ runTag (kindOf r) f → (entry 0 (tagName tag) (length (slots text r (4 ∷ 5 ∷ 12 ∷ 13 ∷ [])) + 0) ∷ pairsOf (slots text r (4 ∷ 5 ∷ 12 ∷ 13 ∷ [])))
       ++ itemsOf (closedRun text r (tagName tag)) ≡ itemsOf (serializeRerun (family f) (runOf text r))
   unfolding serializeRerun runTag

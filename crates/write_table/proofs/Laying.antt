@@ -45,6 +45,7 @@ module _ (es : List Event) where
   pub words-five : length (laidOut es .events) / 5 * 5 ≡ length (laidOut es .events)
   words-five = let h = events-size in omega arith
 
+  -- a table's attribute words are whole entries, so that counting entries loses none
   pub attributes-five : length (laidOut es .attributes) / 5 * 5 ≡ length (laidOut es .attributes)
   attributes-five = let h = attributes-size in omega arith
 
@@ -110,6 +111,7 @@ module _ (es : List Event) where
         let q = put-laid f in
         (f, cc)
 
+    -- where the items weren't put, the table doesn't fit: the code's refusal is the definition's
     pub none-fits : putAll (some (fresh e a b)) (itemsOf es) ≡ none → fits (laidOut es) e a b ≡ false
     none-fits p = go (fits (laidOut es) e a b) refl
       where

@@ -76,6 +76,7 @@ all-five a b c d e = rw (a, b, c, d, e) refl
 all-four : {p q r s : Bool} → p ≡ true → q ≡ true → r ≡ true → s ≡ true → ((p && q) && (r && s)) ≡ true
 all-four a b c d = rw (a, b, c, d) refl
 
+-- two tests that hold together hold each
 pub both : (p q : Bool) → (p && q) ≡ true → (p ≡ true) × (q ≡ true)
 both true q e = (refl, e)
 both false q e = absurd (true≢false (sym e))

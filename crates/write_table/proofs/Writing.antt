@@ -41,6 +41,7 @@ pub wrote-one : (s t : Areas) {h : Held} (i : Item) → held s ≡ some h → he
 unfolding putAll
 wrote-one s t {h} i p q = record { same = q ∙ ap (λ (x : Kept). putAll x (i ∷ [])) (sym p) }
 
+-- the items of events behind events
 pub items-append : (es fs : List Event) → itemsOf (es ++ fs) ≡ itemsOf es ++ itemsOf fs
 unfolding itemsOf
 items-append [] fs = refl
@@ -50,19 +51,24 @@ items-append (e ∷ es) fs = ap (λ (l : List Item). itemsOfEvent e ++ l) (items
 pub record Coming (s₀ : Areas) (w : List Item) (s : Areas) (f : List Item) : Type 0 where
   pub left : putAll (held s) f ≡ putAll (held s₀) w
 
+-- before the first call all items are to come
 pub coming-start : (s : Areas) (w : List Item) → Coming s w s w
 coming-start s w = record { left = refl }
 
+-- what is to come, said otherwise
 pub coming-on : {s₀ s : Areas} {w f g : List Item} → Coming s₀ w s f → f ≡ g → Coming s₀ w s g
 coming-on {s₀} {s} c e = record { left = ap (putAll (held s)) (sym e) ∙ c .left }
 
+-- a call puts the next of what is to come
 pub coming-wrote : {s₀ s t : Areas} {w f g : List Item} → Coming s₀ w s (f ++ g) → Wrote s f t → Coming s₀ w t g
 coming-wrote {s₀} {s} {t} {w} {f} {g} c p = record { left = ap (λ (x : Kept). putAll x g) (p .same) ∙ put-append (held s) f g ∙ c .left }
 
+-- nothing is to come: all items were put
 pub coming-done : {s₀ s : Areas} {w : List Item} → Coming s₀ w s [] → Wrote s₀ w s
 unfolding putAll
 coming-done {s₀} {s} c = record { same = c .left }
 
+-- an area is full: the rest would change nothing, so all items count as put
 pub coming-shut : {s₀ s : Areas} {w f : List Item} → Coming s₀ w s f → s .mark ≡ Full → Wrote s₀ w s
 coming-shut {s₀} {s} {w} {f} c e =
     let n : held s ≡ none = ap (λ (m : Stored). heldBy m s) e in

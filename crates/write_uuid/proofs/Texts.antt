@@ -28,5 +28,6 @@ module _ (w : Words) where
   unfolding uuidText
   uuid-ascii = simp digit-ascii
 
+  -- a written UUID is UTF-8, whatever its words are
   pub utf8-uuid : utf8 (uuidText w) ≡ true
   utf8-uuid = ascii-utf8 (uuidText w) uuid-ascii
