@@ -26,7 +26,8 @@ use Rattle.build_draft.specs.Draft.{Draft, _>>=_, asks, roomFor, isRecord, last
 use Rattle.build_draft.specs.Parts.{taking, placeFor}
 use Rattle.build_draft.specs.Calls as call
 use Rattle.call_claims.specs.Demand1.{isOneOf, completes, BuildZero, Builds, Continues, BuilderCalls}
-use Rattle.call_claims.proofs.LateCalls.{Within, ends-leaving, within-late, within-asks, within-then, within-cond, within-taking, within-keeping, within-putting, within-putting-lossy, within-naming, within-naming-one, within-suite, within-counting, within-summing}
+use Rattle.call_claims.proofs.LateCalls.{Within, ends-leaving, within-late, within-asks, within-then, within-cond, within-taking, within-keeping, within-putting}
+use Rattle.call_claims.proofs.LateCalls.{within-putting-lossy, within-naming, within-naming-one, within-suite, within-counting, within-summing}
 
 both-zero : (n m : ℕ) (o : Outcome Draft) (why : Refused) → o ≡ refused why → BuildZero n m o
 both-zero n m (accepted d) why e = let z : _≡_ {A = ℕ} 0 1 = cc in absurd (omega arith)

@@ -20,7 +20,8 @@ use Rattle.read_path.proofs.Lengths.{mode-short, path-short, planned-room, eof-
 use Rattle.read_content.specs.Content.{Content, killAll, propertyKind, pieceOf, gather, adding, withRecords, keeping, isEmpty, describing, outputting, perform}
 use Rattle.trim.specs.Trim.{trimmed}
 use Rattle.read_machine.specs.Machine.{Machine, act, step, run}
-use Rattle.read_machine.proofs.TreePlans.{Planned, stays, skips, skips-on, returns, listed, reports, suites, stops, misses, breaks, cases, suite-ends, suite-list, statuses, case-ends, case-list, status-ends, texts, text-ends, properties-read, tag-plan, eof-plan, fault-plan}
+use Rattle.read_machine.proofs.TreePlans.{Planned, stays, skips, skips-on, returns, listed, reports, suites, stops, misses, breaks, cases, suite-ends, suite-list}
+use Rattle.read_machine.proofs.TreePlans.{statuses, case-ends, case-list, status-ends, texts, text-ends, properties-read, tag-plan, eof-plan, fault-plan}
 use Rattle.call_claims.proofs.PathsElement.{Told, fine, told, told-bind, told-need, told-there, told-cond, told-element}
 
 -- ---- actions
@@ -140,7 +141,8 @@ module _ (rooms : Rooms) where
   goes-step (Piece k bytes) s h =
       goes-then (λ (c : Content). record { control = s .control; content = c; marks = onward (s .marks) })
       (told-cond (gathers (s .control .mode))
-      (told-gather rooms (record { path = modePath (s .control .mode) (s .marks); event = s .marks .event; attribute = nowhere }) (s .control .mode) k bytes (s .content) (mode-short (s .control .mode) (s .marks)))
+      (told-gather rooms (record { path = modePath (s .control .mode) (s .marks); event = s .marks .event; attribute = nowhere })
+      (s .control .mode) k bytes (s .content) (mode-short (s .control .mode) (s .marks)))
       fine)
       λ c. h
   goes-step Eof s h =

@@ -124,7 +124,8 @@ module _ (t : Table) (a : Areas) where
   pub read-placed : (why : Refused) → answerTo t a ≡ refused why → Placed readNumbers why
   read-placed why e = go (reading-refuses (t .events) (t .attributes) (t .source) (a .words) (a .text) (a .scratch) why e)
     where
-      go : ((table ≡ refused why) × (why .cause ≡ cause.BadTable)) ⊎ (IsShort (why .cause) ⊎ ((deserialize (resolve (t .events) (t .attributes) (t .source)) ≡ refused why) × OfRules (number (why .cause)))) → Placed readNumbers why
+      go : ((table ≡ refused why) × (why .cause ≡ cause.BadTable))
+          ⊎ (IsShort (why .cause) ⊎ ((deserialize (resolve (t .events) (t .attributes) (t .source)) ≡ refused why) × OfRules (number (why .cause)))) → Placed readNumbers why
       go (inl h) =
           record { known = of-cause (h .1) refl; short = read-short why e; ofTable = λ _. pathless-table (checkOf (t .events) (t .attributes) (t .source)) why (h .0) }
       go (inr (inl h)) = record { known = of-room (why .cause) h; short = read-short why e; ofTable = not-table (why .cause) (inl h) }

@@ -48,7 +48,8 @@ readIn events attributes source = reading events attributes source 320 64 64
 abbrev pub HoldsOf : List ℕ → List ℕ → List ℕ → Expected → Type 0
 HoldsOf events attributes source (lists t) = publicListing events attributes source 320 64 64 256 ≡ t
 HoldsOf events attributes source (reads r) =
-    _≡_ {A = Outcome (Unit {0}) × Option Report} (readIn events attributes source .outcome, reportOf (readIn events attributes source .words) (readIn events attributes source .text)) (accepted tt, some r)
+    _≡_ {A = Outcome (Unit {0}) × Option Report}
+    (readIn events attributes source .outcome, reportOf (readIn events attributes source .words) (readIn events attributes source .text)) (accepted tt, some r)
 HoldsOf events attributes source (refuses n c p e a) =
     _≡_ {A = Outcome (Unit {0}) × ℕ} (readIn events attributes source .outcome, number c) (refused (record { cause = c; path = p; event = e; attribute = a }), n)
 HoldsOf events attributes source (agrees ms t) =
@@ -56,7 +57,8 @@ HoldsOf events attributes source (agrees ms t) =
     × (publicListing events attributes source 320 64 64 256 ≡ t)
     × (publicListing (eventsOf ms) (attributesOf ms) (sourceOf ms) 320 64 64 256 ≡ t)
 HoldsOf events attributes source (writes es) =
-    _≡_ {A = Outcome (Unit {0}) × List Event} (readIn events attributes source .outcome, answer.eventsOf (readIn events attributes source .words) (readIn events attributes source .text)) (accepted tt, es)
+    _≡_ {A = Outcome (Unit {0}) × List Event}
+    (readIn events attributes source .outcome, answer.eventsOf (readIn events attributes source .words) (readIn events attributes source .text)) (accepted tt, es)
 
 abbrev pub Holds : Case → Type 0
 Holds (table events attributes source e) = HoldsOf events attributes source e

@@ -19,7 +19,8 @@ use Rattle.read_state.specs.Control.{Level, top, suite, case, status, Output, t
 use Rattle.read_state.specs.Control.{Act, pass, openReport, openSuite, openCase, openStatus, closeSuite, closeCase, closeStatus, openText, closeText, openList, readProperty, stop, missing, broken}
 use Rattle.read_state.specs.Control.{isStatus, turn}
 use Rattle.read_place.specs.Marks.{Marks, marksAfter, onward}
-use Rattle.read_content.specs.Content.{Content, killed, killAll, killKind, propertyKind, recordOf, wordOf, bitOf, takes, kept, adding, withRecords, withTexts, cleaned, keeping, isEmpty, describing, outputting, perform}
+use Rattle.read_content.specs.Content.{Content, killed, killAll, killKind, propertyKind, recordOf, wordOf, bitOf, takes, kept, adding}
+use Rattle.read_content.specs.Content.{withRecords, withTexts, cleaned, keeping, isEmpty, describing, outputting, perform}
 use Rattle.public_claims.specs.Agree.{blanked}
 use Rattle.public_claims.specs.PublicMachine.{Node, nodesFor, publicAct, Sort, sortOf, unlisted, nodesOf, said, unsaid}
 use Rattle.public_claims.proofs.Holding.{Holds, accept, refusing, bind, weaken, needing, choosing}
@@ -244,8 +245,10 @@ module _ (rooms : Rooms) where
       (record {
         quiet =
             record {
-              looking = λ t. looks-changed t i (kept b f) (c .records) (kept-look b f t (getD (c .records) i []) (unseen-look o k (length (c .texts)) (length (cleaned v)) t (getD (c .records) i []) w));
-              solidly = λ s. solid-changed i (kept b f) (c .records) (kept-firm b f (λ r h. keeps-firm (text-keeps k o (length (c .texts)) (length (cleaned v)) r n) (unseen-nine o k (kindOf (getD (c .records) i [])) w) h)) s;
+              looking =
+                  λ t. looks-changed t i (kept b f) (c .records) (kept-look b f t (getD (c .records) i []) (unseen-look o k (length (c .texts)) (length (cleaned v)) t (getD (c .records) i []) w));
+              solidly = λ s. solid-changed i (kept b f) (c .records)
+                  (kept-firm b f (λ r h. keeps-firm (text-keeps k o (length (c .texts)) (length (cleaned v)) r n) (unseen-nine o k (kindOf (getD (c .records) i [])) w) h)) s;
               heading = λ h. heads-changed (kept b f) e i (c .records) ∙ h;
               added = cleaned v;
               grown = refl;

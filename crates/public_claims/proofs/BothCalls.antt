@@ -35,7 +35,8 @@ use Rattle.refusal.specs.declared.Cause.the-variants as cause
 put-whole : (n : ℕ) (f : List ℕ) → written (placing cause.OutputFull n f) (outputFor (placing cause.OutputFull n f) n f) ≡ fitted n f
 put-whole n f = go (leb (length f) n) refl
   where
-    go : (b : Bool) → leb (length f) n ≡ b → written (cond b (gives (length f)) (refuses cause.OutputFull)) (outputFor (cond b (gives (length f)) (refuses cause.OutputFull)) n f) ≡ cond b f refusedText
+    go : (b : Bool) → leb (length f) n ≡ b
+        → written (cond b (gives (length f)) (refuses cause.OutputFull)) (outputFor (cond b (gives (length f)) (refuses cause.OutputFull)) n f) ≡ cond b f refusedText
     go true e = ap (take (length f)) (laid-zeros n f (leb-true (length f) n e)) ∙ take-at f (zeros (n - length f)) (length f) refl
     go false e = refl
 

@@ -14,15 +14,18 @@ use Rattle.tree_status.specs.declared.Tally.{Tally}
 use Rattle.tree_status.specs.Status.{noStatus, tallied, ruled}
 use Rattle.read_element.specs.Outcome.{Place, Rooms}
 use Rattle.read_state.specs.Control.{Level, top, suite, case, status, Mode, at, gathering, listing, skipping, finished, Control}
-use Rattle.read_state.specs.Control.{Act, pass, openReport, openSuite, openCase, openStatus, closeSuite, closeCase, closeStatus, openText, closeText, openList, readProperty, stop, missing, broken, isStatus, turn}
+use Rattle.read_state.specs.Control.{Act, pass, openReport, openSuite, openCase, openStatus, closeSuite, closeCase, closeStatus}
+use Rattle.read_state.specs.Control.{openText, closeText, openList, readProperty, stop, missing, broken, isStatus, turn}
 use Rattle.read_rules.specs.Rules.{planAt, planEof, planFault}
 use Rattle.read_place.specs.Marks.{Marks}
 use Rattle.read_content.specs.Content.{Content, perform}
 use Rattle.read_machine.specs.Machine.{Machine, act, step, run, begin}
 use Rattle.list_text.specs.Listing.{PublicCase}
 use Rattle.public_claims.specs.Agree.{blanked, public, PublicEvent, PublicTag, PublicEof, PublicFault}
-use Rattle.public_claims.specs.PublicMachine.{Node, caseNode, Said, said, unsaid, Sort, aSuite, aCase, sortOf, orEmpty, nodesOf, nodesFor, publicAct, PublicState, acting, ending, publicStep, publicRun, nodesRead, publicReport, caseFrom}
-use Rattle.public_claims.specs.OwnStatus.{Spot, atReport, inSuite, inCase, inStatus, over, isStatusName, move, ownAt, leaves, ownFrom, beginsReport, casesFrom, ownStatuses, rule, verdictOf, casesListed, Ruled, no-case, one-case}
+use Rattle.public_claims.specs.PublicMachine.{Node, caseNode, Said, said, unsaid, Sort, aSuite, aCase, sortOf, orEmpty, nodesOf, nodesFor}
+use Rattle.public_claims.specs.PublicMachine.{publicAct, PublicState, acting, ending, publicStep, publicRun, nodesRead, publicReport, caseFrom}
+use Rattle.public_claims.specs.OwnStatus.{Spot, atReport, inSuite, inCase, inStatus, over, isStatusName, move, ownAt, leaves, ownFrom}
+use Rattle.public_claims.specs.OwnStatus.{beginsReport, casesFrom, ownStatuses, rule, verdictOf, casesListed, Ruled, no-case, one-case}
 use Rattle.public_claims.proofs.Holding.{Holds, accept, refusing, held, bind, weaken, testing, anything}
 use Rattle.public_claims.proofs.View.{sort-main, sort-run}
 use Rattle.public_claims.proofs.Acts.{impossible}
@@ -131,14 +134,19 @@ more-status k xs tally ns found rest e i =
 closed-case : (tally : Tally) (ns : List Node) (found : List (List ℕ)) (rest : List ℕ) (seen : Bool) → rest ≡ [] → ruled tally ≡ true → Inside tally ns found rest →
     Ruled (listedIn ns) (found ++ []) × Suited ns
 closed-case tally ns found rest seen z e i =
-    let told : rule (i .codes) ≡ some (verdictOf (caseFrom (i .name) (i .classname) (i .time) (i .stats))) = case-told (i .name) (i .classname) (i .time) (i .coded) (ap ruled (sym (i .tallying)) ∙ e) in
-    let f : (found ++ []) ≡ i .earlier ++ (i .codes ∷ []) = append-nil found ∙ i .finds ∙ ap (λ (l : List ℕ). i .earlier ++ ((i .codes ++ l) ∷ [])) z ∙ ap (λ (l : List ℕ). i .earlier ++ (l ∷ [])) (append-nil (i .codes)) in
-    let l : listedIn ns ≡ listedIn (i .before) ++ (caseFrom (i .name) (i .classname) (i .time) (i .stats) ∷ []) = ap listedIn (i .nodes) ∙ listed-case (i .name) (i .classname) (i .time) (i .coded) (i .before) (i .suiting) in (
-      subst (λ (x : List PublicCase). Ruled x (found ++ [])) (sym l) (subst (λ (x : List (List ℕ)). Ruled (listedIn (i .before) ++ (caseFrom (i .name) (i .classname) (i .time) (i .stats) ∷ [])) x) (sym f) (ruled-append (caseFrom (i .name) (i .classname) (i .time) (i .stats)) (i .codes) (i .ruling) told)),
+    let told : rule (i .codes) ≡ some (verdictOf (caseFrom (i .name) (i .classname) (i .time) (i .stats))) =
+    case-told (i .name) (i .classname) (i .time) (i .coded) (ap ruled (sym (i .tallying)) ∙ e) in
+    let f : (found ++ []) ≡ i .earlier ++ (i .codes ∷ []) =
+    append-nil found ∙ i .finds ∙ ap (λ (l : List ℕ). i .earlier ++ ((i .codes ++ l) ∷ [])) z ∙ ap (λ (l : List ℕ). i .earlier ++ (l ∷ [])) (append-nil (i .codes)) in
+    let l : listedIn ns ≡ listedIn (i .before) ++ (caseFrom (i .name) (i .classname) (i .time) (i .stats) ∷ []) =
+    ap listedIn (i .nodes) ∙ listed-case (i .name) (i .classname) (i .time) (i .coded) (i .before) (i .suiting) in (
+      subst (λ (x : List PublicCase). Ruled x (found ++ [])) (sym l) (subst (λ (x : List (List ℕ)). Ruled (listedIn (i .before) ++ (caseFrom (i .name) (i .classname) (i .time) (i .stats) ∷ [])) x)
+          (sym f) (ruled-append (caseFrom (i .name) (i .classname) (i .time) (i .stats)) (i .codes) (i .ruling) told)),
       subst Suited (sym (i .nodes)) (suited-more (i .before) (caseNode (i .name) (i .classname) (i .time) ∷ i .stats) (i .suiting)),
     )
 
-opened-suite : (xs : List Attribute) (ns : List Node) (found : List (List ℕ)) → Ruled (listedIn ns) found → Reported ns → Ruled (listedIn (ns ++ nodesFor 2 xs)) (found ++ []) × Suited (ns ++ nodesFor 2 xs)
+opened-suite : (xs : List Attribute) (ns : List Node) (found : List (List ℕ)) → Ruled (listedIn ns) found
+    → Reported ns → Ruled (listedIn (ns ++ nodesFor 2 xs)) (found ++ []) × Suited (ns ++ nodesFor 2 xs)
 unfolding sortOf
 opened-suite xs ns found h r = (
   subst (λ (x : List PublicCase). Ruled x (found ++ [])) (sym (listed-suite ns _ _)) (subst (λ (x : List (List ℕ)). Ruled (listedIn ns) x) (sym (append-nil found)) h),
@@ -160,7 +168,8 @@ opened-empty xs ns found h r =
       suited-more ns _ r,
     )
 
-opened-case : (xs : List Attribute) (ns : List Node) (found : List (List ℕ)) (rest : List ℕ) → Ruled (listedIn ns) found → Suited ns → Inside noStatus (ns ++ nodesFor 3 xs) (found ++ (rest ∷ [])) rest
+opened-case : (xs : List Attribute) (ns : List Node) (found : List (List ℕ)) (rest : List ℕ)
+    → Ruled (listedIn ns) found → Suited ns → Inside noStatus (ns ++ nodesFor 3 xs) (found ++ (rest ∷ [])) rest
 unfolding sortOf
 opened-case xs ns found rest h r =
     record {
@@ -302,7 +311,8 @@ tag-kept c ns found k name xs es g r h =
     let e : (zone (c .mode) ≡ cased → ownFrom (spotOf (c .mode)) (PublicTag k name xs ∷ es) ≡ owned a ++ ownFrom (spotOf (modeAfter a (c .mode))) es) =
     λ z. own-step (c .seen) (c .mode) k name xs es z ∙ ap₂ (λ (o : List ℕ) (s : Spot). o ++ ownFrom s es) (sym (m .own)) (sym (m .moved)) in
     let j = step-kept a xs c ns found es (m .zoned) g r (kept-rest (zone (c .mode)) (c .seen) (c .tally) ns found _ _ e h) in
-    subst (λ (n : Mode). Kept (zone (turn a c .mode)) (turn a c .seen) (turn a c .tally) (publicAct a xs ns) (cond (begins a) [] (found ++ newCase a es)) (ownFrom (spotOf n) es)) (sym (turn-mode a c)) j
+    subst (λ (n : Mode). Kept (zone (turn a c .mode)) (turn a c .seen) (turn a c .tally) (publicAct a xs ns) (cond (begins a) [] (found ++ newCase a es)) (ownFrom (spotOf n) es))
+    (sym (turn-mode a c)) j
 
 -- and what the walk has found there
 tag-found : (c : Control) (found : List (List ℕ)) (k : TagKind) (name : List ℕ) (xs : List Attribute) (es : List PublicEvent) →
@@ -423,7 +433,8 @@ module _ (rooms : Rooms) where
       weaken
       (subst (λ (c : Control). KeptOf c ms next (public es) → Holds (λ _. Told c ms next (public es)) (run rooms es t)) (g .same) (own-run es t ms next)
       (tag-kept (s .control) ns found k name (map blanked xs) (public es) (g .goes) (g .ruling) h))
-      λ u r. subst (λ (x : List (List ℕ)). Ruled (listedIn (publicRun (public es) (record { control = turn a (s .control); nodes = ms }) .nodes)) x) (tag-found (s .control) found k name (map blanked xs) (public es) (g .goes)) r
+      λ u r. subst (λ (x : List (List ℕ)). Ruled (listedIn (publicRun (public es) (record { control = turn a (s .control); nodes = ms }) .nodes)) x)
+      (tag-found (s .control) found k name (map blanked xs) (public es) (g .goes)) r
   own-run (Piece k b ∷ es) s ns found h =
       bind (piece-passes k b s)
       λ t g. subst (λ (c : Control). KeptOf c ns found (public es) → Holds (λ _. Told c ns found (public es)) (run rooms es t)) g (own-run es t ns found) h

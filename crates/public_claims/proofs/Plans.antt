@@ -108,7 +108,8 @@ module _ (seen : Bool) where
   skip-fits l skipped depth Start name = (λ e. e, refl, impossible)
   skip-fits l skipped depth Empty name = (λ e. e, refl, impossible)
   skip-fits l skipped depth End name =
-      passing (skipping l skipped depth) (sameBytes name skipped) (shallower l skipped depth) (skipping l skipped depth) (shallower-fits l skipped depth (skipping l skipped depth) refl) (λ e. e, refl, impossible)
+      passing (skipping l skipped depth) (sameBytes name skipped) (shallower l skipped depth) (skipping l skipped depth)
+      (shallower-fits l skipped depth (skipping l skipped depth) refl) (λ e. e, refl, impossible)
 
   plan-fits : (m : Mode) (k : TagKind) (name : List ℕ) → sound m ≡ true → (isFinished m ≡ true → seen ≡ true) → Fits m seen (planAt m seen k name)
   unfolding planAt

@@ -38,47 +38,83 @@ counts-tests : (n : ℕ) (r : List ℕ) → length r ≡ 32 →
     counts (putCount 18 n r) ≡ record { tests = n; failures = numberAt r 20; errors = numberAt r 22; skipped = numberAt r 24; disabled = given (hasBit 8 r) (numberAt r 26) }
 counts-tests n r l =
     let c : Keeps 1 18 20 r (putCount 18 n r) = pair-keeps 1 18 (n % 4294967296) (n / 4294967296) r (omega arith) in
-    rw (count-there 18 n r l (omega arith) (omega arith), keeps-number c 20 (omega arith) (inr (omega arith)), keeps-number c 22 (omega arith) (inr (omega arith)), keeps-number c 24 (omega arith) (inr (omega arith)), keeps-disabled c (λ e. omega arith) (inr (omega arith)))
+    rw (
+      count-there 18 n r l (omega arith) (omega arith),
+      keeps-number c 20 (omega arith) (inr (omega arith)),
+      keeps-number c 22 (omega arith) (inr (omega arith)),
+      keeps-number c 24 (omega arith) (inr (omega arith)),
+      keeps-disabled c (λ e. omega arith) (inr (omega arith)),
+    )
 
 counts-failures : (n : ℕ) (r : List ℕ) → length r ≡ 32 →
     counts (putCount 20 n r) ≡ record { tests = numberAt r 18; failures = n; errors = numberAt r 22; skipped = numberAt r 24; disabled = given (hasBit 8 r) (numberAt r 26) }
 counts-failures n r l =
     let c : Keeps 1 20 22 r (putCount 20 n r) = pair-keeps 1 20 (n % 4294967296) (n / 4294967296) r (omega arith) in
-    rw (keeps-number c 18 (omega arith) (inl (omega arith)), count-there 20 n r l (omega arith) (omega arith), keeps-number c 22 (omega arith) (inr (omega arith)), keeps-number c 24 (omega arith) (inr (omega arith)), keeps-disabled c (λ e. omega arith) (inr (omega arith)))
+    rw (
+      keeps-number c 18 (omega arith) (inl (omega arith)),
+      count-there 20 n r l (omega arith) (omega arith),
+      keeps-number c 22 (omega arith) (inr (omega arith)),
+      keeps-number c 24 (omega arith) (inr (omega arith)),
+      keeps-disabled c (λ e. omega arith) (inr (omega arith)),
+    )
 
 counts-errors : (n : ℕ) (r : List ℕ) → length r ≡ 32 →
     counts (putCount 22 n r) ≡ record { tests = numberAt r 18; failures = numberAt r 20; errors = n; skipped = numberAt r 24; disabled = given (hasBit 8 r) (numberAt r 26) }
 counts-errors n r l =
     let c : Keeps 1 22 24 r (putCount 22 n r) = pair-keeps 1 22 (n % 4294967296) (n / 4294967296) r (omega arith) in
-    rw (keeps-number c 18 (omega arith) (inl (omega arith)), keeps-number c 20 (omega arith) (inl (omega arith)), count-there 22 n r l (omega arith) (omega arith), keeps-number c 24 (omega arith) (inr (omega arith)), keeps-disabled c (λ e. omega arith) (inr (omega arith)))
+    rw (
+      keeps-number c 18 (omega arith) (inl (omega arith)),
+      keeps-number c 20 (omega arith) (inl (omega arith)),
+      count-there 22 n r l (omega arith) (omega arith),
+      keeps-number c 24 (omega arith) (inr (omega arith)),
+      keeps-disabled c (λ e. omega arith) (inr (omega arith)),
+    )
 
 counts-skipped : (n : ℕ) (r : List ℕ) → length r ≡ 32 →
     counts (putCount 24 n r) ≡ record { tests = numberAt r 18; failures = numberAt r 20; errors = numberAt r 22; skipped = n; disabled = given (hasBit 8 r) (numberAt r 26) }
 counts-skipped n r l =
     let c : Keeps 1 24 26 r (putCount 24 n r) = pair-keeps 1 24 (n % 4294967296) (n / 4294967296) r (omega arith) in
-    rw (keeps-number c 18 (omega arith) (inl (omega arith)), keeps-number c 20 (omega arith) (inl (omega arith)), keeps-number c 22 (omega arith) (inl (omega arith)), count-there 24 n r l (omega arith) (omega arith), keeps-disabled c (λ e. omega arith) (inr (omega arith)))
+    rw (
+      keeps-number c 18 (omega arith) (inl (omega arith)),
+      keeps-number c 20 (omega arith) (inl (omega arith)),
+      keeps-number c 22 (omega arith) (inl (omega arith)),
+      count-there 24 n r l (omega arith) (omega arith),
+      keeps-disabled c (λ e. omega arith) (inr (omega arith)),
+    )
 
 counts-disabled : (n : ℕ) (r : List ℕ) → length r ≡ 32 →
     counts (marked 8 (putCount 26 n r)) ≡ record { tests = numberAt r 18; failures = numberAt r 20; errors = numberAt r 22; skipped = numberAt r 24; disabled = some n }
 counts-disabled n r l =
     let c : Keeps 8 26 28 r (marked 8 (putCount 26 n r)) = text-keeps 8 26 (n % 4294967296) (n / 4294967296) r (omega arith) in
-    rw (keeps-number c 18 (omega arith) (inl (omega arith)), keeps-number c 20 (omega arith) (inl (omega arith)), keeps-number c 22 (omega arith) (inl (omega arith)), keeps-number c 24 (omega arith) (inl (omega arith)), marked-there 26 (n % 4294967296) (n / 4294967296) r l (omega arith) (omega arith) 8, number-there 8 26 n r l (omega arith) (omega arith))
+    rw (
+      keeps-number c 18 (omega arith) (inl (omega arith)),
+      keeps-number c 20 (omega arith) (inl (omega arith)),
+      keeps-number c 22 (omega arith) (inl (omega arith)),
+      keeps-number c 24 (omega arith) (inl (omega arith)),
+      marked-there 26 (n % 4294967296) (n / 4294967296) r l (omega arith) (omega arith) 8,
+      number-there 8 26 n r l (omega arith) (omega arith),
+    )
 
 -- the counts of a report or suite, field by field
 said-tests : (v r : List ℕ) (s : Said) → length r ≡ 32 → counts r ≡ s .counts → counts (putCount 18 (integerValue v) r) ≡ say theTests v s .counts
-said-tests v r s l h = counts-tests (integerValue v) r l ∙ ap (λ (c : Counts). record { tests = integerValue v; failures = c .failures; errors = c .errors; skipped = c .skipped; disabled = c .disabled }) h
+said-tests v r s l h =
+    counts-tests (integerValue v) r l ∙ ap (λ (c : Counts). record { tests = integerValue v; failures = c .failures; errors = c .errors; skipped = c .skipped; disabled = c .disabled }) h
 
 said-failures : (v r : List ℕ) (s : Said) → length r ≡ 32 → counts r ≡ s .counts → counts (putCount 20 (integerValue v) r) ≡ say theFailures v s .counts
-said-failures v r s l h = counts-failures (integerValue v) r l ∙ ap (λ (c : Counts). record { tests = c .tests; failures = integerValue v; errors = c .errors; skipped = c .skipped; disabled = c .disabled }) h
+said-failures v r s l h =
+    counts-failures (integerValue v) r l ∙ ap (λ (c : Counts). record { tests = c .tests; failures = integerValue v; errors = c .errors; skipped = c .skipped; disabled = c .disabled }) h
 
 said-errors : (v r : List ℕ) (s : Said) → length r ≡ 32 → counts r ≡ s .counts → counts (putCount 22 (integerValue v) r) ≡ say theErrors v s .counts
-said-errors v r s l h = counts-errors (integerValue v) r l ∙ ap (λ (c : Counts). record { tests = c .tests; failures = c .failures; errors = integerValue v; skipped = c .skipped; disabled = c .disabled }) h
+said-errors v r s l h =
+    counts-errors (integerValue v) r l ∙ ap (λ (c : Counts). record { tests = c .tests; failures = c .failures; errors = integerValue v; skipped = c .skipped; disabled = c .disabled }) h
 
 said-skipped : (v r : List ℕ) (s : Said) → length r ≡ 32 → counts r ≡ s .counts → counts (putCount 24 (integerValue v) r) ≡ say theSkipped v s .counts
-said-skipped v r s l h = counts-skipped (integerValue v) r l ∙ ap (λ (c : Counts). record { tests = c .tests; failures = c .failures; errors = c .errors; skipped = integerValue v; disabled = c .disabled }) h
+said-skipped v r s l h =
+    counts-skipped (integerValue v) r l ∙ ap (λ (c : Counts). record { tests = c .tests; failures = c .failures; errors = c .errors; skipped = integerValue v; disabled = c .disabled }) h
 
 said-disabled : (v r : List ℕ) (s : Said) → length r ≡ 32 → counts r ≡ s .counts → counts (marked 8 (putCount 26 (integerValue v) r)) ≡ say theDisabled v s .counts
-said-disabled v r s l h = counts-disabled (integerValue v) r l ∙ ap (λ (c : Counts). record { tests = c .tests; failures = c .failures; errors = c .errors; skipped = c .skipped; disabled = some (integerValue v) }) h
+said-disabled v r s l h =
+    counts-disabled (integerValue v) r l ∙ ap (λ (c : Counts). record { tests = c .tests; failures = c .failures; errors = c .errors; skipped = c .skipped; disabled = some (integerValue v) }) h
 
 report-other : (c : ℕ) → Other c → reportRole c ≡ role.Ignored
 unfolding reportRole roleIn
@@ -87,23 +123,38 @@ report-other c o = rw (o .is1, o .is3, o .is4, o .is5, o .is6, o .is7, o .is8, o
 pub report-step : (kind c : ℕ) → Code c → (v : List ℕ) (g h : Given) (s : Said) → length (g .main) ≡ 32 → Effect kind (reportRole c) v g h →
     Shows aReport (g .texts) (g .main) s → Shows aReport (h .texts) (h .main) (say (fieldOf c) v s)
 unfolding Effect reportRole roleIn fieldOf Shows
-report-step kind c code1 v g h s l e m = become aReport (say (fieldOf 1) v s) (e .1) (e .0) (λ u. first-there (g .texts) (valueText v) u (g .main) l, keeps-counts (text-keeps 0 2 _ _ (g .main) (omega arith)) (λ z. omega arith) (inr (omega arith)) ∙ m .1)
-report-step kind c code2 v g h s l e m = become aReport (say (fieldOf 2) v s) (e .1) (e .0) (quiet-report (keeps-all 1 4 4 (g .main)) (g .texts) [] s (omega arith) (omega arith) (λ z. omega arith) (λ z. omega arith) m)
-report-step kind c code3 v g h s l e m = become aReport (say (fieldOf 3) v s) (e .1) (e .0 .1) (quiet-report (uuid-keeps (e .0 .0) (g .main)) (g .texts) [] s (omega arith) (omega arith) (λ z. omega arith) (λ z. omega arith) m)
-report-step kind c code4 v g h s l e m = become aReport (say (fieldOf 4) v s) (e .1) (e .0 .1) (quiet-report (moment-keeps (e .0 .0) (g .main)) (g .texts) [] s (omega arith) (omega arith) (λ z. omega arith) (λ z. omega arith) m)
-report-step kind c code5 v g h s l e m = become aReport (say (fieldOf 5) v s) (e .1) (e .0) (quiet-report (text-keeps 4 16 _ _ (g .main) (omega arith)) (g .texts) [] s (omega arith) (omega arith) (λ z. omega arith) (λ z. omega arith) m)
-report-step kind c code6 v g h s l e m = become aReport (say (fieldOf 6) v s) (e .1) (e .0) (stay-first (pair-keeps 1 18 _ _ (g .main) (omega arith)) (g .texts) [] (λ z. omega arith) (inl (omega arith)) (m .0), said-tests v (g .main) s l (m .1))
-report-step kind c code7 v g h s l e m = become aReport (say (fieldOf 7) v s) (e .1) (e .0) (stay-first (pair-keeps 1 20 _ _ (g .main) (omega arith)) (g .texts) [] (λ z. omega arith) (inl (omega arith)) (m .0), said-failures v (g .main) s l (m .1))
-report-step kind c code8 v g h s l e m = become aReport (say (fieldOf 8) v s) (e .1) (e .0) (stay-first (pair-keeps 1 22 _ _ (g .main) (omega arith)) (g .texts) [] (λ z. omega arith) (inl (omega arith)) (m .0), said-errors v (g .main) s l (m .1))
-report-step kind c code9 v g h s l e m = become aReport (say (fieldOf 9) v s) (e .1) (e .0) (stay-first (pair-keeps 1 24 _ _ (g .main) (omega arith)) (g .texts) [] (λ z. omega arith) (inl (omega arith)) (m .0), said-skipped v (g .main) s l (m .1))
-report-step kind c code10 v g h s l e m = become aReport (say (fieldOf 10) v s) (e .1) (e .0) (stay-first (text-keeps 8 26 _ _ (g .main) (omega arith)) (g .texts) [] (λ z. omega arith) (inl (omega arith)) (m .0), said-disabled v (g .main) s l (m .1))
-report-step kind c code11 v g h s l e m = become aReport (say (fieldOf 11) v s) (e .1) (e .0) (quiet-report (keeps-all 1 4 4 (g .main)) (g .texts) [] s (omega arith) (omega arith) (λ z. omega arith) (λ z. omega arith) m)
-report-step kind c code12 v g h s l e m = become aReport (say (fieldOf 12) v s) (e .1) (e .0) (quiet-report (keeps-all 1 4 4 (g .main)) (g .texts) [] s (omega arith) (omega arith) (λ z. omega arith) (λ z. omega arith) m)
-report-step kind c code13 v g h s l e m = become aReport (say (fieldOf 13) v s) (e .1) (e .0) (quiet-report (keeps-all 1 4 4 (g .main)) (g .texts) [] s (omega arith) (omega arith) (λ z. omega arith) (λ z. omega arith) m)
-report-step kind c code14 v g h s l e m = become aReport (say (fieldOf 14) v s) (e .1) (e .0) (quiet-report (keeps-all 1 4 4 (g .main)) (g .texts) [] s (omega arith) (omega arith) (λ z. omega arith) (λ z. omega arith) m)
+report-step kind c code1 v g h s l e m = become aReport (say (fieldOf 1) v s) (e .1) (e .0)
+    (λ u. first-there (g .texts) (valueText v) u (g .main) l, keeps-counts (text-keeps 0 2 _ _ (g .main) (omega arith)) (λ z. omega arith) (inr (omega arith)) ∙ m .1)
+report-step kind c code2 v g h s l e m =
+    become aReport (say (fieldOf 2) v s) (e .1) (e .0) (quiet-report (keeps-all 1 4 4 (g .main)) (g .texts) [] s (omega arith) (omega arith) (λ z. omega arith) (λ z. omega arith) m)
+report-step kind c code3 v g h s l e m =
+    become aReport (say (fieldOf 3) v s) (e .1) (e .0 .1) (quiet-report (uuid-keeps (e .0 .0) (g .main)) (g .texts) [] s (omega arith) (omega arith) (λ z. omega arith) (λ z. omega arith) m)
+report-step kind c code4 v g h s l e m =
+    become aReport (say (fieldOf 4) v s) (e .1) (e .0 .1) (quiet-report (moment-keeps (e .0 .0) (g .main)) (g .texts) [] s (omega arith) (omega arith) (λ z. omega arith) (λ z. omega arith) m)
+report-step kind c code5 v g h s l e m =
+    become aReport (say (fieldOf 5) v s) (e .1) (e .0) (quiet-report (text-keeps 4 16 _ _ (g .main) (omega arith)) (g .texts) [] s (omega arith) (omega arith) (λ z. omega arith) (λ z. omega arith) m)
+report-step kind c code6 v g h s l e m = become aReport (say (fieldOf 6) v s) (e .1) (e .0)
+    (stay-first (pair-keeps 1 18 _ _ (g .main) (omega arith)) (g .texts) [] (λ z. omega arith) (inl (omega arith)) (m .0), said-tests v (g .main) s l (m .1))
+report-step kind c code7 v g h s l e m = become aReport (say (fieldOf 7) v s) (e .1) (e .0)
+    (stay-first (pair-keeps 1 20 _ _ (g .main) (omega arith)) (g .texts) [] (λ z. omega arith) (inl (omega arith)) (m .0), said-failures v (g .main) s l (m .1))
+report-step kind c code8 v g h s l e m = become aReport (say (fieldOf 8) v s) (e .1) (e .0)
+    (stay-first (pair-keeps 1 22 _ _ (g .main) (omega arith)) (g .texts) [] (λ z. omega arith) (inl (omega arith)) (m .0), said-errors v (g .main) s l (m .1))
+report-step kind c code9 v g h s l e m = become aReport (say (fieldOf 9) v s) (e .1) (e .0)
+    (stay-first (pair-keeps 1 24 _ _ (g .main) (omega arith)) (g .texts) [] (λ z. omega arith) (inl (omega arith)) (m .0), said-skipped v (g .main) s l (m .1))
+report-step kind c code10 v g h s l e m = become aReport (say (fieldOf 10) v s) (e .1) (e .0)
+    (stay-first (text-keeps 8 26 _ _ (g .main) (omega arith)) (g .texts) [] (λ z. omega arith) (inl (omega arith)) (m .0), said-disabled v (g .main) s l (m .1))
+report-step kind c code11 v g h s l e m =
+    become aReport (say (fieldOf 11) v s) (e .1) (e .0) (quiet-report (keeps-all 1 4 4 (g .main)) (g .texts) [] s (omega arith) (omega arith) (λ z. omega arith) (λ z. omega arith) m)
+report-step kind c code12 v g h s l e m =
+    become aReport (say (fieldOf 12) v s) (e .1) (e .0) (quiet-report (keeps-all 1 4 4 (g .main)) (g .texts) [] s (omega arith) (omega arith) (λ z. omega arith) (λ z. omega arith) m)
+report-step kind c code13 v g h s l e m =
+    become aReport (say (fieldOf 13) v s) (e .1) (e .0) (quiet-report (keeps-all 1 4 4 (g .main)) (g .texts) [] s (omega arith) (omega arith) (λ z. omega arith) (λ z. omega arith) m)
+report-step kind c code14 v g h s l e m =
+    become aReport (say (fieldOf 14) v s) (e .1) (e .0) (quiet-report (keeps-all 1 4 4 (g .main)) (g .texts) [] s (omega arith) (omega arith) (λ z. omega arith) (λ z. omega arith) m)
 report-step kind c (further o) v g h s l e m =
     let d : Effect kind role.Ignored v g h = subst (λ (ρ : Role). Effect kind ρ v g h) (report-other c o) e in
-    subst (λ (φ : Field). Shows aReport (h .texts) (h .main) (say φ v s)) (sym (field-other c o)) (become aReport s (d .1) (d .0) (quiet-report (keeps-all 1 4 4 (g .main)) (g .texts) [] s (omega arith) (omega arith) (λ z. omega arith) (λ z. omega arith) m))
+    subst (λ (φ : Field). Shows aReport (h .texts) (h .main) (say φ v s)) (sym (field-other c o))
+    (become aReport s (d .1) (d .0) (quiet-report (keeps-all 1 4 4 (g .main)) (g .texts) [] s (omega arith) (omega arith) (λ z. omega arith) (λ z. omega arith) m))
 
 suite-other : (c : ℕ) → Other c → suiteRole c ≡ role.Extra
 unfolding suiteRole roleIn
@@ -112,23 +163,38 @@ suite-other c o = rw (o .is1, o .is4, o .is5, o .is6, o .is7, o .is8, o .is9, o 
 pub suite-step : (kind c : ℕ) → Code c → (v : List ℕ) (g h : Given) (s : Said) → length (g .main) ≡ 32 → Effect kind (suiteRole c) v g h →
     Shows aSuite (g .texts) (g .main) s → Shows aSuite (h .texts) (h .main) (say (fieldOf c) v s)
 unfolding Effect suiteRole roleIn fieldOf Shows
-suite-step kind c code1 v g h s l e m = become aSuite (say (fieldOf 1) v s) (e .1) (e .0) (λ u. text-there 0 2 (g .texts) (valueText v) u (g .main) l (omega arith) (omega arith), keeps-counts (text-keeps 0 2 _ _ (g .main) (omega arith)) (λ z. omega arith) (inr (omega arith)) ∙ m .1)
-suite-step kind c code2 v g h s l e m = become aSuite (say (fieldOf 2) v s) (e .1 .1) (e .0) (quiet-suite (keeps-all 1 4 4 (g .main)) (g .texts) (e .1 .0) s (omega arith) (omega arith) (λ z. omega arith) m)
-suite-step kind c code3 v g h s l e m = become aSuite (say (fieldOf 3) v s) (e .1 .1) (e .0) (quiet-suite (keeps-all 1 4 4 (g .main)) (g .texts) (e .1 .0) s (omega arith) (omega arith) (λ z. omega arith) m)
-suite-step kind c code4 v g h s l e m = become aSuite (say (fieldOf 4) v s) (e .1) (e .0 .1) (quiet-suite (moment-keeps (e .0 .0) (g .main)) (g .texts) [] s (omega arith) (omega arith) (λ z. omega arith) m)
-suite-step kind c code5 v g h s l e m = become aSuite (say (fieldOf 5) v s) (e .1) (e .0) (quiet-suite (text-keeps 4 16 _ _ (g .main) (omega arith)) (g .texts) [] s (omega arith) (omega arith) (λ z. omega arith) m)
-suite-step kind c code6 v g h s l e m = become aSuite (say (fieldOf 6) v s) (e .1) (e .0) (stay-text (pair-keeps 1 18 _ _ (g .main) (omega arith)) (g .texts) [] (inl (omega arith)) (m .0), said-tests v (g .main) s l (m .1))
-suite-step kind c code7 v g h s l e m = become aSuite (say (fieldOf 7) v s) (e .1) (e .0) (stay-text (pair-keeps 1 20 _ _ (g .main) (omega arith)) (g .texts) [] (inl (omega arith)) (m .0), said-failures v (g .main) s l (m .1))
-suite-step kind c code8 v g h s l e m = become aSuite (say (fieldOf 8) v s) (e .1) (e .0) (stay-text (pair-keeps 1 22 _ _ (g .main) (omega arith)) (g .texts) [] (inl (omega arith)) (m .0), said-errors v (g .main) s l (m .1))
-suite-step kind c code9 v g h s l e m = become aSuite (say (fieldOf 9) v s) (e .1) (e .0) (stay-text (pair-keeps 1 24 _ _ (g .main) (omega arith)) (g .texts) [] (inl (omega arith)) (m .0), said-skipped v (g .main) s l (m .1))
-suite-step kind c code10 v g h s l e m = become aSuite (say (fieldOf 10) v s) (e .1) (e .0) (stay-text (text-keeps 8 26 _ _ (g .main) (omega arith)) (g .texts) [] (inl (omega arith)) (m .0), said-disabled v (g .main) s l (m .1))
-suite-step kind c code11 v g h s l e m = become aSuite (say (fieldOf 11) v s) (e .1 .1) (e .0) (quiet-suite (keeps-all 1 4 4 (g .main)) (g .texts) (e .1 .0) s (omega arith) (omega arith) (λ z. omega arith) m)
-suite-step kind c code12 v g h s l e m = become aSuite (say (fieldOf 12) v s) (e .1 .1) (e .0) (quiet-suite (keeps-all 1 4 4 (g .main)) (g .texts) (e .1 .0) s (omega arith) (omega arith) (λ z. omega arith) m)
-suite-step kind c code13 v g h s l e m = become aSuite (say (fieldOf 13) v s) (e .1 .1) (e .0) (quiet-suite (keeps-all 1 4 4 (g .main)) (g .texts) (e .1 .0) s (omega arith) (omega arith) (λ z. omega arith) m)
-suite-step kind c code14 v g h s l e m = become aSuite (say (fieldOf 14) v s) (e .1 .1) (e .0) (quiet-suite (keeps-all 1 4 4 (g .main)) (g .texts) (e .1 .0) s (omega arith) (omega arith) (λ z. omega arith) m)
+suite-step kind c code1 v g h s l e m = become aSuite (say (fieldOf 1) v s) (e .1) (e .0)
+    (λ u. text-there 0 2 (g .texts) (valueText v) u (g .main) l (omega arith) (omega arith), keeps-counts (text-keeps 0 2 _ _ (g .main) (omega arith)) (λ z. omega arith) (inr (omega arith)) ∙ m .1)
+suite-step kind c code2 v g h s l e m =
+    become aSuite (say (fieldOf 2) v s) (e .1 .1) (e .0) (quiet-suite (keeps-all 1 4 4 (g .main)) (g .texts) (e .1 .0) s (omega arith) (omega arith) (λ z. omega arith) m)
+suite-step kind c code3 v g h s l e m =
+    become aSuite (say (fieldOf 3) v s) (e .1 .1) (e .0) (quiet-suite (keeps-all 1 4 4 (g .main)) (g .texts) (e .1 .0) s (omega arith) (omega arith) (λ z. omega arith) m)
+suite-step kind c code4 v g h s l e m =
+    become aSuite (say (fieldOf 4) v s) (e .1) (e .0 .1) (quiet-suite (moment-keeps (e .0 .0) (g .main)) (g .texts) [] s (omega arith) (omega arith) (λ z. omega arith) m)
+suite-step kind c code5 v g h s l e m =
+    become aSuite (say (fieldOf 5) v s) (e .1) (e .0) (quiet-suite (text-keeps 4 16 _ _ (g .main) (omega arith)) (g .texts) [] s (omega arith) (omega arith) (λ z. omega arith) m)
+suite-step kind c code6 v g h s l e m =
+    become aSuite (say (fieldOf 6) v s) (e .1) (e .0) (stay-text (pair-keeps 1 18 _ _ (g .main) (omega arith)) (g .texts) [] (inl (omega arith)) (m .0), said-tests v (g .main) s l (m .1))
+suite-step kind c code7 v g h s l e m =
+    become aSuite (say (fieldOf 7) v s) (e .1) (e .0) (stay-text (pair-keeps 1 20 _ _ (g .main) (omega arith)) (g .texts) [] (inl (omega arith)) (m .0), said-failures v (g .main) s l (m .1))
+suite-step kind c code8 v g h s l e m =
+    become aSuite (say (fieldOf 8) v s) (e .1) (e .0) (stay-text (pair-keeps 1 22 _ _ (g .main) (omega arith)) (g .texts) [] (inl (omega arith)) (m .0), said-errors v (g .main) s l (m .1))
+suite-step kind c code9 v g h s l e m =
+    become aSuite (say (fieldOf 9) v s) (e .1) (e .0) (stay-text (pair-keeps 1 24 _ _ (g .main) (omega arith)) (g .texts) [] (inl (omega arith)) (m .0), said-skipped v (g .main) s l (m .1))
+suite-step kind c code10 v g h s l e m =
+    become aSuite (say (fieldOf 10) v s) (e .1) (e .0) (stay-text (text-keeps 8 26 _ _ (g .main) (omega arith)) (g .texts) [] (inl (omega arith)) (m .0), said-disabled v (g .main) s l (m .1))
+suite-step kind c code11 v g h s l e m =
+    become aSuite (say (fieldOf 11) v s) (e .1 .1) (e .0) (quiet-suite (keeps-all 1 4 4 (g .main)) (g .texts) (e .1 .0) s (omega arith) (omega arith) (λ z. omega arith) m)
+suite-step kind c code12 v g h s l e m =
+    become aSuite (say (fieldOf 12) v s) (e .1 .1) (e .0) (quiet-suite (keeps-all 1 4 4 (g .main)) (g .texts) (e .1 .0) s (omega arith) (omega arith) (λ z. omega arith) m)
+suite-step kind c code13 v g h s l e m =
+    become aSuite (say (fieldOf 13) v s) (e .1 .1) (e .0) (quiet-suite (keeps-all 1 4 4 (g .main)) (g .texts) (e .1 .0) s (omega arith) (omega arith) (λ z. omega arith) m)
+suite-step kind c code14 v g h s l e m =
+    become aSuite (say (fieldOf 14) v s) (e .1 .1) (e .0) (quiet-suite (keeps-all 1 4 4 (g .main)) (g .texts) (e .1 .0) s (omega arith) (omega arith) (λ z. omega arith) m)
 suite-step kind c (further o) v g h s l e m =
     let d : Effect kind role.Extra v g h = subst (λ (ρ : Role). Effect kind ρ v g h) (suite-other c o) e in
-    subst (λ (φ : Field). Shows aSuite (h .texts) (h .main) (say φ v s)) (sym (field-other c o)) (become aSuite s (d .1 .1) (d .0) (quiet-suite (keeps-all 1 4 4 (g .main)) (g .texts) (d .1 .0) s (omega arith) (omega arith) (λ z. omega arith) m))
+    subst (λ (φ : Field). Shows aSuite (h .texts) (h .main) (say φ v s)) (sym (field-other c o))
+    (become aSuite s (d .1 .1) (d .0) (quiet-suite (keeps-all 1 4 4 (g .main)) (g .texts) (d .1 .0) s (omega arith) (omega arith) (λ z. omega arith) m))
 
 case-other : (c : ℕ) → Other c → caseRole c ≡ role.Extra
 unfolding caseRole roleIn
@@ -137,23 +203,48 @@ case-other c o = rw (o .is1, o .is2, o .is4, o .is5, o .is11)
 pub case-step : (kind c : ℕ) → Code c → (v : List ℕ) (g h : Given) (s : Said) → length (g .main) ≡ 32 → Effect kind (caseRole c) v g h →
     Shows aCase (g .texts) (g .main) s → Shows aCase (h .texts) (h .main) (say (fieldOf c) v s)
 unfolding Effect caseRole roleIn fieldOf Shows
-case-step kind c code1 v g h s l e m = become aCase (say (fieldOf 1) v s) (e .1) (e .0) (λ u. text-there 0 2 (g .texts) (valueText v) u (g .main) l (omega arith) (omega arith), stay-second (text-keeps 0 2 _ _ (g .main) (omega arith)) (g .texts) (valueText v) (λ z. omega arith) (inr (omega arith)) (m .1), keeps-time (text-keeps 0 2 _ _ (g .main) (omega arith)) (λ z. omega arith) (inr (omega arith)) ∙ m .2)
-case-step kind c code2 v g h s l e m = become aCase (say (fieldOf 2) v s) (e .1) (e .0) (stay-text (text-keeps 5 18 _ _ (g .main) (omega arith)) (g .texts) (valueText v) (inl (omega arith)) (m .0), λ u. second-there (g .texts) (valueText v) u (g .main) l, keeps-time (text-keeps 5 18 _ _ (g .main) (omega arith)) (λ z. omega arith) (inl (omega arith)) ∙ m .2)
-case-step kind c code3 v g h s l e m = become aCase (say (fieldOf 3) v s) (e .1 .1) (e .0) (quiet-case (keeps-all 1 4 4 (g .main)) (g .texts) (e .1 .0) s (omega arith) (inr (omega arith)) (λ z. omega arith) (λ z. omega arith) m)
-case-step kind c code4 v g h s l e m = become aCase (say (fieldOf 4) v s) (e .1) (e .0 .1) (quiet-case (moment-keeps (e .0 .0) (g .main)) (g .texts) [] s (omega arith) (inr (omega arith)) (λ z. omega arith) (λ z. omega arith) m)
-case-step kind c code5 v g h s l e m = become aCase (say (fieldOf 5) v s) (e .1) (e .0) (stay-text (text-keeps 4 16 _ _ (g .main) (omega arith)) (g .texts) [] (inl (omega arith)) (m .0), stay-second (text-keeps 4 16 _ _ (g .main) (omega arith)) (g .texts) [] (λ z. omega arith) (inr (omega arith)) (m .1), time-there (secondsOf v) (nanosOf v) (g .main) l)
-case-step kind c code6 v g h s l e m = become aCase (say (fieldOf 6) v s) (e .1 .1) (e .0) (quiet-case (keeps-all 1 4 4 (g .main)) (g .texts) (e .1 .0) s (omega arith) (inr (omega arith)) (λ z. omega arith) (λ z. omega arith) m)
-case-step kind c code7 v g h s l e m = become aCase (say (fieldOf 7) v s) (e .1 .1) (e .0) (quiet-case (keeps-all 1 4 4 (g .main)) (g .texts) (e .1 .0) s (omega arith) (inr (omega arith)) (λ z. omega arith) (λ z. omega arith) m)
-case-step kind c code8 v g h s l e m = become aCase (say (fieldOf 8) v s) (e .1 .1) (e .0) (quiet-case (keeps-all 1 4 4 (g .main)) (g .texts) (e .1 .0) s (omega arith) (inr (omega arith)) (λ z. omega arith) (λ z. omega arith) m)
-case-step kind c code9 v g h s l e m = become aCase (say (fieldOf 9) v s) (e .1 .1) (e .0) (quiet-case (keeps-all 1 4 4 (g .main)) (g .texts) (e .1 .0) s (omega arith) (inr (omega arith)) (λ z. omega arith) (λ z. omega arith) m)
-case-step kind c code10 v g h s l e m = become aCase (say (fieldOf 10) v s) (e .1 .1) (e .0) (quiet-case (keeps-all 1 4 4 (g .main)) (g .texts) (e .1 .0) s (omega arith) (inr (omega arith)) (λ z. omega arith) (λ z. omega arith) m)
-case-step kind c code11 v g h s l e m = become aCase (say (fieldOf 11) v s) (e .1) (e .0) (quiet-case (text-keeps 6 20 _ _ (g .main) (omega arith)) (g .texts) [] s (omega arith) (inl (omega arith)) (λ z. omega arith) (λ z. omega arith) m)
-case-step kind c code12 v g h s l e m = become aCase (say (fieldOf 12) v s) (e .1 .1) (e .0) (quiet-case (keeps-all 1 4 4 (g .main)) (g .texts) (e .1 .0) s (omega arith) (inr (omega arith)) (λ z. omega arith) (λ z. omega arith) m)
-case-step kind c code13 v g h s l e m = become aCase (say (fieldOf 13) v s) (e .1 .1) (e .0) (quiet-case (keeps-all 1 4 4 (g .main)) (g .texts) (e .1 .0) s (omega arith) (inr (omega arith)) (λ z. omega arith) (λ z. omega arith) m)
-case-step kind c code14 v g h s l e m = become aCase (say (fieldOf 14) v s) (e .1 .1) (e .0) (quiet-case (keeps-all 1 4 4 (g .main)) (g .texts) (e .1 .0) s (omega arith) (inr (omega arith)) (λ z. omega arith) (λ z. omega arith) m)
+case-step kind c code1 v g h s l e m =
+    become aCase (say (fieldOf 1) v s) (e .1) (e .0) (
+      λ u. text-there 0 2 (g .texts) (valueText v) u (g .main) l (omega arith) (omega arith),
+      stay-second (text-keeps 0 2 _ _ (g .main) (omega arith)) (g .texts) (valueText v) (λ z. omega arith) (inr (omega arith)) (m .1),
+      keeps-time (text-keeps 0 2 _ _ (g .main) (omega arith)) (λ z. omega arith) (inr (omega arith)) ∙ m .2,
+    )
+case-step kind c code2 v g h s l e m = become aCase (say (fieldOf 2) v s) (e .1) (e .0) (
+  stay-text (text-keeps 5 18 _ _ (g .main) (omega arith)) (g .texts) (valueText v) (inl (omega arith)) (m .0),
+  λ u. second-there (g .texts) (valueText v) u (g .main) l,
+  keeps-time (text-keeps 5 18 _ _ (g .main) (omega arith)) (λ z. omega arith) (inl (omega arith)) ∙ m .2,
+)
+case-step kind c code3 v g h s l e m =
+    become aCase (say (fieldOf 3) v s) (e .1 .1) (e .0) (quiet-case (keeps-all 1 4 4 (g .main)) (g .texts) (e .1 .0) s (omega arith) (inr (omega arith)) (λ z. omega arith) (λ z. omega arith) m)
+case-step kind c code4 v g h s l e m =
+    become aCase (say (fieldOf 4) v s) (e .1) (e .0 .1) (quiet-case (moment-keeps (e .0 .0) (g .main)) (g .texts) [] s (omega arith) (inr (omega arith)) (λ z. omega arith) (λ z. omega arith) m)
+case-step kind c code5 v g h s l e m = become aCase (say (fieldOf 5) v s) (e .1) (e .0) (
+  stay-text (text-keeps 4 16 _ _ (g .main) (omega arith)) (g .texts) [] (inl (omega arith)) (m .0),
+  stay-second (text-keeps 4 16 _ _ (g .main) (omega arith)) (g .texts) [] (λ z. omega arith) (inr (omega arith)) (m .1),
+  time-there (secondsOf v) (nanosOf v) (g .main) l,
+)
+case-step kind c code6 v g h s l e m =
+    become aCase (say (fieldOf 6) v s) (e .1 .1) (e .0) (quiet-case (keeps-all 1 4 4 (g .main)) (g .texts) (e .1 .0) s (omega arith) (inr (omega arith)) (λ z. omega arith) (λ z. omega arith) m)
+case-step kind c code7 v g h s l e m =
+    become aCase (say (fieldOf 7) v s) (e .1 .1) (e .0) (quiet-case (keeps-all 1 4 4 (g .main)) (g .texts) (e .1 .0) s (omega arith) (inr (omega arith)) (λ z. omega arith) (λ z. omega arith) m)
+case-step kind c code8 v g h s l e m =
+    become aCase (say (fieldOf 8) v s) (e .1 .1) (e .0) (quiet-case (keeps-all 1 4 4 (g .main)) (g .texts) (e .1 .0) s (omega arith) (inr (omega arith)) (λ z. omega arith) (λ z. omega arith) m)
+case-step kind c code9 v g h s l e m =
+    become aCase (say (fieldOf 9) v s) (e .1 .1) (e .0) (quiet-case (keeps-all 1 4 4 (g .main)) (g .texts) (e .1 .0) s (omega arith) (inr (omega arith)) (λ z. omega arith) (λ z. omega arith) m)
+case-step kind c code10 v g h s l e m =
+    become aCase (say (fieldOf 10) v s) (e .1 .1) (e .0) (quiet-case (keeps-all 1 4 4 (g .main)) (g .texts) (e .1 .0) s (omega arith) (inr (omega arith)) (λ z. omega arith) (λ z. omega arith) m)
+case-step kind c code11 v g h s l e m = become aCase (say (fieldOf 11) v s) (e .1) (e .0)
+    (quiet-case (text-keeps 6 20 _ _ (g .main) (omega arith)) (g .texts) [] s (omega arith) (inl (omega arith)) (λ z. omega arith) (λ z. omega arith) m)
+case-step kind c code12 v g h s l e m =
+    become aCase (say (fieldOf 12) v s) (e .1 .1) (e .0) (quiet-case (keeps-all 1 4 4 (g .main)) (g .texts) (e .1 .0) s (omega arith) (inr (omega arith)) (λ z. omega arith) (λ z. omega arith) m)
+case-step kind c code13 v g h s l e m =
+    become aCase (say (fieldOf 13) v s) (e .1 .1) (e .0) (quiet-case (keeps-all 1 4 4 (g .main)) (g .texts) (e .1 .0) s (omega arith) (inr (omega arith)) (λ z. omega arith) (λ z. omega arith) m)
+case-step kind c code14 v g h s l e m =
+    become aCase (say (fieldOf 14) v s) (e .1 .1) (e .0) (quiet-case (keeps-all 1 4 4 (g .main)) (g .texts) (e .1 .0) s (omega arith) (inr (omega arith)) (λ z. omega arith) (λ z. omega arith) m)
 case-step kind c (further o) v g h s l e m =
     let d : Effect kind role.Extra v g h = subst (λ (ρ : Role). Effect kind ρ v g h) (case-other c o) e in
-    subst (λ (φ : Field). Shows aCase (h .texts) (h .main) (say φ v s)) (sym (field-other c o)) (become aCase s (d .1 .1) (d .0) (quiet-case (keeps-all 1 4 4 (g .main)) (g .texts) (d .1 .0) s (omega arith) (inr (omega arith)) (λ z. omega arith) (λ z. omega arith) m))
+    subst (λ (φ : Field). Shows aCase (h .texts) (h .main) (say φ v s)) (sym (field-other c o))
+    (become aCase s (d .1 .1) (d .0) (quiet-case (keeps-all 1 4 4 (g .main)) (g .texts) (d .1 .0) s (omega arith) (inr (omega arith)) (λ z. omega arith) (λ z. omega arith) m))
 
 run-other : (c : ℕ) → Other c → statusRole true c ≡ role.Ignored
 unfolding statusRole roleIn
@@ -173,9 +264,12 @@ run-step kind c code8 v g h s l e m = become aRun (say (fieldOf 8) v s) (e .1) (
 run-step kind c code9 v g h s l e m = become aRun (say (fieldOf 9) v s) (e .1) (e .0) (quiet-run (keeps-all 1 4 4 (g .main)) (g .texts) [] s (inr (omega arith)) (λ z. omega arith) m)
 run-step kind c code10 v g h s l e m = become aRun (say (fieldOf 10) v s) (e .1) (e .0) (quiet-run (keeps-all 1 4 4 (g .main)) (g .texts) [] s (inr (omega arith)) (λ z. omega arith) m)
 run-step kind c code11 v g h s l e m = become aRun (say (fieldOf 11) v s) (e .1) (e .0) (quiet-run (keeps-all 1 4 4 (g .main)) (g .texts) [] s (inr (omega arith)) (λ z. omega arith) m)
-run-step kind c code12 v g h s l e m = become aRun (say (fieldOf 12) v s) (e .1) (e .0) (quiet-run (text-keeps 0 2 _ _ (g .main) (omega arith)) (g .texts) (valueText v) s (inr (omega arith)) (λ z. omega arith) m)
-run-step kind c code13 v g h s l e m = become aRun (say (fieldOf 13) v s) (e .1) (e .0) (quiet-run (text-keeps 5 18 _ _ (g .main) (omega arith)) (g .texts) (valueText v) s (inl (omega arith)) (λ z. omega arith) m)
+run-step kind c code12 v g h s l e m =
+    become aRun (say (fieldOf 12) v s) (e .1) (e .0) (quiet-run (text-keeps 0 2 _ _ (g .main) (omega arith)) (g .texts) (valueText v) s (inr (omega arith)) (λ z. omega arith) m)
+run-step kind c code13 v g h s l e m =
+    become aRun (say (fieldOf 13) v s) (e .1) (e .0) (quiet-run (text-keeps 5 18 _ _ (g .main) (omega arith)) (g .texts) (valueText v) s (inl (omega arith)) (λ z. omega arith) m)
 run-step kind c code14 v g h s l e m = become aRun (say (fieldOf 14) v s) (e .1) (e .0) (quiet-run (keeps-all 1 4 4 (g .main)) (g .texts) [] s (inr (omega arith)) (λ z. omega arith) m)
 run-step kind c (further o) v g h s l e m =
     let d : Effect kind role.Ignored v g h = subst (λ (ρ : Role). Effect kind ρ v g h) (run-other c o) e in
-    subst (λ (φ : Field). Shows aRun (h .texts) (h .main) (say φ v s)) (sym (field-other c o)) (become aRun s (d .1) (d .0) (quiet-run (keeps-all 1 4 4 (g .main)) (g .texts) [] s (inr (omega arith)) (λ z. omega arith) m))
+    subst (λ (φ : Field). Shows aRun (h .texts) (h .main) (say φ v s)) (sym (field-other c o))
+    (become aRun s (d .1) (d .0) (quiet-run (keeps-all 1 4 4 (g .main)) (g .texts) [] s (inr (omega arith)) (λ z. omega arith) m))

@@ -11,8 +11,10 @@ use Rattle.tree_report.specs.Report.{failure, error, flaky, rerun, nonSuccess, 
 use Rattle.tree_record.specs.Bits as bit
 use Rattle.tree_report.specs.Fields.{kindOf, live, isSuite, isCase, isMain, isRun, hasBit, textAt, first, second, time, counts}
 use Rattle.tree_report.specs.ReportOf.{only, until, branches, runOf, kindOfRuns, statusOf, reasonOf, caseOf, suiteOf, reportFrom}
-use Rattle.list_text.specs.Listing.{Status, isFailure, isError, isSkipped, RunKind, noKind, flakyKind, rerunKind, PublicRun, PublicCase, PublicSuite, PublicReport, publicRun, kindShown, statusShown, runKindShown, runsShown, publicCase, publicSuite, publicPart}
-use Rattle.public_claims.specs.PublicMachine.{Node, reportNode, suiteNode, caseNode, mainNode, runNode, Sort, aReport, aSuite, aCase, aMain, aRun, unlisted, sortOf, isSuiteNode, isCaseNode, upToNext, mainsIn, runsIn, runCodesIn, nodeStatus, familyOf, nodeKind, nodeRuns, caseFrom, casesIn, suitesIn, reportIn}
+use Rattle.list_text.specs.Listing.{Status, isFailure, isError, isSkipped, RunKind, noKind, flakyKind, rerunKind, PublicRun, PublicCase, PublicSuite}
+use Rattle.list_text.specs.Listing.{PublicReport, publicRun, kindShown, statusShown, runKindShown, runsShown, publicCase, publicSuite, publicPart}
+use Rattle.public_claims.specs.PublicMachine.{Node, reportNode, suiteNode, caseNode, mainNode, runNode, Sort, aReport, aSuite, aCase, aMain, aRun, unlisted, sortOf, isSuiteNode}
+use Rattle.public_claims.specs.PublicMachine.{isCaseNode, upToNext, mainsIn, runsIn, runCodesIn, nodeStatus, familyOf, nodeKind, nodeRuns, caseFrom, casesIn, suitesIn, reportIn}
 use Rattle.public_claims.proofs.View.{lookAs, look, looks, sort-dead}
 use Rattle.public_claims.proofs.Said.{Solid}
 use Rattle.public_claims.proofs.Acts.{heads, impossible}
@@ -234,7 +236,14 @@ module _ (t : List ℕ) where
       ap₂ (λ (x : Status) (y : RunKind). record { name = textAt t r 2; classname = second t r; time = time r; status = x; kind = y; runs = runsShown (statusOf t ms ns) })
       (status-same ms ns ∙ sym (ap nodeStatus (mains-same rs)))
       (kind-same ms ns (only-solid isMain rs s) ∙ sym (ap₂ (λ (x y : List ℕ). nodeKind x y) (mains-same rs) (codes-same rs)))
-      ∙ ap (λ (z : List PublicRun). record { name = textAt t r 2; classname = second t r; time = time r; status = nodeStatus (mainsIn (looks t rs)); kind = nodeKind (mainsIn (looks t rs)) (runCodesIn (looks t rs)); runs = z })
+      ∙ ap (λ (z : List PublicRun). record {
+        name = textAt t r 2;
+        classname = second t r;
+        time = time r;
+        status = nodeStatus (mainsIn (looks t rs));
+        kind = nodeKind (mainsIn (looks t rs)) (runCodesIn (looks t rs));
+        runs = z;
+      })
       (shown-same ms ns ∙ sym (ap₂ (λ (x : List ℕ) (y : List PublicRun). nodeRuns x y) (mains-same rs) (runs-same rs)))
 
   -- ---- up to the next case, or suite

@@ -40,7 +40,15 @@ looks-append t (r ∷ rs) ss = ap (look t r ++_) (looks-append t rs ss) ∙ sym 
 pub sort-dead : (k : ℕ) → 13 ≤ k → sortOf k ≡ unlisted
 unfolding sortOf
 sort-dead k h =
-    rw (ne-eqb k 1 (λ e. omega arith), ne-eqb k 2 (λ e. omega arith), ne-eqb k 3 (λ e. omega arith), le-leb 6 k (omega arith), lt-leb k 8 (omega arith), le-leb 9 k (omega arith), lt-leb k 12 (omega arith))
+    rw (
+      ne-eqb k 1 (λ e. omega arith),
+      ne-eqb k 2 (λ e. omega arith),
+      ne-eqb k 3 (λ e. omega arith),
+      le-leb 6 k (omega arith),
+      lt-leb k 8 (omega arith),
+      le-leb 9 k (omega arith),
+      lt-leb k 12 (omega arith),
+    )
 
 pub sort-main : (k : ℕ) → 6 ≤ k → k ≤ 8 → sortOf k ≡ aMain
 unfolding sortOf
@@ -93,9 +101,21 @@ module _ {k lo hi : ℕ} {r s : List ℕ} (c : Keeps k lo hi r s) where
 
   pub keeps-counts : (8 ≡ k → ⊥) → (27 < lo) ⊎ (hi ≤ 18) → counts s ≡ counts r
   keeps-counts n (inl h) =
-      rw (keeps-number 18 (omega arith) (inl (omega arith)), keeps-number 20 (omega arith) (inl (omega arith)), keeps-number 22 (omega arith) (inl (omega arith)), keeps-number 24 (omega arith) (inl (omega arith)), keeps-disabled n (inl h))
+      rw (
+        keeps-number 18 (omega arith) (inl (omega arith)),
+        keeps-number 20 (omega arith) (inl (omega arith)),
+        keeps-number 22 (omega arith) (inl (omega arith)),
+        keeps-number 24 (omega arith) (inl (omega arith)),
+        keeps-disabled n (inl h),
+      )
   keeps-counts n (inr h) =
-      rw (keeps-number 18 (omega arith) (inr h), keeps-number 20 (omega arith) (inr (omega arith)), keeps-number 22 (omega arith) (inr (omega arith)), keeps-number 24 (omega arith) (inr (omega arith)), keeps-disabled n (inr (omega arith)))
+      rw (
+        keeps-number 18 (omega arith) (inr h),
+        keeps-number 20 (omega arith) (inr (omega arith)),
+        keeps-number 22 (omega arith) (inr (omega arith)),
+        keeps-number 24 (omega arith) (inr (omega arith)),
+        keeps-disabled n (inr (omega arith)),
+      )
 
   -- words 4 to 15, with bit 1, 2 or 3, show nothing
   pub look-outputs : (t : List ℕ) → 4 ≤ lo → hi ≤ 16 → (0 ≡ k → ⊥) → (4 ≡ k → ⊥) → (5 ≡ k → ⊥) → (8 ≡ k → ⊥) → look t s ≡ look t r

@@ -294,7 +294,8 @@ module _ (seen : Bool) where
   property-read l false = passes (listing l) seen (listing l) refl
 
   skip-ends : (l : Level) (skipped : List ℕ) (depth : ℕ) (x : Bool) →
-      Means (skipping l skipped depth) seen (pass (cond x (shallower l skipped depth) (skipping l skipped depth))) (cond x (leaveSkip depth skipped (spotAt l)) (past skipped depth (spotAt l))) false none-found []
+      Means (skipping l skipped depth) seen (pass (cond x (shallower l skipped depth) (skipping l skipped depth)))
+      (cond x (leaveSkip depth skipped (spotAt l)) (past skipped depth (spotAt l))) false none-found []
   skip-ends l skipped zero true = passes (skipping l skipped zero) seen (at l) refl
   skip-ends l skipped (suc depth) true = passes (skipping l skipped (suc depth)) seen (skipping l skipped depth) refl
   skip-ends l skipped depth false = passes (skipping l skipped depth) seen (skipping l skipped depth) refl

@@ -112,7 +112,8 @@ table =
     ∷ []
 
 pub worked-public : publicText table ≡ workedText
-unfolding publicText publicReport nodesRead publicRun publicStep ending acting publicAct said fieldOf sortOf planAt planEof atTop atSuite atCase orSkip outputs turn tallied codeFrom sameBytes tags keys unsigned digit renderPublic header suiteText caseText runText letter listed decimal places timeText thousandthsOf floatSum add sum div ofInt round units odd size span climb trailingZeros
+unfolding publicText publicReport nodesRead publicRun publicStep ending acting publicAct said fieldOf sortOf planAt planEof atTop atSuite atCase orSkip outputs turn tallied codeFrom sameBytes tags
+    keys unsigned digit renderPublic header suiteText caseText runText letter listed decimal places timeText thousandthsOf floatSum add sum div ofInt round units odd size span climb trailingZeros
 worked-public = refl
 
 -- eleven keys are public (rule L1), the other three that reading knows aren't

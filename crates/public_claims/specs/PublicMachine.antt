@@ -13,7 +13,8 @@ use Rattle.text.specs.Value.{valueText}
 use Rattle.table.specs.Event.{Attribute}
 use Rattle.tree_status.specs.Status.{noStatus}
 use Rattle.tree_report.specs.Report.{Text, Duration, Counts, NonSuccessKind, failure, error}
-use Rattle.read_state.specs.Control.{top, status, at, Control, control, Act, pass, openReport, openSuite, openCase, openStatus, closeSuite, closeCase, closeStatus, openText, closeText, openList, readProperty, stop, missing, broken, turn}
+use Rattle.read_state.specs.Control.{top, status, at, Control, control, Act, pass, openReport, openSuite, openCase, openStatus, closeSuite}
+use Rattle.read_state.specs.Control.{closeCase, closeStatus, openText, closeText, openList, readProperty, stop, missing, broken, turn}
 use Rattle.read_rules.specs.Rules.{planAt, planEof, planFault}
 use Rattle.list_text.specs.Listing.{Status, isSuccess, isFailure, isError, isSkipped, RunKind, noKind, flakyKind, rerunKind, PublicRun, PublicCase, PublicSuite, PublicReport, renderPublic}
 use Rattle.public_claims.specs.Agree.{PublicEvent, PublicTag, PublicEof, PublicFault}

@@ -53,7 +53,8 @@ list-index status n m c s x = x
 abbrev pub standing : CodedMode → Level → Output → Bool → Bool → Tally → Control
 standing k l o seen closed t = control (modeAt k l o) seen closed t
 
-abbrev pub Acted : CodedAct → CodedMode → Level → Output → Bool → Bool → Tally → List ℕ → Marks → Place → Rooms → ℕ → List Attribute → (words text scratch attributes source : List ℕ) → Content → Performed → Type 0
+abbrev pub Acted : CodedAct → CodedMode → Level → Output → Bool → Bool → Tally → List ℕ → Marks → Place → Rooms
+    → ℕ → List Attribute → (words text scratch attributes source : List ℕ) → Content → Performed → Type 0
 Acted a k l o seen closed t name m p rooms j xs words text scratch attributes source s r =
     Performs (cond (isStep a) (turn (actIn (modeAt k l o) name a) (standing k l o seen closed t)) (standing k l o seen closed t) .mode)
     (marksAfter (actIn (modeAt k l o) name a) (length (s .records)) m) p words text scratch attributes source
@@ -88,7 +89,8 @@ module _ (k : CodedMode) (l : Level) (o : Output) (seen closed : Bool) (t : Tall
       → Acted act.CloseList k l o seen closed t name m p rooms j xs words text scratch attributes source s (To c)
   acted-end a hd li = go k a li
     where
-      go : (k : CodedMode) → not (isText (modeAt k l o)) ≡ true → Lists (modeAt k l o) m c s → Acted act.CloseList k l o seen closed t name m p rooms j xs words text scratch attributes source s (To c)
+      go : (k : CodedMode) → not (isText (modeAt k l o)) ≡ true → Lists (modeAt k l o) m c s
+          → Acted act.CloseList k l o seen closed t name m p rooms j xs words text scratch attributes source s (To c)
       go mode.At a li = unfold turn marksAfter perform in went (hd, li)
       go mode.Text a li = no a
       go mode.List a li = unfold turn marksAfter perform in went (hd, (li .0, li .1 .0))
@@ -106,12 +108,14 @@ module _ (k : CodedMode) (l : Level) (o : Output) (seen closed : Bool) (t : Tall
   -- ---- acts of one mode
   module _ {r : Performed} (li : Lists (modeAt k l o) m c s) where
     pub acted-close : isAt (modeAt k l o) ≡ true
-        → (Lists (at l) m c s → Performs (turn (closing l) (standing k l o seen closed t) .mode) (marksAfter (closing l) (length (s .records)) m) p words text scratch attributes source (perform rooms p (closing l) j xs (standing k l o seen closed t) m s) r)
+        → (Lists (at l) m c s → Performs (turn (closing l) (standing k l o seen closed t) .mode) (marksAfter (closing l) (length (s .records)) m)
+        p words text scratch attributes source (perform rooms p (closing l) j xs (standing k l o seen closed t) m s) r)
         → Acted act.Close k l o seen closed t name m p rooms j xs words text scratch attributes source s r
     acted-close a f = go k a li f
       where
         go : (k : CodedMode) → isAt (modeAt k l o) ≡ true → Lists (modeAt k l o) m c s
-            → (Lists (at l) m c s → Performs (turn (closing l) (standing k l o seen closed t) .mode) (marksAfter (closing l) (length (s .records)) m) p words text scratch attributes source (perform rooms p (closing l) j xs (standing k l o seen closed t) m s) r)
+            → (Lists (at l) m c s → Performs (turn (closing l) (standing k l o seen closed t) .mode) (marksAfter (closing l) (length (s .records)) m)
+            p words text scratch attributes source (perform rooms p (closing l) j xs (standing k l o seen closed t) m s) r)
             → Acted act.Close k l o seen closed t name m p rooms j xs words text scratch attributes source s r
         go mode.At a li f = f li
         go mode.Text a li f = no a

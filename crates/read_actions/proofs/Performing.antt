@@ -111,14 +111,16 @@ module _ (k : CodedMode) (l : Level) (o : Output) (m : Marks) {words text scratc
 abbrev pub standing : CodedMode → Level → Output → Bool → Bool → Tally → Control
 standing k l o seen closed t = control (modeAt k l o) seen closed t
 
-abbrev pub Acted : CodedAct → CodedMode → Level → Output → Bool → Bool → Tally → List ℕ → Marks → Place → Rooms → ℕ → List Attribute → (words text scratch attributes source : List ℕ) → Content → Performed → Type 0
+abbrev pub Acted : CodedAct → CodedMode → Level → Output → Bool → Bool → Tally → List ℕ → Marks → Place → Rooms
+    → ℕ → List Attribute → (words text scratch attributes source : List ℕ) → Content → Performed → Type 0
 Acted a k l o seen closed t name m p rooms j xs words text scratch attributes source s r =
     Performs (cond (isStep a) (turn (actIn (modeAt k l o) name a) (standing k l o seen closed t)) (standing k l o seen closed t) .mode)
     (marksAfter (actIn (modeAt k l o) name a) (length (s .records)) m) p words text scratch attributes source
     (perform rooms p (actIn (modeAt k l o) name a) j xs (standing k l o seen closed t) m s) r
 
 -- the number of a property counts for no list
-same-lists : (l : Level) (m n : Marks) → n .suiteAt ≡ m .suiteAt → n .caseAt ≡ m .caseAt → n .statusAt ≡ m .statusAt → (c : CodedContent) (s : Content) → Lists (listing l) m c s → Lists (listing l) n c s
+same-lists : (l : Level) (m n : Marks) → n .suiteAt ≡ m .suiteAt → n .caseAt ≡ m .caseAt → n .statusAt ≡ m .statusAt
+    → (c : CodedContent) (s : Content) → Lists (listing l) m c s → Lists (listing l) n c s
 same-lists top m n a b d c s x = x
 same-lists suite m n a b d c s x = rw a x
 same-lists case m n a b d c s x = rw (a, b) x
@@ -162,7 +164,8 @@ module _ (l : Level) (o : Output) (seen closed : Bool) (t : Tally) (name : List 
   broken-in k why pa q = halts p why pa refl q
 
   close-in : (k : CodedMode) → isAt (modeAt k l o) ≡ true → Lists (modeAt k l o) m c s
-      → (Lists (at l) m c s → Performs (turn (closing l) (standing k l o seen closed t) .mode) (marksAfter (closing l) (length (s .records)) m) p words text scratch attributes source (perform rooms p (closing l) j xs (standing k l o seen closed t) m s) r)
+      → (Lists (at l) m c s → Performs (turn (closing l) (standing k l o seen closed t) .mode) (marksAfter (closing l) (length (s .records)) m)
+      p words text scratch attributes source (perform rooms p (closing l) j xs (standing k l o seen closed t) m s) r)
       → In k act.Close
   close-in mode.At a li f = f li
   close-in mode.Text a li f = no a
@@ -212,7 +215,8 @@ module _ (l : Level) (o : Output) (seen closed : Bool) (t : Tally) (name : List 
         acted-end e = turn-to e (λ x. end-in k x hd li q) h
 
       pub acted-close : a ≡ act.Close
-          → (Lists (at l) m c s → Performs (turn (closing l) (standing k l o seen closed t) .mode) (marksAfter (closing l) (length (s .records)) m) p words text scratch attributes source (perform rooms p (closing l) j xs (standing k l o seen closed t) m s) r)
+          → (Lists (at l) m c s → Performs (turn (closing l) (standing k l o seen closed t) .mode) (marksAfter (closing l) (length (s .records)) m)
+          p words text scratch attributes source (perform rooms p (closing l) j xs (standing k l o seen closed t) m s) r)
           → In k a
       acted-close e f = turn-to e (λ x. close-in k x li f) h
 
@@ -228,7 +232,8 @@ module _ (l : Level) (o : Output) (seen closed : Bool) (t : Tally) (name : List 
       acted-list e hd w q = turn-to e (λ x. list-in k x hd li w q) h
 
       pub acted-open : {kind : ℕ} {e : Bool} → a ≡ act.Open kind e
-          → (opens kind (modeAt k l o) ≡ true → Performs (turn (opening kind e) (standing k l o seen closed t) .mode) (marksAfter (opening kind e) (length (s .records)) m) p words text scratch attributes source (perform rooms p (opening kind e) j xs (standing k l o seen closed t) m s) r)
+          → (opens kind (modeAt k l o) ≡ true → Performs (turn (opening kind e) (standing k l o seen closed t) .mode) (marksAfter (opening kind e) (length (s .records)) m)
+          p words text scratch attributes source (perform rooms p (opening kind e) j xs (standing k l o seen closed t) m s) r)
           → In k a
       acted-open e f = turn-to e f h
 

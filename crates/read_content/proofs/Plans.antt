@@ -7,7 +7,8 @@ use native.Mathlib.Omega.{arith}
 use lib.Dec.{eqb}
 use Rattle.names.specs.Tags.{tagOf, testsuites, testsuite, testcase, properties, property, stackTrace, system-out, system-err}
 use Rattle.table.specs.Event.{TagKind, Start, Empty, End}
-use Rattle.read_state.specs.Control.{Level, top, suite, case, status, Output, Mode, at, gathering, listing, skipping, finished, Act, pass, openReport, openSuite, openCase, openStatus, closeSuite, closeCase, closeStatus, openText, closeText, openList, readProperty, stop, missing, broken, isStatus, orSkip}
+use Rattle.read_state.specs.Control.{Level, top, suite, case, status, Output, Mode, at, gathering, listing, skipping, finished, Act, pass, openReport, openSuite, openCase}
+use Rattle.read_state.specs.Control.{openStatus, closeSuite, closeCase, closeStatus, openText, closeText, openList, readProperty, stop, missing, broken, isStatus, orSkip}
 use Rattle.read_rules.specs.Rules.{outputs, atTop, atSuite, atCase, child, atStatus, tagOfOutput, inText, inList, planAt, planEof}
 use Rattle.read_state.specs.inside.Coded.{modeAt, opening, closing, actIn}
 use Rattle.read_state.specs.declared.Mode.{Mode as CodedMode}
@@ -234,9 +235,11 @@ fit-apt m l o name act.Missing h = refl
 fit-apt m l o name (act.Broken why) h = refl
 
 -- the act that a tag gives is one of its mode, so that the other arms of the code can't be reached
-pub plan-apt : (m : CodedMode) (l : Level) (o : Output) (seen : Bool) (k : TagKind) (name : List ℕ) (a : CodedAct) → actIn (modeAt m l o) name a ≡ planAt (modeAt m l o) seen k name → apt a (modeAt m l o) ≡ true
+pub plan-apt : (m : CodedMode) (l : Level) (o : Output) (seen : Bool) (k : TagKind) (name : List ℕ) (a : CodedAct)
+    → actIn (modeAt m l o) name a ≡ planAt (modeAt m l o) seen k name → apt a (modeAt m l o) ≡ true
 plan-apt m l o seen k name a e = fit-apt m l o name a (ap (fit m l) e ∙ fitted (plan-fit m l o seen k name))
 
 -- the act that Eof gives is one of its mode, so that the other arms of the code can't be reached
-pub eof-apt : (m : CodedMode) (l : Level) (o : Output) (seen closed : Bool) (name : List ℕ) (a : CodedAct) → actIn (modeAt m l o) name a ≡ planEof (modeAt m l o) seen closed → apt a (modeAt m l o) ≡ true
+pub eof-apt : (m : CodedMode) (l : Level) (o : Output) (seen closed : Bool) (name : List ℕ) (a : CodedAct)
+    → actIn (modeAt m l o) name a ≡ planEof (modeAt m l o) seen closed → apt a (modeAt m l o) ≡ true
 eof-apt m l o seen closed name a e = fit-apt m l o name a (ap (fit m l) e ∙ fitted (eof-fit m l o seen closed))

@@ -27,7 +27,8 @@ moved m i s =
     record {
       control = control m (s .control .seen) (s .control .closed) (s .control .tally);
       content = s .content;
-      marks = marks i (s .marks .suiteIndex) (s .marks .suiteStart) (s .marks .caseIndex) (s .marks .caseStart) (s .marks .statusKind) (s .marks .propertyIndex) (s .marks .suiteAt) (s .marks .caseAt) (s .marks .statusAt);
+      marks = marks i (s .marks .suiteIndex) (s .marks .suiteStart) (s .marks .caseIndex) (s .marks .caseStart)
+          (s .marks .statusKind) (s .marks .propertyIndex) (s .marks .suiteAt) (s .marks .caseAt) (s .marks .statusAt);
     }
 
 -- a machine in that mode at that event
@@ -75,7 +76,8 @@ module _ (rooms : Rooms) (l : Level) (name : List ℕ) (s : Machine) where
     turns (Tag Empty tag j xs) depth = on depth
     turns (Tag End tag j xs) depth = go (sameBytes tag name) depth
       where
-        go : (t : Bool) (d : ℕ) → run rooms es (moved (cond t (shallower l name d) (skipping l name d)) (i + 1) s) ≡ f (cond t (upFrom d (next (i + 1)) λ d. skipOf name d (i + 1) es) (skipOf name d (i + 1) es))
+        go : (t : Bool) (d : ℕ)
+            → run rooms es (moved (cond t (shallower l name d) (skipping l name d)) (i + 1) s) ≡ f (cond t (upFrom d (next (i + 1)) λ d. skipOf name d (i + 1) es) (skipOf name d (i + 1) es))
         go true zero = out
         go true (suc d) = on d
         go false d = on d
@@ -172,7 +174,8 @@ module _ (rooms : Rooms) (s : Machine) where
   finished-runs es p = subst (λ (t : Machine). Keeps s (run rooms es t)) (sym (moved-there s p refl)) (over es (s .marks .event))
 
   -- an End that stops reading, or Eof, or the table's end
-  pub stop-runs : (es : List Event) (k : TagKind) (tag : List ℕ) (j : ℕ) (xs : List Attribute) → planAt (s .control .mode) (s .control .seen) k tag ≡ stop → Keeps s (run rooms (Tag k tag j xs ∷ es) s)
+  pub stop-runs : (es : List Event) (k : TagKind) (tag : List ℕ) (j : ℕ) (xs : List Attribute)
+      → planAt (s .control .mode) (s .control .seen) k tag ≡ stop → Keeps s (run rooms (Tag k tag j xs ∷ es) s)
   unfolding run step _>>=_
   stop-runs es k tag j xs p = subst (λ (a : Act). Keeps s (act rooms a j xs s >>= λ t. run rooms es t)) (sym p) (stopped es j xs)
     where

@@ -30,7 +30,8 @@ use Rattle.read_state.specs.Control.{Level, top, suite, case, status, Output, M
 use Rattle.read_place.specs.Marks.{Marks}
 use Rattle.read_content.specs.Content.{Content, killAll, killKind, kept, pieceOf, withTexts, joinPiece, gather, adding, withRecords, cleaned, keeping, isEmpty, describing, outputting}
 use Rattle.read_machine.proofs.TreeOrder.{kinds, kinds-append, Some, There}
-use Rattle.read_machine.proofs.TreeKept.{Kept, alive, kept-some, kept-more, all-killed, length-all, kind-killed-kept, length-kind, sortsOf, kept-changed, changed-same, Status, status-bounds, status-third, status-outputs}
+use Rattle.read_machine.proofs.TreeKept.{Kept, alive, kept-some, kept-more, all-killed, length-all, kind-killed-kept, length-kind}
+use Rattle.read_machine.proofs.TreeKept.{sortsOf, kept-changed, changed-same, Status, status-bounds, status-third, status-outputs}
 use Rattle.read_machine.proofs.TreePlans.{Gathered, suite-out, suite-err, case-out, case-err, status-trace, status-out, status-err}
 use Rattle.refusal.specs.declared.Cause.the-variants as cause
 use Rattle.refusal.specs.declared.Cause.{Cause}
@@ -92,7 +93,8 @@ pub record More (κ : ℕ) (c d : Content) : Type 0 where
   pub each : Each (λ k. k ≡ extraKind κ) extras
   pub few : ((2 ≤ κ) × (κ ≤ 3) → ⊥) → extras ≡ []
 
-pub adds : {rooms : Rooms} {κ : ℕ} {S T : Sorts} {c : Content} (p : Place) (j : ℕ) (xs : List Attribute) → Class κ S T → Sound rooms c → Holds (λ d. Sound rooms d × More κ c d) (adding rooms p κ j xs c)
+pub adds : {rooms : Rooms} {κ : ℕ} {S T : Sorts} {c : Content} (p : Place) (j : ℕ) (xs : List Attribute)
+    → Class κ S T → Sound rooms c → Holds (λ d. Sound rooms d × More κ c d) (adding rooms p κ j xs c)
 unfolding adding
 adds {rooms} {κ} {S} {T} {c} p j xs class s =
     bind (element-read p j xs (c .records) (c .texts) class (s .stored)) λ g a.
@@ -155,11 +157,13 @@ keeps {rooms} {c} p taken i κ o k v u h s =
         kept-changed i κ (kept true (putText o k (length (c .texts)) (length (cleaned v)))) (t .most)
         (λ r q. t .put (c .texts ++ cleaned v) r (length (c .texts)) (length (cleaned v)) g q) old (t .there .there)
     changes false h old =
-        let e : changed i (kept false (putText o k (length (c .texts)) (length (cleaned v)))) (c .records) ≡ c .records = changed-same i (kept false (putText o k (length (c .texts)) (length (cleaned v)))) (λ r. refl) (c .records) in
+        let e : changed i (kept false (putText o k (length (c .texts)) (length (cleaned v)))) (c .records) ≡ c .records =
+        changed-same i (kept false (putText o k (length (c .texts)) (length (cleaned v)))) (λ r. refl) (c .records) in
         (subst (Each (Kept (c .texts ++ cleaned v))) (sym e) old, ap kinds e)
 
 -- a description that trimming leaves empty is missing (rule X11)
-pub describes : {rooms : Rooms} {c : Content} (m : Marks) (p : Place) → Status (m .statusKind) → There (m .statusAt) (m .statusKind) (kinds (c .records)) → Sound rooms c → Holds (Same rooms c) (describing rooms p m c)
+pub describes : {rooms : Rooms} {c : Content} (m : Marks) (p : Place) → Status (m .statusKind)
+    → There (m .statusAt) (m .statusKind) (kinds (c .records)) → Sound rooms c → Holds (Same rooms c) (describing rooms p m c)
 unfolding describing
 describes {rooms} {c} m p st th s =
     either (isEmpty (trimmed (c .description))) (λ e. accept (sound-texts refl refl s, refl)) λ e.
@@ -176,16 +180,21 @@ Holder case m ks = There (m .caseAt) 3 ks
 Holder status m ks = Status (m .statusKind) × There (m .statusAt) (m .statusKind) ks
 
 -- an output is kept, an empty one too (rule X12)
-pub puts-out : {rooms : Rooms} {c : Content} {l : Level} {o : Output} (m : Marks) (p : Place) → Gathered l o → Holder l m (kinds (c .records)) → Sound rooms c → Holds (Same rooms c) (outputting rooms p l o m c)
+pub puts-out : {rooms : Rooms} {c : Content} {l : Level} {o : Output} (m : Marks) (p : Place) → Gathered l o
+    → Holder l m (kinds (c .records)) → Sound rooms c → Holds (Same rooms c) (outputting rooms p l o m c)
 unfolding outputting
 puts-out m p suite-out h s =
-    bind (keeps p true (m .suiteAt) 2 4 1 _ (s .gathered) (λ z. record { there = h; most = lit≤ tt; put = λ t r x n g q. put-out x n g refl q }) s) λ d q. accept (sound-texts (q .0 .description) refl (q .0), q .1)
+    bind (keeps p true (m .suiteAt) 2 4 1 _ (s .gathered) (λ z. record { there = h; most = lit≤ tt; put = λ t r x n g q. put-out x n g refl q }) s) λ d q.
+    accept (sound-texts (q .0 .description) refl (q .0), q .1)
 puts-out m p suite-err h s =
-    bind (keeps p true (m .suiteAt) 2 6 2 _ (s .gathered) (λ z. record { there = h; most = lit≤ tt; put = λ t r x n g q. put-err x n g refl q }) s) λ d q. accept (sound-texts (q .0 .description) refl (q .0), q .1)
+    bind (keeps p true (m .suiteAt) 2 6 2 _ (s .gathered) (λ z. record { there = h; most = lit≤ tt; put = λ t r x n g q. put-err x n g refl q }) s) λ d q.
+    accept (sound-texts (q .0 .description) refl (q .0), q .1)
 puts-out m p case-out h s =
-    bind (keeps p true (m .caseAt) 3 4 1 _ (s .gathered) (λ z. record { there = h; most = lit≤ tt; put = λ t r x n g q. put-out x n g refl q }) s) λ d q. accept (sound-texts (q .0 .description) refl (q .0), q .1)
+    bind (keeps p true (m .caseAt) 3 4 1 _ (s .gathered) (λ z. record { there = h; most = lit≤ tt; put = λ t r x n g q. put-out x n g refl q }) s) λ d q.
+    accept (sound-texts (q .0 .description) refl (q .0), q .1)
 puts-out m p case-err h s =
-    bind (keeps p true (m .caseAt) 3 6 2 _ (s .gathered) (λ z. record { there = h; most = lit≤ tt; put = λ t r x n g q. put-err x n g refl q }) s) λ d q. accept (sound-texts (q .0 .description) refl (q .0), q .1)
+    bind (keeps p true (m .caseAt) 3 6 2 _ (s .gathered) (λ z. record { there = h; most = lit≤ tt; put = λ t r x n g q. put-err x n g refl q }) s) λ d q.
+    accept (sound-texts (q .0 .description) refl (q .0), q .1)
 puts-out m p status-trace h s =
     bind (keeps p (leb 9 (m .statusKind)) (m .statusAt) (m .statusKind) 22 7 _ (s .gathered)
     (λ z. record { there = h .1; most = (let b = status-bounds (h .0) .1 in omega arith); put = λ t r x n g q. put-fourth x n g (status-outputs (h .0) z .1) q }) s)

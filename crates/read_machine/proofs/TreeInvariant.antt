@@ -19,9 +19,12 @@ use Rattle.read_place.specs.Marks.{Marks, marksAfter}
 use Rattle.read_content.specs.Content.{Content, perform}
 use Rattle.read_machine.specs.Machine.{Machine, act, step, run}
 use Rattle.read_machine.proofs.TreeOrder.{kinds, kinds-length, kinds-killed, killed-all, There, there-new}
-use Rattle.read_machine.proofs.TreeLevels.{Walk, walk-same, Ready, InSuite, InCase, report-opens, suite-opens, suite-closes, suite-lists, suite-wide, suite-properties, case-opens, case-closes, case-lists, case-wide, case-properties, status-opens}
+use Rattle.read_machine.proofs.TreeLevels.{Walk, walk-same, Ready, InSuite, InCase, report-opens, suite-opens, suite-closes, suite-lists, suite-wide}
+use Rattle.read_machine.proofs.TreeLevels.{suite-properties, case-opens, case-closes, case-lists, case-wide, case-properties, status-opens}
 use Rattle.read_machine.proofs.TreeKept.{Status, status-of, status-bounds, status-class}
-use Rattle.read_machine.proofs.TreePlans.{Gathered, suite-out, suite-err, case-out, case-err, status-trace, status-out, status-err, Planned, stays, skips, skips-on, returns, listed, reports, suites, stops, misses, breaks, cases, suite-ends, suite-list, statuses, case-ends, case-list, status-ends, texts, text-ends, properties-read, tag-plan, eof-plan, fault-plan}
+use Rattle.read_machine.proofs.TreePlans.{Gathered, suite-out, suite-err, case-out, case-err, status-trace, status-out, status-err, Planned, stays, skips}
+use Rattle.read_machine.proofs.TreePlans.{skips-on, returns, listed, reports, suites, stops, misses, breaks, cases, suite-ends, suite-list, statuses}
+use Rattle.read_machine.proofs.TreePlans.{case-ends, case-list, status-ends, texts, text-ends, properties-read, tag-plan, eof-plan, fault-plan}
 use Rattle.read_machine.proofs.TreeContent.{Sound, sound-some, sound-all, sound-kind, More, adds, Same, describes, Holder, puts-out, Fair, gathers-piece}
 use Rattle.refusal.specs.declared.Cause.the-variants as cause
 
@@ -95,7 +98,10 @@ acted closed t k c j xs (suites {e = true} q) s w =
     accept (record { sound = g .0; order = λ z. walk-same (sym (g .1 .whole)) (suite-closes (suite-opens (g .1 .each) (w q))) })
 acted closed t k c j xs (suites {e = false} q) s w =
     bind (adds _ j xs TreeRoles.suite s) λ d g.
-    accept (record { sound = g .0; order = subst (λ (n : ℕ). InSuite n 2 (kinds (d .records))) (kinds-length (c .records)) (subst (InSuite (length (kinds (c .records))) 2) (sym (g .1 .whole)) (suite-opens (g .1 .each) (w q))) })
+    accept (record {
+      sound = g .0;
+      order = subst (λ (n : ℕ). InSuite n 2 (kinds (d .records))) (kinds-length (c .records)) (subst (InSuite (length (kinds (c .records))) 2) (sym (g .1 .whole)) (suite-opens (g .1 .each) (w q)));
+    })
 acted closed t k c j xs (stops q) s w = accept (record { sound = s; order = w q })
 acted closed t k c j xs misses s w = refuse
 acted closed t k c j xs breaks s w = refuse
@@ -104,7 +110,11 @@ acted closed t k c j xs (cases {e = true}) s w =
     accept (record { sound = g .0; order = subst (InSuite (k .suiteAt) 2) (sym (g .1 .whole)) (case-closes empty-ruled (case-opens (g .1 .each) w)) })
 acted closed t k c j xs (cases {e = false}) s w =
     bind (adds _ j xs TreeRoles.case s) λ d g.
-    accept (record { sound = g .0; order = subst (λ (n : ℕ). InCase (k .suiteAt) n noStatus 2 (kinds (d .records))) (kinds-length (c .records)) (subst (InCase (k .suiteAt) (length (kinds (c .records))) noStatus 2) (sym (g .1 .whole)) (case-opens (g .1 .each) w)) })
+    accept (record {
+      sound = g .0;
+      order = subst (λ (n : ℕ). InCase (k .suiteAt) n noStatus 2 (kinds (d .records))) (kinds-length (c .records))
+          (subst (InCase (k .suiteAt) (length (kinds (c .records))) noStatus 2) (sym (g .1 .whole)) (case-opens (g .1 .each) w));
+    })
 acted {seen = seen} closed t k c j xs suite-ends s w =
     let q : seen ≡ true → Walk Ready (kinds (c .records)) = λ z. suite-closes w in accept (record { sound = s; order = q })
 acted closed t k c j xs suite-list s w =
@@ -113,7 +123,10 @@ acted closed t k c j xs (statuses {κ = κ} {e = true} q) s w =
     (let st = status-of κ q in
     let b = status-bounds st in
     bind (adds _ j xs (status-class st) s) λ d g.
-    accept (record { sound = g .0; order = subst (InCase (k .suiteAt) (k .caseAt) (tallied t κ) 2) (alone (g .1) (λ z. let l = z .1 in let h = b .0 in omega arith)) (status-opens κ (b .0) (b .1) w) }))
+    accept (record {
+      sound = g .0;
+      order = subst (InCase (k .suiteAt) (k .caseAt) (tallied t κ) 2) (alone (g .1) (λ z. let l = z .1 in let h = b .0 in omega arith)) (status-opens κ (b .0) (b .1) w);
+    }))
 acted closed t k c j xs (statuses {κ = κ} {e = false} q) s w =
     (let st = status-of κ q in
     let b = status-bounds st in

@@ -11,7 +11,8 @@ use Rattle.tree_report.specs.Layout.{Open, nothing, over, mayEnd, mayFollow, fo
 use Rattle.tree_status.specs.declared.Tally.{Tally}
 use Rattle.tree_status.specs.Status.{noStatus, tallied, ruled}
 use Rattle.tree_report.proofs.EncodeLists.{both, Each, done, more, each-on}
-use Rattle.read_machine.proofs.TreeOrder.{killFrom, length-kill, kill-append, kill-end, kill-free, kill-twice, There, there-append, there-new, there-kept, only-kind, Path, end, past, next, path-append, path-dead}
+use Rattle.read_machine.proofs.TreeOrder.{killFrom, length-kill, kill-append, kill-end, kill-free, kill-twice, There, there-append}
+use Rattle.read_machine.proofs.TreeOrder.{there-new, there-kept, only-kind, Path, end, past, next, path-append, path-dead}
 
 -- ---- records that lead from o to where Q is open
 pub record From (o : Open) (Q : Open → Type 0) (ks : List ℕ) : Type 0 where

@@ -151,7 +151,8 @@ fair-from : (events attributes source : List ℕ) (n i : ℕ) → Each FairEvent
 unfolding resolveFrom eventAt
 fair-from events attributes source zero i = done
 fair-from events attributes source (suc n) i =
-    more (fair-event (kindAt events i) (bytesAt events source i) (word events i 3) (attributesFrom attributes source (word events i 4) (word events i 3))) (fair-from events attributes source n (i + 1))
+    more (fair-event (kindAt events i) (bytesAt events source i) (word events i 3) (attributesFrom attributes source (word events i 4) (word events i 3)))
+    (fair-from events attributes source n (i + 1))
 
 -- the events of any table are fair, so that `ran` may be used on them
 pub resolve-fair : (events attributes source : List ℕ) → Each FairEvent (resolve events attributes source)

@@ -10,7 +10,8 @@ use lib.Dec.{leb, eqb, lit≤}
 use lib.ListN.{length, getD, take, drop}
 use Rattle.utf8.specs.Characters.{boundary}
 use Rattle.tree_report.specs.Encode.{Cell, isGiven, firstWord, secondWord, flagsOf}
-use Rattle.tree_report.specs.Fields.{kindOf, live, isSuite, isCase, isMain, isRun, hasBit, given, textAt, first, systemOut, systemErr, second, description, stackTrace, uuid, timestamp, time, counts, assertions}
+use Rattle.tree_report.specs.Fields.{kindOf, live, isSuite, isCase, isMain, isRun, hasBit, given, textAt, first, systemOut}
+use Rattle.tree_report.specs.Fields.{systemErr, second, description, stackTrace, uuid, timestamp, time, counts, assertions}
 use Rattle.tree_report.specs.Report.{failure, error, success, nonSuccess, skipped}
 use Rattle.tree_report.specs.ReportOf.{only, until, Branch, branches, pairOf, pairsOf, reasonOf, runOf, kindOfRuns, statusOf, caseOf, suiteOf, reportFrom}
 use Rattle.tree_report.proofs.EncodeLists.{both, and-left, and-right, Each, done, more, each-on}
@@ -67,20 +68,23 @@ module _ (texts z : List ℕ) where
       given-same (κ ∷ flagsOf (flags a b c m d e f g i) ∷ rest a b c m d e f g h i) 7 22 (as-text q pg) (bit-flag 7 (flags a b c m d e f g i)) refl refl
 
   named-same : {S : Sorts} {κ : ℕ} {r : List ℕ} → S .first ≡ name → Sheet S texts κ r → SameText r 2 × SameGiven r 0 2
-  named-same {κ = κ} q (sheet a b c m d e f g h i pa pb pt pe pf pg ph pi) = go (subst (λ (s : Sort). Fits texts s a) q pa) (κ ∷ flagsOf (flags a b c m d e f g i) ∷ rest a b c m d e f g h i) refl refl
+  named-same {κ = κ} q (sheet a b c m d e f g h i pa pb pt pe pf pg ph pi) =
+      go (subst (λ (s : Sort). Fits texts s a) q pa) (κ ∷ flagsOf (flags a b c m d e f g i) ∷ rest a b c m d e f g h i) refl refl
     where
       go : {x : Cell} → Fits texts name x → (r : List ℕ) → getD r 2 0 ≡ firstWord 0 x → getD r 3 0 ≡ secondWord x → SameText r 2 × SameGiven r 0 2
       go (named {a = u} {n = v} t) r p w = let e = placed-same r 2 u v t p w in (e, ap (given (hasBit 0 r)) e)
 
   outputs-same : {S : Sorts} {κ : ℕ} {r : List ℕ} → S .middle ≡ outputs → Sheet S texts κ r → SameGiven r 1 4 × SameGiven r 2 6
-  outputs-same {κ = κ} q (sheet a b c m d e f g h i pa pb pt pe pf pg ph pi) = go (subst (λ (s : Middle). InMiddle texts s b c) q pb) (κ ∷ flagsOf (flags a b c m d e f g i) ∷ rest a b c m d e f g h i) (bit-flag 1 (flags a b c m d e f g i)) refl refl (bit-flag 2 (flags a b c m d e f g i)) refl refl
+  outputs-same {κ = κ} q (sheet a b c m d e f g h i pa pb pt pe pf pg ph pi) = go (subst (λ (s : Middle). InMiddle texts s b c) q pb)
+      (κ ∷ flagsOf (flags a b c m d e f g i) ∷ rest a b c m d e f g h i) (bit-flag 1 (flags a b c m d e f g i)) refl refl (bit-flag 2 (flags a b c m d e f g i)) refl refl
     where
       go : {x y : Cell} → InMiddle texts outputs x y → (r : List ℕ) → hasBit 1 r ≡ isGiven x → getD r 4 0 ≡ firstWord 0 x → getD r 5 0 ≡ secondWord x
           → hasBit 2 r ≡ isGiven y → getD r 6 0 ≡ firstWord 0 y → getD r 7 0 ≡ secondWord y → SameGiven r 1 4 × SameGiven r 2 6
       go (two u v) r p q s t w l = (given-same r 1 4 u p q s, given-same r 2 6 v t w l)
 
   value-same : {S : Sorts} {κ : ℕ} {r : List ℕ} → S .middle ≡ pair → Sheet S texts κ r → SameText r 4
-  value-same {κ = κ} q (sheet a b c m d e f g h i pa pb pt pe pf pg ph pi) = go (subst (λ (s : Middle). InMiddle texts s b c) q pb) (κ ∷ flagsOf (flags a b c m d e f g i) ∷ rest a b c m d e f g h i) refl refl
+  value-same {κ = κ} q (sheet a b c m d e f g h i pa pb pt pe pf pg ph pi) =
+      go (subst (λ (s : Middle). InMiddle texts s b c) q pb) (κ ∷ flagsOf (flags a b c m d e f g i) ∷ rest a b c m d e f g h i) refl refl
     where
       go : {x y : Cell} → InMiddle texts pair x y → (r : List ℕ) → getD r 4 0 ≡ firstWord 0 x → getD r 5 0 ≡ secondWord x → SameText r 4
       go (full-value {a = u} {n = v} t) r p w = placed-same r 4 u v t p w

@@ -6,7 +6,8 @@ use Rattle.names.specs.Names.{sameBytes, codeFrom}
 use Rattle.names.specs.Tags.{tags, tagOf}
 use Rattle.table.specs.Event.{Start, Empty, End}
 use Rattle.refusal.specs.declared.Cause.the-variants as cause
-use Rattle.read_state.specs.Control.{top, suite, case, status, out, trace, at, gathering, listing, skipping, pass, openReport, openSuite, closeStatus, openText, closeText, readProperty, stop, missing, broken, orSkip}
+use Rattle.read_state.specs.Control.{top, suite, case, status, out, trace, at, gathering, listing, skipping, pass, openReport}
+use Rattle.read_state.specs.Control.{openSuite, closeStatus, openText, closeText, readProperty, stop, missing, broken, orSkip}
 use Rattle.read_rules.specs.Rules.{outputs, atTop, atCase, child, atStatus, inText, inList, inSkip, planEof, planFault}
 
 -- a suite counts only once a report exists

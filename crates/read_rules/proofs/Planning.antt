@@ -43,7 +43,8 @@ text-closes l o (suc (suc k)) t =
     rw (kind-above (suc (suc k)) (omega arith), lt-ltb 1 (suc (suc k)) (omega arith)) refl
 
 -- Eof by whether an element inside the report is open
-pub eof-plans : (m : CodedMode) (l : Level) (o : Output) (seen closed : Bool) → planEof (modeAt m l o) seen closed ≡ cond (isTop (modeAt m l o)) (cond seen (cond closed stop (broken cause.EofInElement)) missing) (broken cause.EofInElement)
+pub eof-plans : (m : CodedMode) (l : Level) (o : Output) (seen closed : Bool)
+    → planEof (modeAt m l o) seen closed ≡ cond (isTop (modeAt m l o)) (cond seen (cond closed stop (broken cause.EofInElement)) missing) (broken cause.EofInElement)
 unfolding planEof
 eof-plans At top o seen closed = refl
 eof-plans At suite o seen closed = refl

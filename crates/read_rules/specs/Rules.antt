@@ -7,7 +7,8 @@ use lib.Dec.{eqb}
 use Rattle.names.specs.Names.{sameBytes}
 use Rattle.names.specs.Tags.{tagOf, testsuites, testsuite, testcase, properties, property, stackTrace, system-out, system-err}
 use Rattle.table.specs.Event.{TagKind, Start, Empty, End}
-use Rattle.read_state.specs.Control.{Level, top, suite, case, status, Output, trace, out, err, Mode, at, gathering, listing, skipping, finished, Act, pass, openReport, openSuite, openCase, openStatus, closeSuite, closeCase, closeStatus, openText, closeText, openList, readProperty, stop, missing, broken, isStatus, orSkip}
+use Rattle.read_state.specs.Control.{Level, top, suite, case, status, Output, trace, out, err, Mode, at, gathering, listing, skipping, finished, Act, pass, openReport, openSuite}
+use Rattle.read_state.specs.Control.{openCase, openStatus, closeSuite, closeCase, closeStatus, openText, closeText, openList, readProperty, stop, missing, broken, isStatus, orSkip}
 use Rattle.refusal.specs.declared.Cause.the-variants as cause
 
 -- the outputs that suite, case (rule R10) and status element (rule S3) have

@@ -202,7 +202,8 @@ fn step_list(kind: u32, tag: usize) -> Act
 }
 
 fn step_inside(control: Control, kind: u32, tag: usize) -> Act
-    ensures { λ r. ⌜ ((name : List ℕ) → tagOf name ≡ tag → actIn (plan.at (levelOf (control .level))) name r ≡ rules.planAt (plan.at (levelOf (control .level))) (control .seen) (tagKind kind) name) ⌝ }
+    ensures { λ r.
+        ⌜ ((name : List ℕ) → tagOf name ≡ tag → actIn (plan.at (levelOf (control .level))) name r ≡ rules.planAt (plan.at (levelOf (control .level))) (control .seen) (tagKind kind) name) ⌝ }
 {
     let level = control.level;
     match level {

@@ -8,7 +8,8 @@ use borrow.Author.Tests.{ne-eqb}
 use Rattle.tree_status.specs.declared.Tally.{Tally}
 use Rattle.tree_status.specs.Status.{noStatus, Few}
 use Rattle.tree_status.proofs.Tallies.{few-more, few-none, few-tallied}
-use Rattle.read_state.specs.Control.{Level, Output, at, Control, control, Act, pass, openReport, openSuite, openCase, openStatus, closeSuite, closeCase, closeStatus, openText, closeText, openList, readProperty, stop, missing, broken, turn}
+use Rattle.read_state.specs.Control.{Level, Output, at, Control, control, Act, pass, openReport, openSuite, openCase, openStatus, closeSuite}
+use Rattle.read_state.specs.Control.{closeCase, closeStatus, openText, closeText, openList, readProperty, stop, missing, broken, turn}
 use Rattle.read_state.specs.inside.Coded.{modeAt, levelIn, opening, closing, controlOf, actOf, isStep, turned}
 use Rattle.read_state.specs.declared.Act.{Act as CodedAct}
 use Rattle.read_state.specs.declared.Control.{Control as CodedControl}

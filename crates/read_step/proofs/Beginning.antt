@@ -22,14 +22,26 @@ no-marks : {m : CodedMarks} → marksOf m ≡ marks 0 0 0 0 0 0 0 0 0 0 → m �
 no-marks e = ap coded e
   where
     coded : Marks → CodedMarks
-    coded m = record { event = m .event; «suite_index» = m .suiteIndex; «suite_start» = m .suiteStart; «case_index» = m .caseIndex; «case_start» = m .caseStart; «status_kind» = m .statusKind; «property_index» = m .propertyIndex; «suite_at» = m .suiteAt; «case_at» = m .caseAt; «status_at» = m .statusAt }
+    coded m = record {
+      event = m .event;
+      «suite_index» = m .suiteIndex;
+      «suite_start» = m .suiteStart;
+      «case_index» = m .caseIndex;
+      «case_start» = m .caseStart;
+      «status_kind» = m .statusKind;
+      «property_index» = m .propertyIndex;
+      «suite_at» = m .suiteAt;
+      «case_at» = m .caseAt;
+      «status_at» = m .statusAt;
+    }
 
 module _ (t : Tally) (m : CodedMarks) (k : CodedContent) where
   abbrev starting : Tally → CodedMarks → CodedContent → State
   starting t m k = record { control = record { mode = At; level = Top; output = Out; seen = false; closed = false; tally = t }; marks = m; content = k }
 
   pub begun : t ≡ noStatus → marksOf m ≡ marks 0 0 0 0 0 0 0 0 0 0 → k ≡ noContent → starting t m k ≡ beginning
-  begun a b e = ap (λ (x : Tally). starting x m k) a ∙ ap (λ (x : CodedMarks). starting (beginning .control .tally) x k) (no-marks b) ∙ ap (λ (x : CodedContent). starting (beginning .control .tally) (beginning .marks) x) e
+  begun a b e = ap (λ (x : Tally). starting x m k) a ∙ ap (λ (x : CodedMarks). starting (beginning .control .tally) x k) (no-marks b)
+      ∙ ap (λ (x : CodedContent). starting (beginning .control .tally) (beginning .marks) x) e
 
 -- cleared areas and the first state of the code are the definition's begin
 pub begin-stands : (attributes source scratch : List ℕ) (words text : ℕ) → Stands attributes source (zeros words) (zeros text) scratch (beginning .content) (machineOf beginning nothing)

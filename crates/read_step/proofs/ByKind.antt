@@ -99,7 +99,8 @@ piece-event (suc (suc (suc (suc (suc (suc (suc (suc (suc zero))))))))) bytes fir
 piece-event (suc (suc (suc (suc (suc (suc (suc (suc (suc (suc k)))))))))) bytes first xs p h = absurd (omega arith)
 
 -- tags
-pub tag-event : (kind : ℕ) (bytes : List ℕ) (first : ℕ) (xs : List Attribute) → isPiece kind ≡ false → kind ≤ 9 → (kind ≡ 7 → ⊥) → (kind ≡ 8 → ⊥) → (j : ℕ) × (ys : List Attribute) × (eventOf kind bytes first xs ≡ Tag (tagKind kind) bytes j ys)
+pub tag-event : (kind : ℕ) (bytes : List ℕ) (first : ℕ) (xs : List Attribute) → isPiece kind ≡ false → kind ≤ 9 → (kind ≡ 7 → ⊥)
+    → (kind ≡ 8 → ⊥) → (j : ℕ) × (ys : List Attribute) × (eventOf kind bytes first xs ≡ Tag (tagKind kind) bytes j ys)
 unfolding eventOf
 tag-event zero bytes first xs p h a b = (first, xs, refl)
 tag-event (suc zero) bytes first xs p h a b = (first, xs, refl)
@@ -202,7 +203,8 @@ unfolding stopping
 stop-only m name a e q = other-act (ap stopping (sym q) ∙ stops m name a ∙ e)
 
 -- reading doesn't go on behind Eof, which the table's end is, too (rule T5)
-pub eof-ends : (rooms : Rooms) (j : ℕ) (xs : List Attribute) (s t : Machine) (m : CodedMode) (l : Level) (o : Output) (seen closed : Bool) → (planEof (modeAt m l o) seen closed ≡ stop → ⊥) → act rooms (planEof (modeAt m l o) seen closed) j xs s ≡ accepted t → ⊥
+pub eof-ends : (rooms : Rooms) (j : ℕ) (xs : List Attribute) (s t : Machine) (m : CodedMode) (l : Level) (o : Output) (seen closed : Bool)
+    → (planEof (modeAt m l o) seen closed ≡ stop → ⊥) → act rooms (planEof (modeAt m l o) seen closed) j xs s ≡ accepted t → ⊥
 unfolding planEof act perform _>>=_
 eof-ends rooms j xs s t At top o true true n e = n refl
 eof-ends rooms j xs s t At top o true false n e = let z : _≡_ {A = ℕ} 0 1 = cc in omega arith

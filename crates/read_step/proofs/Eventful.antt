@@ -33,7 +33,8 @@ use Rattle.read_step.proofs.ByKind.{piece-event, eof-no-skip, eof-ends,
 use Rattle.read_step.proofs.Tables.{event, event-acts, first-end, end-end}
 
 -- the path of what is planned has room for an Attribute
-pub plan-fits : (st : State) (c : Content) (kind : ℕ) (bytes : List ℕ) (a : Act) → a ≡ planned (controlOf (st .control)) kind bytes → Lists (modeOf (st .control)) (marksOf (st .marks)) (st .content) c → hasRoom a ≡ true
+pub plan-fits : (st : State) (c : Content) (kind : ℕ) (bytes : List ℕ) (a : Act) → a ≡ planned (controlOf (st .control)) kind bytes
+    → Lists (modeOf (st .control)) (marksOf (st .marks)) (st .content) c → hasRoom a ≡ true
 plan-fits st c kind bytes a e l =
     ap hasRoom e ∙ planned-fits (controlOf (st .control)) kind bytes (λ q. subst (λ (m : Mode). Lists m (marksOf (st .marks)) (st .content) c) q l .1 .1)
 
@@ -60,7 +61,8 @@ module _ (rooms : Rooms) (events attributes source : List ℕ) (good : tableOf e
   kind-end e = kq ∙ ap (λ (b : Bool). cond b 7 (kindAt events i)) e
 
   -- ---- one event inside the table
-  steps : (words text scratch : List ℕ) (o : Outcome Machine) → leb (countOf events) i ≡ false → step rooms (eventAt events attributes source i) s ≡ o → (r : Step) → Acted attributes source words text scratch st o r → Stepped rooms events attributes source words text scratch st rest r
+  steps : (words text scratch : List ℕ) (o : Outcome Machine) → leb (countOf events) i ≡ false → step rooms (eventAt events attributes source i) s ≡ o
+      → (r : Step) → Acted attributes source words text scratch st o r → Stepped rooms events attributes source words text scratch st rest r
   steps words text scratch o e q (way.Go t) a =
       let h : i < countOf events = leb-false (countOf events) i e in
       let n : t .marks .event ≡ i + 1 = a .next in
@@ -84,7 +86,8 @@ module _ (rooms : Rooms) (events attributes source : List ℕ) (good : tableOf e
       ∙ piece-event kind (bytesAt events source i) (word events i 3) (attributesFrom attributes source (word events i 4) (word events i 3)) p h
       ∙ ap (λ (b : List ℕ). Piece (pieceKind kind) (pieceBytes kind b)) (sym (bytes-here e)))
 
-  pub piece-way : (words text scratch : List ℕ) → isPiece kind ≡ true → (r : Step) → Acted attributes source words text scratch st (step rooms (Piece (pieceKind kind) (pieceBytes kind bytes)) s) r → Stepped rooms events attributes source words text scratch st rest r
+  pub piece-way : (words text scratch : List ℕ) → isPiece kind ≡ true → (r : Step)
+      → Acted attributes source words text scratch st (step rooms (Piece (pieceKind kind) (pieceBytes kind bytes)) s) r → Stepped rooms events attributes source words text scratch st rest r
   piece-way words text scratch p r a = go (leb (countOf events) i) refl
     where
       go : (b : Bool) → leb (countOf events) i ≡ b → Stepped rooms events attributes source words text scratch st rest r
@@ -94,11 +97,14 @@ module _ (rooms : Rooms) (events attributes source : List ℕ) (good : tableOf e
   -- ---- actions
   module _ (p : isPiece kind ≡ false) (a : Act) (aq : a ≡ planned (controlOf (st .control)) kind bytes) where
     -- with the attributes of the range that the code reads
-    act-here : leb (countOf events) i ≡ false → (first end : ℕ) → first ≡ firstAt events i → end ≡ endAt events i → step rooms (eventAt events attributes source i) s ≡ act rooms a first (attributesFrom attributes source (end - first) first) s
+    act-here : leb (countOf events) i ≡ false → (first end : ℕ) → first ≡ firstAt events i → end ≡ endAt events i
+        → step rooms (eventAt events attributes source i) s ≡ act rooms a first (attributesFrom attributes source (end - first) first) s
     act-here e first end fq eq =
         event-acts events attributes source good i (leb-false (countOf events) i e) rooms s (ap isPiece (sym (kind-here e)) ∙ p)
-        ∙ ap (λ (k : ℕ). act rooms (planned (controlOf (st .control)) k (bytesAt events source i)) (firstAt events i) (attributesFrom attributes source (endAt events i - firstAt events i) (firstAt events i)) s) (sym (kind-here e))
-        ∙ ap (λ (b : List ℕ). act rooms (planned (controlOf (st .control)) kind b) (firstAt events i) (attributesFrom attributes source (endAt events i - firstAt events i) (firstAt events i)) s) (sym (bytes-here e))
+        ∙ ap (λ (k : ℕ). act rooms (planned (controlOf (st .control)) k (bytesAt events source i)) (firstAt events i)
+        (attributesFrom attributes source (endAt events i - firstAt events i) (firstAt events i)) s) (sym (kind-here e))
+        ∙ ap (λ (b : List ℕ). act rooms (planned (controlOf (st .control)) kind b) (firstAt events i) (attributesFrom attributes source (endAt events i - firstAt events i) (firstAt events i)) s)
+        (sym (bytes-here e))
         ∙ ap (λ (x : Act). act rooms x (firstAt events i) (attributesFrom attributes source (endAt events i - firstAt events i) (firstAt events i)) s) (sym aq)
         ∙ ap (λ (n : ℕ). act rooms a n (attributesFrom attributes source (endAt events i - n) n) s) (sym fq)
         ∙ ap (λ (n : ℕ). act rooms a first (attributesFrom attributes source (n - first) first) s) (sym eq)
@@ -115,12 +121,15 @@ module _ (rooms : Rooms) (events attributes source : List ℕ) (good : tableOf e
         ∙ ap (λ (n : ℕ). act rooms a n (attributesFrom attributes source (0 - n) n) s) (sym (fq ∙ first-end events i e))
         ∙ ap (λ (n : ℕ). act rooms a first (attributesFrom attributes source (n - first) first) s) (sym (eq ∙ end-end events i e))
 
-    pub act-way : (words text scratch : List ℕ) → (a ≡ stop → ⊥) → (first end : ℕ) → first ≡ firstAt events i → end ≡ endAt events i → (r : Step) → Acted attributes source words text scratch st (act rooms a first (attributesFrom attributes source (end - first) first) s) r → Stepped rooms events attributes source words text scratch st rest r
+    pub act-way : (words text scratch : List ℕ) → (a ≡ stop → ⊥) → (first end : ℕ) → first ≡ firstAt events i → end ≡ endAt events i → (r : Step) → Acted attributes source words
+        text scratch st (act rooms a first (attributesFrom attributes source (end - first) first) s) r → Stepped rooms events attributes source words text scratch st rest r
     act-way words text scratch n first end fq eq r d = go (leb (countOf events) i) refl
       where
-        ends : leb (countOf events) i ≡ true → (r : Step) → Acted attributes source words text scratch st (act rooms a first (attributesFrom attributes source (end - first) first) s) r → Stepped rooms events attributes source words text scratch st rest r
+        ends : leb (countOf events) i ≡ true → (r : Step) → Acted attributes source words text scratch st (act rooms a first (attributesFrom attributes source (end - first) first) s) r
+            → Stepped rooms events attributes source words text scratch st rest r
         ends e (way.Go t) x =
-            absurd (eof-ends rooms first (attributesFrom attributes source (end - first) first) s (machineOf t (x .content)) (st .control .mode) (levelOf (st .control .level)) (outputOf (st .control .output)) (st .control .seen) (st .control .closed)
+            absurd (eof-ends rooms first (attributesFrom attributes source (end - first) first) s (machineOf t (x .content))
+            (st .control .mode) (levelOf (st .control .level)) (outputOf (st .control .output)) (st .control .seen) (st .control .closed)
             (λ q. n (plan-end e ∙ q))
             (ap (λ (y : Act). act rooms y first (attributesFrom attributes source (end - first) first) s) (sym (plan-end e)) ∙ x .same))
         ends e way.Stop x = absurd x
@@ -131,10 +140,12 @@ module _ (rooms : Rooms) (events attributes source : List ℕ) (good : tableOf e
         go false e = steps words text scratch (act rooms a first (attributesFrom attributes source (end - first) first) s) e (act-here e first end fq eq) r d
 
   -- ---- the end: End `testsuites` (rule R6), or Eof
-  pub stop-way : isPiece kind ≡ false → stop ≡ planned (controlOf (st .control)) kind bytes → (words text scratch : List ℕ) → Stands attributes source words text scratch (st .content) s → Ended words text rest
+  pub stop-way : isPiece kind ≡ false → stop ≡ planned (controlOf (st .control)) kind bytes → (words text scratch : List ℕ)
+      → Stands attributes source words text scratch (st .content) s → Ended words text rest
   stop-way p q words text scratch t = go (leb (countOf events) i) refl
     where
-      kept : (k : Keeps (moved finished (i + 1) s) (run rooms (resolveFrom events attributes source (countOf events - (i + 1)) (i + 1)) (moved finished (i + 1) s))) → rest ≡ run rooms (resolveFrom events attributes source (countOf events - (i + 1)) (i + 1)) (moved finished (i + 1) s) → Ended words text rest
+      kept : (k : Keeps (moved finished (i + 1) s) (run rooms (resolveFrom events attributes source (countOf events - (i + 1)) (i + 1)) (moved finished (i + 1) s)))
+          → rest ≡ run rooms (resolveFrom events attributes source (countOf events - (i + 1)) (i + 1)) (moved finished (i + 1) s) → Ended words text rest
       kept k e =
           record {
             machine = k .left;
@@ -149,7 +160,8 @@ module _ (rooms : Rooms) (events attributes source : List ℕ) (good : tableOf e
       go true e =
           record {
             machine = (moved finished (i + 1) s);
-            same = act-end p stop q e (firstAt events i) (endAt events i) refl refl ∙ act-stops rooms (firstAt events i) (attributesFrom attributes source (endAt events i - firstAt events i) (firstAt events i)) s;
+            same = act-end p stop q e (firstAt events i) (endAt events i) refl refl
+                ∙ act-stops rooms (firstAt events i) (attributesFrom attributes source (endAt events i - firstAt events i) (firstAt events i)) s;
             room = t .holds .room;
             left = t .holds .left;
             records = t .holds .records;
@@ -158,7 +170,8 @@ module _ (rooms : Rooms) (events attributes source : List ℕ) (good : tableOf e
       go false e =
           kept (finished-runs rooms (moved finished (i + 1) s) (resolveFrom events attributes source (countOf events - (i + 1)) (i + 1)) refl)
           (run-goes rooms events attributes source s i refl (leb-false (countOf events) i e) (moved finished (i + 1) s)
-          (act-here p stop q e (firstAt events i) (endAt events i) refl refl ∙ act-stops rooms (firstAt events i) (attributesFrom attributes source (endAt events i - firstAt events i) (firstAt events i)) s))
+          (act-here p stop q e (firstAt events i) (endAt events i) refl refl
+          ∙ act-stops rooms (firstAt events i) (attributesFrom attributes source (endAt events i - firstAt events i) (firstAt events i)) s))
 
   -- ---- skips
   pub skip-way : IsSkipped (st .control) kind bytes → (i < countOf events) × IsSkipped (st .control) (kindAt events i) (bytesAt events source i) × (isPiece kind ≡ isPiece (kindAt events i))
@@ -166,7 +179,8 @@ module _ (rooms : Rooms) (events attributes source : List ℕ) (good : tableOf e
     where
       go : (b : Bool) → leb (countOf events) i ≡ b → (i < countOf events) × IsSkipped (st .control) (kindAt events i) (bytesAt events source i) × (isPiece kind ≡ isPiece (kindAt events i))
       go true e =
-          absurd (eof-no-skip (st .control .mode) (levelOf (st .control .level)) (outputOf (st .control .output)) (st .control .seen) (st .control .closed) (levelIn (modeOf (st .control))) [] (subst (λ (k : ℕ). IsSkipped (st .control) k bytes) (kind-end e) q))
+          absurd (eof-no-skip (st .control .mode) (levelOf (st .control .level)) (outputOf (st .control .output)) (st .control .seen)
+          (st .control .closed) (levelIn (modeOf (st .control))) [] (subst (λ (k : ℕ). IsSkipped (st .control) k bytes) (kind-end e) q))
       go false e = (
         leb-false (countOf events) i e,
         subst (λ (b : List ℕ). IsSkipped (st .control) (kindAt events i) b) (bytes-here e) (subst (λ (k : ℕ). IsSkipped (st .control) k bytes) (kind-here e) q),

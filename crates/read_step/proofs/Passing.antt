@@ -56,7 +56,8 @@ module _ (rooms : Rooms) (events attributes source : List ℕ) (good : tableOf e
   skipped = skipOf name 0 (i + 1) (resolveFrom events attributes source (countOf events - (i + 1)) (i + 1))
 
   no-eof : kind ≡ 7 → ⊥
-  no-eof e = eof-no-skip (st .control .mode) l (outputOf (st .control .output)) (st .control .seen) (st .control .closed) (levelIn (modeOf (st .control))) [] (subst (λ (k : ℕ). IsSkipped (st .control) k name) e q)
+  no-eof e = eof-no-skip (st .control .mode) l (outputOf (st .control .output)) (st .control .seen)
+      (st .control .closed) (levelIn (modeOf (st .control))) [] (subst (λ (k : ℕ). IsSkipped (st .control) k name) e q)
 
   no-fault : kind ≡ 8 → ⊥
   no-fault e = fault-no-skip (st .control .mode) l (outputOf (st .control .output)) (levelIn (modeOf (st .control))) [] (subst (λ (k : ℕ). IsSkipped (st .control) k name) e q)
@@ -65,13 +66,16 @@ module _ (rooms : Rooms) (events attributes source : List ℕ) (good : tableOf e
   plan : orSkip (levelIn (modeOf (st .control))) name ≡ planAt (modeOf (st .control)) (st .control .seen) (tagKind kind) name
   plan = go (eqb kind 7) (eqb kind 8) (ne-eqb kind 7 no-eof) (ne-eqb kind 8 no-fault) q
     where
-      go : (a b : Bool) → a ≡ false → b ≡ false → orSkip (levelIn (modeOf (st .control))) (cond a [] (cond b [] name)) ≡ cond a (planEof (modeOf (st .control)) (st .control .seen) (st .control .closed)) (cond b (planFault (modeOf (st .control))) (planAt (modeOf (st .control)) (st .control .seen) (tagKind kind) name)) → orSkip (levelIn (modeOf (st .control))) name ≡ planAt (modeOf (st .control)) (st .control .seen) (tagKind kind) name
+      go : (a b : Bool) → a ≡ false → b ≡ false → orSkip (levelIn (modeOf (st .control))) (cond a [] (cond b [] name)) ≡ cond a (planEof (modeOf (st .control))
+          (st .control .seen) (st .control .closed)) (cond b (planFault (modeOf (st .control))) (planAt (modeOf (st .control)) (st .control .seen) (tagKind kind) name))
+          → orSkip (levelIn (modeOf (st .control))) name ≡ planAt (modeOf (st .control)) (st .control .seen) (tagKind kind) name
       go true b e f x = let z : _≡_ {A = ℕ} 0 1 = cc in absurd (omega arith)
       go false true e f x = let z : _≡_ {A = ℕ} 0 1 = cc in absurd (omega arith)
       go false false e f x = x
 
   inside : modeOf (st .control) ≡ at l
-  inside = ap (λ (m : CodedMode). modeAt m l (outputOf (st .control .output))) (skip-inside (st .control .mode) l (outputOf (st .control .output)) (st .control .seen) (tagKind kind) (levelIn (modeOf (st .control))) name plan)
+  inside = ap (λ (m : CodedMode). modeAt m l (outputOf (st .control .output)))
+      (skip-inside (st .control .mode) l (outputOf (st .control .output)) (st .control .seen) (tagKind kind) (levelIn (modeOf (st .control))) name plan)
 
   skips : planAt (modeOf (st .control)) (st .control .seen) (tagKind kind) name ≡ orSkip l name
   skips = sym plan ∙ ap (λ (x : Level). orSkip x name) (level-in (st .control .mode) l (outputOf (st .control .output)))
@@ -85,7 +89,8 @@ module _ (rooms : Rooms) (events attributes source : List ℕ) (good : tableOf e
   far : Far (i + 1) (i + 1 + (countOf events - (i + 1))) skipped
   far = skip-within rooms events attributes source name 0 (countOf events - (i + 1)) (i + 1)
 
-  pub skip-went : (words text scratch : List ℕ) (m′ : CodedMarks) (j : ℕ) → skipped ≡ next j → marksOf m′ ≡ goTo j (marksOf (st .marks)) → Stands attributes source words text scratch (st .content) (machineOf st c) → Went rooms events attributes source words text scratch i rest (record { control = st .control; marks = m′; content = st .content })
+  pub skip-went : (words text scratch : List ℕ) (m′ : CodedMarks) (j : ℕ) → skipped ≡ next j → marksOf m′ ≡ goTo j (marksOf (st .marks)) → Stands attributes source words text
+      scratch (st .content) (machineOf st c) → Went rooms events attributes source words text scratch i rest (record { control = st .control; marks = m′; content = st .content })
   skip-went words text scratch m′ j e m t =
       let f : (i + 1 < j) × (j ≤ i + 1 + (countOf events - (i + 1))) = subst (Far (i + 1) (i + 1 + (countOf events - (i + 1)))) e far in
       let low = f .0 in
@@ -102,7 +107,8 @@ module _ (rooms : Rooms) (events attributes source : List ℕ) (good : tableOf e
         within = omega arith;
       }
 
-  pub skip-halted : (why : Cause) (j : ℕ) → skipped ≡ brokenAt why j → countOf events ≤ 65536 → Refuses st (record { act = Broken why; event = j; fault = record { cause = why; key = 0; attribute = nowhere } }) rest
+  pub skip-halted : (why : Cause) (j : ℕ) → skipped ≡ brokenAt why j → countOf events ≤ 65536
+      → Refuses st (record { act = Broken why; event = j; fault = record { cause = why; key = 0; attribute = nowhere } }) rest
   skip-halted why j e most =
       let f : (i + 1 ≤ j) × (j ≤ i + 1 + (countOf events - (i + 1))) = subst (Far (i + 1) (i + 1 + (countOf events - (i + 1)))) e far in
       let high = f .1 in

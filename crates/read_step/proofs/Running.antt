@@ -19,21 +19,25 @@ module _ (rooms : Rooms) (events attributes source : List ℕ) where
 
   module _ (s : Machine) where
     -- one event: the rest of the run stands behind what its step comes to
-    turn : (i : ℕ) → i ≡ s .marks .event → i < countOf events → (o : Outcome Machine) → step rooms (eventAt events attributes source i) s ≡ o → runOn rooms events attributes source s ≡ (o >>= λ u. run rooms (resolveFrom events attributes source (countOf events - (i + 1)) (i + 1)) u)
+    turn : (i : ℕ) → i ≡ s .marks .event → i < countOf events → (o : Outcome Machine) → step rooms (eventAt events attributes source i) s ≡ o
+        → runOn rooms events attributes source s ≡ (o >>= λ u. run rooms (resolveFrom events attributes source (countOf events - (i + 1)) (i + 1)) u)
     unfolding run
     turn i h l o g =
         ap (λ (j : ℕ). run rooms (resolveFrom events attributes source (countOf events - j) j) s) (sym h)
         ∙ ap (λ (es : List Event). run rooms es s) (resolve-next events attributes source (countOf events) i l)
         ∙ ap (λ (x : Outcome Machine). x >>= λ u. run rooms (resolveFrom events attributes source (countOf events - (i + 1)) (i + 1)) u) g
 
-    pub run-goes : (i : ℕ) → i ≡ s .marks .event → i < countOf events → (t : Machine) → step rooms (eventAt events attributes source i) s ≡ accepted t → runOn rooms events attributes source s ≡ run rooms (resolveFrom events attributes source (countOf events - (i + 1)) (i + 1)) t
+    pub run-goes : (i : ℕ) → i ≡ s .marks .event → i < countOf events → (t : Machine) → step rooms (eventAt events attributes source i) s ≡ accepted t
+        → runOn rooms events attributes source s ≡ run rooms (resolveFrom events attributes source (countOf events - (i + 1)) (i + 1)) t
     unfolding _>>=_
     run-goes i h l t g = turn i h l (accepted t) g
 
-    pub run-goes-on : (i : ℕ) → i ≡ s .marks .event → i < countOf events → (t : Machine) → t .marks .event ≡ i + 1 → step rooms (eventAt events attributes source i) s ≡ accepted t → runOn rooms events attributes source s ≡ runOn rooms events attributes source t
+    pub run-goes-on : (i : ℕ) → i ≡ s .marks .event → i < countOf events → (t : Machine) → t .marks .event ≡ i + 1
+        → step rooms (eventAt events attributes source i) s ≡ accepted t → runOn rooms events attributes source s ≡ runOn rooms events attributes source t
     run-goes-on i h l t e g = run-goes i h l t g ∙ ap (λ (j : ℕ). run rooms (resolveFrom events attributes source (countOf events - j) j) t) (sym e)
 
-    pub run-refuses : (i : ℕ) → i ≡ s .marks .event → i < countOf events → (r : Refused) → step rooms (eventAt events attributes source i) s ≡ refused r → runOn rooms events attributes source s ≡ refused r
+    pub run-refuses : (i : ℕ) → i ≡ s .marks .event → i < countOf events → (r : Refused)
+        → step rooms (eventAt events attributes source i) s ≡ refused r → runOn rooms events attributes source s ≡ refused r
     unfolding _>>=_
     run-refuses i h l r g = turn i h l (refused r) g
 

@@ -39,7 +39,8 @@ use Rattle.read_content.proofs.Listing.{lists-at}
 
 -- ---- what an answer says of the outcome
 module _ {Q : CodedContent → Content → Type 0} {p : Place} {words text scratch attributes source : List ℕ} where
-  pub comes-to : {o : Outcome Content} {r : Performed} (k : CodedContent) → Comes Q p words text scratch attributes source o r → r ≡ To k → (c : Content) × (o ≡ accepted c) × Holds words text scratch attributes source k c × Q k c
+  pub comes-to : {o : Outcome Content} {r : Performed} (k : CodedContent) → Comes Q p words text scratch attributes source o r
+      → r ≡ To k → (c : Content) × (o ≡ accepted c) × Holds words text scratch attributes source k c × Q k c
   comes-to k (went {s = s} {c = d} (h, q)) e =
       let z : d ≡ k = cc in
       (s, refl, subst (λ (x : CodedContent). Holds words text scratch attributes source x s) z h, subst (λ (x : CodedContent). Q x s) z q)
@@ -51,7 +52,9 @@ module _ {Q : CodedContent → Content → Type 0} {p : Place} {words text scrat
 
 -- ---- an event that leaves the control
 -- areas and marks before it, and behind it
-module _ (attributes source words text scratch words₀ text₀ scratch₀ : List ℕ) (st : State) (m′ : CodedMarks) (k′ : CodedContent) (c c′ : Content) (e : ℕ) (q : marksOf m′ ≡ goTo e (marksOf (st .marks))) (t : Stands attributes source words₀ text₀ scratch₀ (st .content) (machineOf st c)) (holds : Holds words text scratch attributes source k′ c′) (lists : Lists (modeOf (st .control)) (marksOf (st .marks)) k′ c′) where
+module _ (attributes source words text scratch words₀ text₀ scratch₀ : List ℕ) (st : State) (m′ : CodedMarks) (k′ : CodedContent) (c c′ : Content)
+    (e : ℕ) (q : marksOf m′ ≡ goTo e (marksOf (st .marks))) (t : Stands attributes source words₀ text₀ scratch₀ (st .content) (machineOf st c))
+    (holds : Holds words text scratch attributes source k′ c′) (lists : Lists (modeOf (st .control)) (marksOf (st .marks)) k′ c′) where
   abbrev st′ : State
   st′ = record { control = st .control; marks = m′; content = k′ }
 
@@ -71,7 +74,10 @@ module _ (attributes source words text scratch words₀ text₀ scratch₀ : Lis
   pub going-same : {o : Outcome Machine} → o ≡ accepted (record { control = controlOf (st .control); content = c′; marks = goTo e (marksOf (st .marks)) }) → o ≡ accepted (machineOf st′ c′)
   going-same g = g ∙ ap accepted goes
 
-pub piece-moved : (attributes source words text scratch words₀ text₀ scratch₀ : List ℕ) (st : State) (m′ : CodedMarks) (k′ : CodedContent) (c c′ : Content) → marksOf m′ ≡ goTo (st .marks .event + 1) (marksOf (st .marks)) → Stands attributes source words₀ text₀ scratch₀ (st .content) (machineOf st c) → Holds words text scratch attributes source k′ c′ → Lists (modeOf (st .control)) (marksOf (st .marks)) k′ c′ → {o : Outcome Machine} → o ≡ accepted (record { control = controlOf (st .control); content = c′; marks = onward (marksOf (st .marks)) }) → Moved attributes source words text scratch (st .marks .event) o (record { control = st .control; marks = m′; content = k′ })
+pub piece-moved : (attributes source words text scratch words₀ text₀ scratch₀ : List ℕ) (st : State) (m′ : CodedMarks) (k′ : CodedContent) (c c′ : Content) → marksOf m′
+    ≡ goTo (st .marks .event + 1) (marksOf (st .marks)) → Stands attributes source words₀ text₀ scratch₀ (st .content) (machineOf st c) → Holds words text scratch attributes source k′ c′ →
+    Lists (modeOf (st .control)) (marksOf (st .marks)) k′ c′ → {o : Outcome Machine} → o ≡ accepted (record { control = controlOf (st .control); content = c′; marks = onward (marksOf (st .marks)) })
+    → Moved attributes source words text scratch (st .marks .event) o (record { control = st .control; marks = m′; content = k′ })
 piece-moved attributes source words text scratch words₀ text₀ scratch₀ st m′ k′ c c′ q t holds lists g =
     record {
       content = c′;
@@ -92,7 +98,8 @@ module _ (rooms : Rooms) (k : PieceKind) (bytes : List ℕ) (s : Machine) where
   unfolding step _>>=_
   piece-passed e = ap (λ (b : Bool). cond b (gather rooms place (s .control .mode) k bytes (s .content)) (accepted (s .content)) >>= λ c. accepted (joined c)) e
 
-  gathered : (o : Outcome Content) → gathers (s .control .mode) ≡ true → gather rooms place (s .control .mode) k bytes (s .content) ≡ o → step rooms (Piece k bytes) s ≡ (o >>= λ c. accepted (joined c))
+  gathered : (o : Outcome Content) → gathers (s .control .mode) ≡ true → gather rooms place (s .control .mode) k bytes (s .content) ≡ o
+      → step rooms (Piece k bytes) s ≡ (o >>= λ c. accepted (joined c))
   unfolding step
   gathered o e g =
       ap (λ (b : Bool). cond b (gather rooms place (s .control .mode) k bytes (s .content)) (accepted (s .content)) >>= λ c. accepted (joined c)) e
@@ -107,7 +114,8 @@ module _ (rooms : Rooms) (k : PieceKind) (bytes : List ℕ) (s : Machine) where
   piece-refused r e g = gathered (refused r) e g
 
 -- a refusal where reading stands
-pub halts-here : (st : State) (o : Outcome Machine) (why : Cause) (f : Fault) (i : ℕ) → i ≤ 65536 → o ≡ refused (faultAt (record { path = modePath (modeOf (st .control)) (marksOf (st .marks)); event = i; attribute = nowhere }) f) → Refuses st (record { act = Broken why; event = i; fault = f }) o
+pub halts-here : (st : State) (o : Outcome Machine) (why : Cause) (f : Fault) (i : ℕ) → i ≤ 65536 → o
+    ≡ refused (faultAt (record { path = modePath (modeOf (st .control)) (marksOf (st .marks)); event = i; attribute = nowhere }) f) → Refuses st (record { act = Broken why; event = i; fault = f }) o
 halts-here st o why f i h e = record { placed = record { name = []; room = mode-short (modeOf (st .control)) (marksOf (st .marks)); event = h }; same = e }
 
 -- where reading stands
@@ -115,17 +123,23 @@ abbrev pub here : State → Place
 here st = record { path = modePath (modeOf (st .control)) (marksOf (st .marks)); event = st .marks .event; attribute = nowhere }
 
 -- a piece that is gathered
-module _ (attributes source words text scratch scratch₀ : List ℕ) (rooms : Rooms) (k : PieceKind) (bytes : List ℕ) (st : State) (c : Content) (r : Performed) (g : gathers (modeOf (st .control)) ≡ true) (comes : Comes (Lists (modeOf (st .control)) (marksOf (st .marks))) (here st) words text scratch attributes source (gather rooms (here st) (modeOf (st .control)) k bytes c) r) where
-  pub piece-goes : (m′ : CodedMarks) (k′ : CodedContent) → r ≡ To k′ → marksOf m′ ≡ goTo (st .marks .event + 1) (marksOf (st .marks)) → Stands attributes source words text scratch₀ (st .content) (machineOf st c) → Moved attributes source words text scratch (st .marks .event) (step rooms (Piece k bytes) (machineOf st c)) (record { control = st .control; marks = m′; content = k′ })
+module _ (attributes source words text scratch scratch₀ : List ℕ) (rooms : Rooms) (k : PieceKind) (bytes : List ℕ) (st : State) (c : Content) (r : Performed) (g : gathers (modeOf (st .control))
+    ≡ true) (comes : Comes (Lists (modeOf (st .control)) (marksOf (st .marks))) (here st) words text scratch attributes source (gather rooms (here st) (modeOf (st .control)) k bytes c) r) where
+  pub piece-goes : (m′ : CodedMarks) (k′ : CodedContent) → r ≡ To k′ → marksOf m′ ≡ goTo (st .marks .event + 1) (marksOf (st .marks)) → Stands attributes source words text scratch₀ (st .content)
+      (machineOf st c) → Moved attributes source words text scratch (st .marks .event) (step rooms (Piece k bytes) (machineOf st c)) (record { control = st .control; marks = m′; content = k′ })
   piece-goes m′ k′ e q t =
       let x = comes-to k′ comes e in
       piece-moved attributes source words text scratch words text scratch₀ st m′ k′ c (x .0) q t (x .2) (x .3) (piece-joined rooms k bytes (machineOf st c) (x .0) g (x .1))
 
-  pub piece-halts : (why : Cause) (f : Fault) → r ≡ Not f → st .marks .event ≤ 65536 → Refuses st (record { act = Broken why; event = st .marks .event; fault = f }) (step rooms (Piece k bytes) (machineOf st c))
-  piece-halts why f e h = halts-here st (step rooms (Piece k bytes) (machineOf st c)) why f (st .marks .event) h (piece-refused rooms k bytes (machineOf st c) (faultAt (here st) f) g (comes-not f comes e))
+  pub piece-halts : (why : Cause) (f : Fault) → r ≡ Not f → st .marks .event ≤ 65536
+      → Refuses st (record { act = Broken why; event = st .marks .event; fault = f }) (step rooms (Piece k bytes) (machineOf st c))
+  piece-halts why f e h =
+      halts-here st (step rooms (Piece k bytes) (machineOf st c)) why f (st .marks .event) h (piece-refused rooms k bytes (machineOf st c) (faultAt (here st) f) g (comes-not f comes e))
 
 -- ---- actions
-module _ (attributes source words text scratch words₀ text₀ : List ℕ) (a : CodedAct) (name : List ℕ) (st : State) (c c′ : Content) (k : CodedContent) (h : isStep a ≡ true) (t : Stands attributes source words₀ text₀ scratch (st .content) (machineOf st c)) (holds : Holds words text scratch attributes source k c′) (lists : Lists (turned a name (st .control) .mode) (marksAfter (actOf (st .control) name a) (length (c .records)) (marksOf (st .marks))) k c′) where
+module _ (attributes source words text scratch words₀ text₀ : List ℕ) (a : CodedAct) (name : List ℕ) (st : State) (c c′ : Content) (k : CodedContent)
+    (h : isStep a ≡ true) (t : Stands attributes source words₀ text₀ scratch (st .content) (machineOf st c)) (holds : Holds words text scratch attributes source k c′)
+    (lists : Lists (turned a name (st .control) .mode) (marksAfter (actOf (st .control) name a) (length (c .records)) (marksOf (st .marks))) k c′) where
   abbrev acting : Act
   acting = actOf (st .control) name a
 
@@ -144,7 +158,9 @@ module _ (attributes source words text scratch words₀ text₀ : List ℕ) (a :
         few = few-more (few-turn acting (controlOf (st .control)) (t .few)) (omega arith);
       }
 
-  pub act-moved : (rooms : Rooms) (j : ℕ) (xs : List Attribute) (st′ : State) → ((n : List ℕ) (d : Content) → machineOf st′ d ≡ after (actOf (st .control) n a) (st .content .used) (machineOf st d)) → st′ .content ≡ k → perform rooms (actPlace acting (modeOf (st .control)) (marksOf (st .marks))) acting j xs (controlOf (st .control)) (marksOf (st .marks)) c ≡ accepted c′ → Moved attributes source words text scratch (st .marks .event) (act rooms acting j xs (machineOf st c)) st′
+  pub act-moved : (rooms : Rooms) (j : ℕ) (xs : List Attribute) (st′ : State) → ((n : List ℕ) (d : Content) → machineOf st′ d ≡ after (actOf (st .control) n a) (st .content .used) (machineOf st d))
+      → st′ .content ≡ k → perform rooms (actPlace acting (modeOf (st .control)) (marksOf (st .marks))) acting j xs (controlOf (st .control)) (marksOf (st .marks)) c ≡ accepted c′
+      → Moved attributes source words text scratch (st .marks .event) (act rooms acting j xs (machineOf st c)) st′
   act-moved rooms j xs st′ q p e =
       let same : machineOf st′ c′ ≡ behind acting (machineOf st c) c′ = q name c′ ∙ ap (λ (n : ℕ). after acting n (machineOf st c′)) (t .holds .used) in
       record {
@@ -160,7 +176,9 @@ module _ (rooms : Rooms) (a : CodedAct) (name : List ℕ) (j : ℕ) (xs : List A
   abbrev done : Act
   done = actOf (st .control) name a
 
-  pub act-halts : (f : Fault) → hasRoom done ≡ true → st .marks .event ≤ 65536 → perform rooms (actPlace done (modeOf (st .control)) (marksOf (st .marks))) done j xs (controlOf (st .control)) (marksOf (st .marks)) c ≡ refused (faultAt (actPlace done (modeOf (st .control)) (marksOf (st .marks))) f) → Refuses st (record { act = a; event = st .marks .event; fault = f }) (act rooms done j xs (machineOf st c))
+  pub act-halts : (f : Fault) → hasRoom done ≡ true → st .marks .event ≤ 65536
+      → perform rooms (actPlace done (modeOf (st .control)) (marksOf (st .marks))) done j xs (controlOf (st .control)) (marksOf (st .marks)) c
+      ≡ refused (faultAt (actPlace done (modeOf (st .control)) (marksOf (st .marks))) f) → Refuses st (record { act = a; event = st .marks .event; fault = f }) (act rooms done j xs (machineOf st c))
   act-halts f r h e =
       record {
         placed = record { name = name; room = path-short done (modeOf (st .control)) (marksOf (st .marks)) r; event = h };
@@ -168,7 +186,9 @@ module _ (rooms : Rooms) (a : CodedAct) (name : List ℕ) (j : ℕ) (xs : List A
       }
 
 -- ---- the state behind an action
-pub is-behind : (a : CodedAct) (name : List ℕ) (st : State) (c : Content) (used : ℕ) (k : CodedControl) (m n : CodedMarks) → isStep a ≡ true → controlOf k ≡ turned a name (st .control) → marksOf m ≡ marksAfter (actOf (st .control) name a) used (marksOf (st .marks)) → marksOf n ≡ goTo (st .marks .event + 1) (marksOf m) → record { control = controlOf k; content = c; marks = marksOf n } ≡ after (actOf (st .control) name a) used (machineOf st c)
+pub is-behind : (a : CodedAct) (name : List ℕ) (st : State) (c : Content) (used : ℕ) (k : CodedControl) (m n : CodedMarks) → isStep a ≡ true
+    → controlOf k ≡ turned a name (st .control) → marksOf m ≡ marksAfter (actOf (st .control) name a) used (marksOf (st .marks)) → marksOf n ≡ goTo (st .marks .event + 1) (marksOf m)
+    → record { control = controlOf k; content = c; marks = marksOf n } ≡ after (actOf (st .control) name a) used (machineOf st c)
 is-behind a name st c used k m n h p q r =
     ap (λ (x : Control). record { control = x; content = c; marks = marksOf n })
     (p ∙ ap (λ (b : Bool). cond b (turn (actOf (st .control) name a) (controlOf (st .control))) (controlOf (st .control))) h)

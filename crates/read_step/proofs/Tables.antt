@@ -41,7 +41,8 @@ module _ (events attributes source : List ℕ) (good : tableOf events attributes
       record { low = range-order (ranged events i); high = omega (arith, v .attribute-words); most = omega (arith, v .attribute-limit) }
 
   module _ (i : ℕ) (h : i < countOf events) (rooms : Rooms) (s : Machine) where
-    lent : (a : Act) {first end : ℕ} → Ranged events i first end → act rooms a (word events i 3) (attributesFrom attributes source (word events i 4) (word events i 3)) s ≡ act rooms a first (attributesFrom attributes source (end - first) first) s
+    lent : (a : Act) {first end : ℕ} → Ranged events i first end
+        → act rooms a (word events i 3) (attributesFrom attributes source (word events i 4) (word events i 3)) s ≡ act rooms a first (attributesFrom attributes source (end - first) first) s
     lent a (none e) =
         ap (λ (n : ℕ). act rooms a (word events i 3) (attributesFrom attributes source n (word events i 3)) s) (range-empty events i h e)
         ∙ ap (λ (xs : List Attribute). act rooms a (word events i 3) xs s) (attributes-none attributes source (word events i 3))
@@ -54,10 +55,12 @@ module _ (events attributes source : List ℕ) (good : tableOf events attributes
     attributed l (some g k) = let z = event i h .tag k in absurd (omega arith)
 
     -- what the machine does at an event that is no piece, with the attributes that the code reads
-    pub event-acts : isPiece (kindAt events i) ≡ false → step rooms (eventAt events attributes source i) s ≡ act rooms (planned (s .control) (kindAt events i) (bytesAt events source i)) (firstAt events i) (attributesFrom attributes source (endAt events i - firstAt events i) (firstAt events i)) s
+    pub event-acts : isPiece (kindAt events i) ≡ false → step rooms (eventAt events attributes source i) s
+        ≡ act rooms (planned (s .control) (kindAt events i) (bytesAt events source i)) (firstAt events i) (attributesFrom attributes source (endAt events i - firstAt events i) (firstAt events i)) s
     unfolding eventAt
     event-acts p =
-        other-steps rooms (bytesAt events source i) (word events i 3) (attributesFrom attributes source (word events i 4) (word events i 3)) s (kindAt events i) p (event i h .kind) (λ l. attributed l (ranged events i))
+        other-steps rooms (bytesAt events source i) (word events i 3) (attributesFrom attributes source (word events i 4) (word events i 3))
+        s (kindAt events i) p (event i h .kind) (λ l. attributed l (ranged events i))
         ∙ lent (planned (s .control) (kindAt events i) (bytesAt events source i)) (ranged events i)
 
 -- the table's end has no attributes
@@ -68,7 +71,8 @@ module _ (events : List ℕ) (i : ℕ) (e : leb (countOf events) i ≡ true) whe
   pub end-end : endAt events i ≡ 0
   end-end = ap (λ (b : Bool). cond (eqb (cond b 0 (word events i 4)) 0) 0 (word events i 3 + word events i 4)) e
 
-pub spans-lent : (events attributes source : List ℕ) → tableOf events attributes source ≡ accepted tt → (i first end : ℕ) → first ≡ firstAt events i → end ≡ endAt events i → Spans (length attributes) first end
+pub spans-lent : (events attributes source : List ℕ) → tableOf events attributes source ≡ accepted tt
+    → (i first end : ℕ) → first ≡ firstAt events i → end ≡ endAt events i → Spans (length attributes) first end
 spans-lent events attributes source good i first end p q =
     let s = spans events attributes source good i in
     record { low = omega (arith, s .low); high = omega (arith, s .high); most = omega (arith, s .most) }

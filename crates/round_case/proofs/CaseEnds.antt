@@ -42,12 +42,14 @@ unfolding planAt atCase tags codeFrom sameBytes
 case-ends = refl
 
 -- inside a suite
-stands-amid : {i : ℕ} {records : List (List ℕ)} {texts : List ℕ} {s : Machine} → Stands suite i records texts s → Amid (at suite) (s .control .tally) (holding records texts [] []) (spotsOf (s .marks)) s
+stands-amid : {i : ℕ} {records : List (List ℕ)} {texts : List ℕ} {s : Machine} → Stands suite i records texts s
+    → Amid (at suite) (s .control .tally) (holding records texts [] []) (spotsOf (s .marks)) s
 stands-amid {s = s} h =
     let c : s .control ≡ control (at suite) true false (s .control .tally) = λ x. control (h .mode x) (h .seen x) (h .closed x) (s .control .tally) in
     record { marks = s .marks; here = λ x. record { control = c x; content = h .content x; marks = s .marks }; same = refl }
 
-amid-stands : {tally : Tally} {i : ℕ} {records : List (List ℕ)} {texts : List ℕ} {spots : Spots} {s : Machine} → spots .suiteAt ≡ i → Amid (at suite) tally (holding records texts [] []) spots s → Stands suite i records texts s
+amid-stands : {tally : Tally} {i : ℕ} {records : List (List ℕ)} {texts : List ℕ} {spots : Spots} {s : Machine}
+    → spots .suiteAt ≡ i → Amid (at suite) tally (holding records texts [] []) spots s → Stands suite i records texts s
 amid-stands e a =
     let h = a .here in
     record {
@@ -73,7 +75,8 @@ module _ (k : TagKind) (isEmpty : Bool) (xs : List Attribute) (plan : planAt (at
       → Reads n (Tag k (bytes "testcase") 0 xs ∷ []) s (Begun Shown extra isEmpty i records texts)
   unfolding perform turn marksAfter
   case-opens {Shown} {extra} {records = records} {texts = texts} {s = s} opened h =
-      amid-reads (stands-amid h) (λ m q. tag-reads {Q = Grows kind.case Shown extra records texts} k (bytes "testcase") xs (at suite) (s .control .tally) (holding records texts [] []) m (openCase isEmpty) plan
+      amid-reads (stands-amid h)
+      (λ m q. tag-reads {Q = Grows kind.case Shown extra records texts} k (bytes "testcase") xs (at suite) (s .control .tally) (holding records texts [] []) m (openCase isEmpty) plan
       (λ p j. grows p kind.case j xs records texts (opened p j))
       (λ c g. record {
         main = g .main;
@@ -97,7 +100,8 @@ module _ (k : TagKind) (isEmpty : Bool) (xs : List Attribute) (plan : planAt (at
 pub between-stands : {tally : Tally} {i k : ℕ} {records : List (List ℕ)} {texts : List ℕ} {s : Machine} → Between (at suite) tally i k records texts s → Stands suite i records texts s
 between-stands b = amid-stands (b .suiteAt) (b .amid)
 
-pub case-closes : {n i : ℕ} {tally : Tally} {records : List (List ℕ)} {texts : List ℕ} {spots : Spots} {s : Machine} → ruled tally ≡ true → spots .suiteAt ≡ i → Amid (at case) tally (holding records texts [] []) spots s
+pub case-closes : {n i : ℕ} {tally : Tally} {records : List (List ℕ)} {texts : List ℕ} {spots : Spots} {s : Machine}
+    → ruled tally ≡ true → spots .suiteAt ≡ i → Amid (at case) tally (holding records texts [] []) spots s
     → Reads n (endTag (bytes "testcase") ∷ []) s (Stands suite i records texts)
 unfolding perform need turn marksAfter
 case-closes {tally = tally} {records = records} {texts = texts} r e a =

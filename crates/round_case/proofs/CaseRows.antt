@@ -48,7 +48,8 @@ below-extras : {rs qs : List (List ℕ)} → Each (λ r. kindOf r ≡ kind.caseE
 below-extras done b = b
 below-extras (others h hs) b = oneExtra h (below-extras hs b)
 
-module _ {c : TestCase} {texts head : List ℕ} {extras properties rows : List (List ℕ)} (h : CaseHeld c (c .systemOut) (c .systemErr) texts head) (x : PairsShown kind.caseExtra texts extras (c .extra))
+module _ {c : TestCase} {texts head : List ℕ} {extras properties rows : List (List ℕ)}
+    (h : CaseHeld c (c .systemOut) (c .systemErr) texts head) (x : PairsShown kind.caseExtra texts extras (c .extra))
     (p : PairsShown kind.caseProperty texts properties (c .properties)) (s : StatusWhole (c .status) texts rows) where
   abbrev below : List (List ℕ)
   below = extras ++ (properties ++ rows)
@@ -62,7 +63,8 @@ module _ {c : TestCase} {texts head : List ℕ} {extras properties rows : List (
 
   -- the records of one sort
   only-extras : only isCaseExtra below ≡ extras
-  only-extras = only-front isCaseExtra (pairs-test (λ k. eqb k 14) true refl x) (each-append (pairs-test (λ k. eqb k 14) false refl p) (status-test (λ k. eqb k 14) (λ k a b. ne-eqb k 14 (omega arith)) s))
+  only-extras =
+      only-front isCaseExtra (pairs-test (λ k. eqb k 14) true refl x) (each-append (pairs-test (λ k. eqb k 14) false refl p) (status-test (λ k. eqb k 14) (λ k a b. ne-eqb k 14 (omega arith)) s))
 
   only-properties : only isCaseProperty below ≡ properties
   only-properties =

@@ -66,14 +66,16 @@ below-records c texts head rs h b =
     let e : f ++ (g ++ b .back) ≡ rs = sym (append-assoc f g (b .back)) ∙ ap (λ (x : List (List ℕ)). x ++ b .back) (sym (b .first .whole)) ∙ sym (b .whole) in
     subst (λ (x : List (List ℕ)). CaseRecords texts (head ∷ x) c) e (case-whole h (b .first .first) (b .first .second) (b .second))
 
-abbrev begun-mid : {c : TestCase} {i : ℕ} {records : List (List ℕ)} {texts : List ℕ} {s : Machine} → Begun (λ t x. CaseShown t x c) (c .extra) false i records texts s → Mid c none none noStatus i records texts (Extras c) s
+abbrev begun-mid : {c : TestCase} {i : ℕ} {records : List (List ℕ)} {texts : List ℕ} {s : Machine}
+    → Begun (λ t x. CaseShown t x c) (c .extra) false i records texts s → Mid c none none noStatus i records texts (Extras c) s
 begun-mid b = record { head = b .main; below = b .extras; added = b .added; shown = case-begun (b .shown); others = b .pairs; stands = b .stands }
 
 abbrev children : TestCase → List Event
 children c = serializeProperties (c .properties) ++ (serializeElements (c .status) ++ serializeOutputs (c .systemOut) (c .systemErr))
 
 module _ (c : TestCase) (h : CaseClean c) (plain : PlainCase c) {i : ℕ} {records : List (List ℕ)} {texts : List ℕ} where
-  children-read : {n : ℕ} {s : Machine} → Begun (λ t x. CaseShown t x c) (c .extra) false i records texts s → Reads n (children c) s (Mid c (c .systemOut) (c .systemErr) (statusTally (c .status)) i records texts (Below c))
+  children-read : {n : ℕ} {s : Machine} → Begun (λ t x. CaseShown t x c) (c .extra) false i records texts s
+      → Reads n (children c) s (Mid c (c .systemOut) (c .systemErr) (statusTally (c .status)) i records texts (Below c))
   children-read b =
       reads-then (serializeProperties (c .properties)) (serializeElements (c .status) ++ serializeOutputs (c .systemOut) (c .systemErr))
       (stage (extras-last c) (begun-mid b) (properties-read (c .properties) (h .properties) (kill-behind records (b .main) (b .shown .blank .kind) (pairs-kind (b .pairs))) (b .stands))) (λ j t m.
@@ -82,7 +84,8 @@ module _ (c : TestCase) (h : CaseClean c) (plain : PlainCase c) {i : ℕ} {recor
       outputs-read (below-last c) m (c .systemOut) (c .systemErr) (h .out) (h .err)))
 
   -- as Start, children and End
-  started : {n : ℕ} {s : Machine} → Stands suite i records texts s → Reads n (startTag (bytes "testcase") (caseAttributes c) ∷ (children c ++ (endTag (bytes "testcase") ∷ []))) s (Whole c i records texts)
+  started : {n : ℕ} {s : Machine} → Stands suite i records texts s
+      → Reads n (startTag (bytes "testcase") (caseAttributes c) ∷ (children c ++ (endTag (bytes "testcase") ∷ []))) s (Whole c i records texts)
   started a =
       reads-then (startTag (bytes "testcase") (caseAttributes c) ∷ []) (children c ++ (endTag (bytes "testcase") ∷ []))
       (case-opens Start false (caseAttributes c) case-begins (λ p j. case-opened p j records texts c (h .row) (h .extras) (h .time) (h .timestamp) (plain .keys)) a) (λ j t b.
@@ -96,7 +99,8 @@ module _ (c : TestCase) (h : CaseClean c) (plain : PlainCase c) {i : ℕ} {recor
       let k = childless (c .properties) (c .status) (c .systemOut) (c .systemErr) e in
       reads-as (case-opens Empty true (caseAttributes c) case-stands (λ p j. case-opened p j records texts c (h .row) (h .extras) (h .time) (h .timestamp) (plain .keys)) a) (λ t b.
       let T : List ℕ = texts ++ b .added in
-      let shown : CaseHeld c (c .systemOut) (c .systemErr) T (b .main) = subst (λ (x : Option Text). CaseHeld c x (c .systemErr) T (b .main)) (sym (k .out)) (subst (λ (x : Option Text). CaseHeld c none x T (b .main)) (sym (k .err)) (case-begun (b .shown))) in
+      let shown : CaseHeld c (c .systemOut) (c .systemErr) T (b .main) =
+      subst (λ (x : Option Text). CaseHeld c x (c .systemErr) T (b .main)) (sym (k .out)) (subst (λ (x : Option Text). CaseHeld c none x T (b .main)) (sym (k .err)) (case-begun (b .shown))) in
       let properties : PairsShown kind.caseProperty T [] (c .properties) = subst (λ (x : List Pair). PairsShown kind.caseProperty T [] x) (sym (k .properties)) noPairs in
       let status : StatusWhole (c .status) T [] = subst (λ (x : TestCaseStatus). StatusWhole x T []) (sym (k .status)) (success-whole noRuns) in
       record {
@@ -108,7 +112,8 @@ module _ (c : TestCase) (h : CaseClean c) (plain : PlainCase c) {i : ℕ} {recor
 
   written : {n : ℕ} {s : Machine} (es : List Event) → children c ≡ es → Stands suite i records texts s → Reads n (element (bytes "testcase") (caseAttributes c) es) s (Whole c i records texts)
   written [] e a = alone e a
-  written {n} {s} (x ∷ xs) e a = subst (λ (l : List Event). Reads n (startTag (bytes "testcase") (caseAttributes c) ∷ (l ++ (endTag (bytes "testcase") ∷ []))) s (Whole c i records texts)) e (started a)
+  written {n} {s} (x ∷ xs) e a =
+      subst (λ (l : List Event). Reads n (startTag (bytes "testcase") (caseAttributes c) ∷ (l ++ (endTag (bytes "testcase") ∷ []))) s (Whole c i records texts)) e (started a)
 
 -- reading a plain case's own events behind a suite leaves records from which the case is read back
 pub case-read : (c : TestCase) → every fitsRow (caseRows c) ≡ true → PlainCase c → (n i : ℕ) (records : List (List ℕ)) (texts : List ℕ) (s : Machine) → Stands suite i records texts s

@@ -7,7 +7,8 @@ use mathlib.Core.Path.{_≡_, refl, sym, ap, _∙_}
 use Rattle.table.specs.Event.{Attribute, Event}
 use Rattle.tree_report.specs.Report.{Text, Pair, TestCaseStatus, success, nonSuccess, skipped}
 use Rattle.names.specs.Bytes.{bytes}
-use Rattle.write_report.specs.Written.{each, isEmpty, statusAttributes, mainName, described, serializeOutput, serializeProperties, serializeOutputs, serializeStatus, serializeRerun, serializeElements}
+use Rattle.write_report.specs.Written.{each, isEmpty, statusAttributes, mainName, described, serializeOutput}
+use Rattle.write_report.specs.Written.{serializeProperties, serializeOutputs, serializeStatus, serializeRerun, serializeElements}
 
 pub record Childless (ps : List Pair) (st : TestCaseStatus) (a b : Option Text) : Type 0 where
   pub properties : ps ≡ []
@@ -32,5 +33,7 @@ childless [] (success []) (some t) err e = absurd (false≢true (ap isEmpty e))
 childless [] (success []) none (some t) e = absurd (false≢true (ap isEmpty e))
 childless [] (success []) none none e = record { properties = refl; status = refl; out = refl; err = refl }
 childless [] (nonSuccess k reason family runs) out err e =
-    absurd (false≢true (sym (some-event (mainName k) (statusAttributes (reason .message) (reason .type)) (reason .description) (each (serializeRerun family) runs) (serializeOutputs out err)) ∙ ap isEmpty e))
-childless [] (skipped reason) out err e = absurd (false≢true (sym (some-alone (bytes "skipped") (statusAttributes (reason .message) (reason .type)) (reason .description) (serializeOutputs out err)) ∙ ap isEmpty e))
+    absurd (false≢true (sym (some-event (mainName k) (statusAttributes (reason .message) (reason .type)) (reason .description) (each (serializeRerun family) runs) (serializeOutputs out err))
+    ∙ ap isEmpty e))
+childless [] (skipped reason) out err e =
+    absurd (false≢true (sym (some-alone (bytes "skipped") (statusAttributes (reason .message) (reason .type)) (reason .description) (serializeOutputs out err)) ∙ ap isEmpty e))

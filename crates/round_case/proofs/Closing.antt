@@ -39,7 +39,8 @@ pub record Described (v : Option Text) (Shown : Option Text → List ℕ → Lis
 
 module _ (Shown : Option Text → List ℕ → List ℕ → Type 0)
     (put : (t : Text) (texts r : List ℕ) → Shown none texts r → Shown (some t) (texts ++ t) (putText word.description bit.description (length texts) (length t) r)) where
-  describes-so : (v : Option Text) (D : List ℕ) → Describes v → Gathered v D → (base : List ℕ) (xs : List (List ℕ)) (r added : List ℕ) → Shown none (base ++ added) r → (m : Marks) → m .statusAt ≡ length xs → (p : Place)
+  describes-so : (v : Option Text) (D : List ℕ) → Describes v → Gathered v D → (base : List ℕ) (xs : List (List ℕ)) (r added : List ℕ)
+      → Shown none (base ++ added) r → (m : Marks) → m .statusAt ≡ length xs → (p : Place)
       → Performs (describing unlimited p m (holding (xs ++ (r ∷ [])) (base ++ added) D [])) (Described v Shown base xs)
   unfolding describing _>>=_
   describes-so none D c e base xs r added h m i p =
@@ -56,8 +57,10 @@ module _ (Shown : Option Text → List ℕ → List ℕ → Type 0)
       record {
         after = holding (xs ++ (r′ ∷ [])) (texts ++ d) [] [];
         answer =
-            ap (λ (t : Bool). cond t (accepted (holding (xs ++ (r ∷ [])) texts [] [])) (keeping unlimited p true (m .statusAt) word.description bit.description D (holding (xs ++ (r ∷ [])) texts D []) >>= λ x. accepted (withTexts x [] []))) some-left
-            ∙ ap (λ (o : Outcome Content). o >>= λ x. accepted (withTexts x [] [])) (keeps word.description bit.description D d (clean-same (c .0) D e) xs r [] texts D [] p true (m .statusAt) refl i);
+            ap (λ (t : Bool). cond t (accepted (holding (xs ++ (r ∷ [])) texts [] []))
+            (keeping unlimited p true (m .statusAt) word.description bit.description D (holding (xs ++ (r ∷ [])) texts D []) >>= λ x. accepted (withTexts x [] []))) some-left
+            ∙ ap (λ (o : Outcome Content). o >>= λ x. accepted (withTexts x [] []))
+            (keeps word.description bit.description D d (clean-same (c .0) D e) xs r [] texts D [] p true (m .statusAt) refl i);
         holds = record {
           row = r′;
           added = added ++ d;
@@ -66,7 +69,8 @@ module _ (Shown : Option Text → List ℕ → List ℕ → Type 0)
         };
       }
 
-  pub status-closes : {n : ℕ} {tally : Tally} {s : Machine} {base D : List ℕ} {xs : List (List ℕ)} {spots : Spots} (name : List ℕ) (v : Option Text) → Describes v → Gathered v D → planAt (at status) true End name ≡ closeStatus
+  pub status-closes : {n : ℕ} {tally : Tally} {s : Machine} {base D : List ℕ} {xs : List (List ℕ)} {spots : Spots} (name : List ℕ) (v : Option Text)
+      → Describes v → Gathered v D → planAt (at status) true End name ≡ closeStatus
       → spots .statusAt ≡ length xs → Holder status tally base xs [] D spots (Shown none) s → Reads n (endTag name ∷ []) s (Holder case tally base xs [] [] spots (Shown v))
   unfolding perform turn marksAfter
   status-closes {tally = tally} {base = base} {D = D} {xs = xs} name v c g plan i h =

@@ -65,7 +65,8 @@ runs-clean family (e ∷ es) h =
       trace = cleans (e .stackTrace) (g .fourth) (every-front bare (listed (e .stackTrace)) (listed (e .systemOut) ++ listed (e .systemErr)) outs);
       out = cleans (e .systemOut) (g .out) (every-front bare (listed (e .systemOut)) (listed (e .systemErr)) two);
       err = cleans (e .systemErr) (g .err) (every-behind bare (listed (e .systemOut)) (listed (e .systemErr)) two);
-      description = describes (e .description) (g .third) (here bare (λ (x : TestRerun). listed (x .description)) e es (h .descriptions)) (here some-text (λ (x : TestRerun). listed (x .description)) e es (h .described));
+      description = describes (e .description) (g .third) (here bare (λ (x : TestRerun). listed (x .description)) e es (h .descriptions))
+          (here some-text (λ (x : TestRerun). listed (x .description)) e es (h .described));
     })
     (runs-clean family es (record {
       fits = and-right (fitsRow (runRow family e)) (every fitsRow (map (runRow family) es)) (h .fits);
@@ -77,7 +78,8 @@ runs-clean family (e ∷ es) h =
     }))
 
 -- ---- a status
-reason-clean : (k : ℕ) (isFlaky : Bool) (m : Reason) → fitsRow (mainRow k isFlaky m) ≡ true → every bare (listed (m .description)) ≡ true → every some-text (listed (m .description)) ≡ true → ReasonClean m
+reason-clean : (k : ℕ) (isFlaky : Bool) (m : Reason) → fitsRow (mainRow k isFlaky m) ≡ true
+    → every bare (listed (m .description)) ≡ true → every some-text (listed (m .description)) ≡ true → ReasonClean m
 reason-clean k isFlaky m f b d = let g = fitting (mainRow k isFlaky m) f in record { message = g .first; type = g .second; description = describes (m .description) (g .third) b d }
 
 abbrev reasonTexts : TestCaseStatus → List Text
@@ -94,7 +96,8 @@ module _ (p : Text → Bool) (d : Option Text) (ts : List Text) (e : every p ((l
   of-runs = every-behind p (listed d ++ []) ts e
 
 status-clean : (st : TestCaseStatus) → every fitsRow (statusRows st) ≡ true → every bare (reasonTexts st ++ runTexts st) ≡ true → every some-text (reasonTexts st ++ runTexts st) ≡ true
-    → every bare (each runOutputs (runsIn st)) ≡ true → every wholeTime (each (λ (e : TestRerun). listed (e .time)) (runsIn st)) ≡ true → every wholeMoment (each (λ (e : TestRerun). listed (e .timestamp)) (runsIn st)) ≡ true → StatusClean st
+    → every bare (each runOutputs (runsIn st)) ≡ true → every wholeTime (each (λ (e : TestRerun). listed (e .time)) (runsIn st)) ≡ true
+    → every wholeMoment (each (λ (e : TestRerun). listed (e .timestamp)) (runsIn st)) ≡ true → StatusClean st
 status-clean (success runs) f b d o t m = runs-clean flaky runs (record { fits = f; descriptions = b; described = d; outputs = o; times = t; timestamps = m })
 status-clean (nonSuccess k reason family runs) f b d o t m =
     let row : Row = mainRow (kindOfMain k) (isFlakyAlone family runs) reason in

@@ -52,7 +52,8 @@ module _ {P : Machine → Type 0} where
       let r = q (n + attributeCount xs) (p .after) (p .holds) in
       record {
         after = r .after;
-        leads = subst (λ (es : List Event). Leads es s (r .after)) (sym (numbered-append n xs ys)) (leads-then (numbered n xs) (numbered (n + attributeCount xs) ys) s (p .after) (r .after) (p .leads) (r .leads));
+        leads = subst (λ (es : List Event). Leads es s (r .after)) (sym (numbered-append n xs ys))
+            (leads-then (numbered n xs) (numbered (n + attributeCount xs) ys) s (p .after) (r .after) (p .leads) (r .leads));
         holds = r .holds;
       }
 

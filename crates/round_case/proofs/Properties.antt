@@ -40,7 +40,8 @@ list-ends : planAt (listing case) true End (bytes "properties") ≡ pass (at cas
 unfolding planAt inList tags codeFrom sameBytes
 list-ends = refl
 
-one-more : {κ : ℕ} {texts : List ℕ} {rows rs : List (List ℕ)} {p : Pair} {ps : List Pair} (v : List ℕ) → PairsShown κ texts rows (p ∷ []) → PairsShown κ (texts ++ v) rs ps → PairsShown κ (texts ++ v) (rows ++ rs) (p ∷ ps)
+one-more : {κ : ℕ} {texts : List ℕ} {rows rs : List (List ℕ)} {p : Pair} {ps : List Pair} (v : List ℕ)
+    → PairsShown κ texts rows (p ∷ []) → PairsShown κ (texts ++ v) rs ps → PairsShown κ (texts ++ v) (rows ++ rs) (p ∷ ps)
 one-more {texts = texts} v (more {r = r} h none) hs = more (pair-later texts v r h) hs
 
 module _ {tally : Tally} {i k : ℕ} where
@@ -54,16 +55,22 @@ module _ {tally : Tally} {i k : ℕ} where
       (λ p j. record {
         after = holding (killKind kind.caseProperty (m .caseAt) records) texts [] [];
         answer = refl;
-        holds = ap (λ (x : Spots). holding (killKind kind.caseProperty (x .caseAt) records) texts [] []) q ∙ ap (λ (x : ℕ). holding (killKind kind.caseProperty x records) texts [] []) (b .caseAt) ∙ ap (λ (x : List (List ℕ)). holding x texts [] []) e;
+        holds = ap (λ (x : Spots). holding (killKind kind.caseProperty (x .caseAt) records) texts [] []) q
+            ∙ ap (λ (x : ℕ). holding (killKind kind.caseProperty x records) texts [] []) (b .caseAt) ∙ ap (λ (x : List (List ℕ)). holding x texts [] []) e;
       })
       (λ x f. record {
         spots = b .spots;
-        amid = record { marks = onward (marksAfter (openList case) (length records) m); here = ap (λ (y : Content). machine (listing case) tally y (onward (marksAfter (openList case) (length records) m))) f; same = q };
+        amid = record {
+          marks = onward (marksAfter (openList case) (length records) m);
+          here = ap (λ (y : Content). machine (listing case) tally y (onward (marksAfter (openList case) (length records) m))) f;
+          same = q;
+        };
         suiteAt = b .suiteAt;
         caseAt = b .caseAt;
       }))
 
-  list-closes : {n : ℕ} {records : List (List ℕ)} {texts : List ℕ} {s : Machine} → Between (listing case) tally i k records texts s → Reads n (endTag (bytes "properties") ∷ []) s (Between (at case) tally i k records texts)
+  list-closes : {n : ℕ} {records : List (List ℕ)} {texts : List ℕ} {s : Machine} → Between (listing case) tally i k records texts s
+      → Reads n (endTag (bytes "properties") ∷ []) s (Between (at case) tally i k records texts)
   unfolding perform turn marksAfter
   list-closes {records = records} {texts = texts} b =
       let c : Content = holding records texts [] [] in
@@ -102,15 +109,18 @@ module _ {tally : Tally} {i k : ℕ} where
         };
       }))
 
-  listed-read : {n : ℕ} {records : List (List ℕ)} {texts : List ℕ} {s : Machine} (ps : List Pair) → every fitsRow (map (pairRow kind.caseProperty) ps) ≡ true → Between (listing case) tally i k records texts s
+  listed-read : {n : ℕ} {records : List (List ℕ)} {texts : List ℕ} {s : Machine} (ps : List Pair)
+      → every fitsRow (map (pairRow kind.caseProperty) ps) ≡ true → Between (listing case) tally i k records texts s
       → Reads n (each serializeProperty ps) s (Adds (listing case) tally i k records texts (λ t rs. PairsShown kind.caseProperty t rs ps))
   listed-read [] h b = reads-none (adds-none none b)
   listed-read (p ∷ ps) h b =
-      reads-then (serializeProperty p) (each serializeProperty ps) (property-reads p (and-left (fitsRow (pairRow kind.caseProperty p)) (every fitsRow (map (pairRow kind.caseProperty) ps)) h) b) (λ j t a.
+      reads-then (serializeProperty p) (each serializeProperty ps)
+      (property-reads p (and-left (fitsRow (pairRow kind.caseProperty p)) (every fitsRow (map (pairRow kind.caseProperty) ps)) h) b) (λ j t a.
       reads-as (listed-read ps (and-right (fitsRow (pairRow kind.caseProperty p)) (every fitsRow (map (pairRow kind.caseProperty) ps)) h) (a .stands)) (λ u d.
       adds-joined (a .rows) (a .added) (λ v rs y. one-more v (a .shown) y) d))
 
-  pub properties-read : {n : ℕ} {records : List (List ℕ)} {texts : List ℕ} {s : Machine} (ps : List Pair) → every fitsRow (map (pairRow kind.caseProperty) ps) ≡ true → killKind kind.caseProperty k records ≡ records
+  pub properties-read : {n : ℕ} {records : List (List ℕ)} {texts : List ℕ} {s : Machine} (ps : List Pair)
+      → every fitsRow (map (pairRow kind.caseProperty) ps) ≡ true → killKind kind.caseProperty k records ≡ records
       → Between (at case) tally i k records texts s → Reads n (serializeProperties ps) s (Adds (at case) tally i k records texts (λ t rs. PairsShown kind.caseProperty t rs ps))
   unfolding serializeProperties
   properties-read [] h e b = reads-none (adds-none none b)

@@ -15,7 +15,8 @@ module _ {mode : Mode} {tally : Tally} {i k : ℕ} {records : List (List ℕ)} {
         rows = [];
         added = [];
         shown = h;
-        stands = subst (λ (rs : List (List ℕ)). Between mode tally i k rs (texts ++ []) s) (sym (append-nil records)) (subst (λ (t : List ℕ). Between mode tally i k records t s) (sym (append-nil texts)) b);
+        stands = subst (λ (rs : List (List ℕ)). Between mode tally i k rs (texts ++ []) s) (sym (append-nil records))
+            (subst (λ (t : List ℕ). Between mode tally i k records t s) (sym (append-nil texts)) b);
       }
 
   -- rows, and then others

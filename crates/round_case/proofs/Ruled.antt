@@ -48,7 +48,8 @@ main-ruled flaky error t a b c = rw (a, b, c) (ap not (and-false (ltb 0 (t .flak
 main-ruled rerun failure t a b c = rw (a, b, c) refl
 main-ruled rerun error t a b c = rw (a, b, c) refl
 
-first-main : (k : NonSuccessKind) (family : FlakyOrRerun) → (tallied noStatus (kindOfMain k) .mains ≡ 1) × (tallied noStatus (kindOfMain k) .main ≡ kindOfMain k) × (other family (tallied noStatus (kindOfMain k)) ≡ 0)
+first-main : (k : NonSuccessKind) (family : FlakyOrRerun)
+    → (tallied noStatus (kindOfMain k) .mains ≡ 1) × (tallied noStatus (kindOfMain k) .main ≡ kindOfMain k) × (other family (tallied noStatus (kindOfMain k)) ≡ 0)
 unfolding tallied
 first-main failure flaky = (refl, refl, refl)
 first-main failure rerun = (refl, refl, refl)

@@ -20,7 +20,8 @@ use Rattle.read_rules.specs.Rules.{atCase, atStatus, planAt}
 use Rattle.read_content.specs.Content.{pieceOf}
 use Rattle.read_machine.specs.Machine.{Machine}
 use Rattle.write_escape.specs.Escape.{escaped}
-use Rattle.write_report.specs.Written.{optional, startTag, textEvent, endTag, indent, stamped, timed, statusAttributes, runName, indented, runChildren, serializeOutput, serializeOutputs, serializeRerun}
+use Rattle.write_report.specs.Written.{optional, startTag, textEvent, endTag, indent, stamped, timed, statusAttributes}
+use Rattle.write_report.specs.Written.{runName, indented, runChildren, serializeOutput, serializeOutputs, serializeRerun}
 use Rattle.round_elements.specs.inside.PlainCase.{WholeTime, WholeMoment}
 use Rattle.round_elements.specs.inside.Held.{RunHeld}
 use Rattle.round_elements.proofs.Elements.{run-opened}
@@ -87,7 +88,8 @@ module _ {tally : Tally} {base : List ℕ} {xs : List (List ℕ)} {spots : Spots
   gap-held {s = s} d [] h = reads-none (subst (λ (x : List ℕ). Holder status tally base xs [] x spots Shown s) (sym (append-nil d)) h)
   gap-held d (e ∷ es) h = piece-held h Indent (10 ∷ []) (10 ∷ []) refl refl
 
-  lead-held : {n : ℕ} {s : Machine} (v : Option Text) (es : List Event) → Describes v → Holder status tally base xs [] [] spots Shown s → Reads n (lead v es) s (Holder status tally base xs [] (leadBytes v es) spots Shown)
+  lead-held : {n : ℕ} {s : Machine} (v : Option Text) (es : List Event) → Describes v → Holder status tally base xs [] [] spots Shown s
+      → Reads n (lead v es) s (Holder status tally base xs [] (leadBytes v es) spots Shown)
   unfolding gathers
   lead-held none es c h = reads-none h
   lead-held (some d) es c h = reads-then (textEvent d ∷ []) (gap es) (piece-held h TextPiece (escaped d) d refl (clean-piece (c .0))) (λ j t g. gap-held d es g)
@@ -115,7 +117,8 @@ module _ {family : FlakyOrRerun} {e : TestRerun} (c : RunClean family e) {tally 
       output-held run-err xs [] there taken (λ v. RunHeld family e (e .stackTrace) (e .systemOut) v none) (λ t u r k. put-err u r t k) (e .systemErr) (c .err) h))
 
   body-held : {n : ℕ} {s : Machine} → Holder status tally base xs [] [] spots (RunHeld family e none none none none) s
-      → Reads n (indented (e .description) (runChildren e)) s (Holder status tally base xs [] (leadBytes (e .description) (runChildren e)) spots (RunHeld family e (e .stackTrace) (e .systemOut) (e .systemErr) none))
+      → Reads n (indented (e .description) (runChildren e)) s
+      (Holder status tally base xs [] (leadBytes (e .description) (runChildren e)) spots (RunHeld family e (e .stackTrace) (e .systemOut) (e .systemErr) none))
   body-held {n} {s} h =
       let v : Option Text = e .description in
       let es : List Event = runChildren e in

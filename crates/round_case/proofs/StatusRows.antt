@@ -48,7 +48,8 @@ run-kinds rerun error = (refl, refl, refl)
 module _ (family : FlakyOrRerun) {texts : List ℕ} where
   run-back : {e : TestRerun} {r : List ℕ} (z : List ℕ) → RunWhole family e texts r → runOf (texts ++ z) r ≡ e
   run-back {e} {r} z h =
-      let k : cond (eqb (kindOf r) 9) failure (cond (eqb (kindOf r) 11) failure error) ≡ e .kind = ap (λ (n : ℕ). cond (eqb n 9) failure (cond (eqb n 11) failure error)) (h .blank .kind) ∙ kind-back family (e .kind) in
+      let k : cond (eqb (kindOf r) 9) failure (cond (eqb (kindOf r) 11) failure error) ≡ e .kind =
+      ap (λ (n : ℕ). cond (eqb n 9) failure (cond (eqb n 11) failure error)) (h .blank .kind) ∙ kind-back family (e .kind) in
       λ i. record {
         kind = k i;
         timestamp = h .timestamp i;
@@ -65,7 +66,8 @@ module _ (family : FlakyOrRerun) {texts : List ℕ} where
   runs-back z none = refl
   runs-back z (more h hs) = ap₂ _∷_ (run-back z h) (runs-back z hs)
 
-  runs-test : (q : ℕ → Bool) (t : Bool) → ((k : NonSuccessKind) → q (kindOfRun family k) ≡ t) → {rs : List (List ℕ)} {es : List TestRerun} → RunsWhole family texts rs es → Each (λ r. q (kindOf r) ≡ t) rs
+  runs-test : (q : ℕ → Bool) (t : Bool) → ((k : NonSuccessKind) → q (kindOfRun family k) ≡ t)
+      → {rs : List (List ℕ)} {es : List TestRerun} → RunsWhole family texts rs es → Each (λ r. q (kindOf r) ≡ t) rs
   runs-test q t f none = done
   runs-test q t f (more {e = e} h hs) = others (ap q (h .blank .kind) ∙ f (e .kind)) (runs-test q t f hs)
 
@@ -79,14 +81,16 @@ success-whole {texts} h =
     record {
       kinds = each-every (λ r. isStatusKind (kindOf r)) (runs-test flaky isStatusKind true (λ k. run-kinds flaky k .2) h);
       status = λ z.
-          ap₂ (statusOf (texts ++ z)) (only-none isMain (runs-test flaky isMainKind false (λ k. run-kinds flaky k .1) h)) (only-all isRun (runs-test flaky isRunKind true (λ k. run-kinds flaky k .0) h))
+          ap₂ (statusOf (texts ++ z)) (only-none isMain (runs-test flaky isMainKind false (λ k. run-kinds flaky k .1) h))
+          (only-all isRun (runs-test flaky isRunKind true (λ k. run-kinds flaky k .0) h))
           ∙ ap success (runs-back flaky z h);
     }
 
 reason-back : {κ : ℕ} {reason : Reason} {texts m : List ℕ} (z : List ℕ) → MainHeld κ reason (reason .description) texts m → reasonOf (texts ++ z) m ≡ reason
 reason-back z h = λ i. record { message = h .message z i; type = h .type z i; description = h .description z i }
 
-runs-family : {family : FlakyOrRerun} {runs : List TestRerun} {texts : List ℕ} {rs : List (List ℕ)} (k : NonSuccessKind) (reason : Reason) (T m : List ℕ) → isRuled (nonSuccess k reason family runs) ≡ true
+runs-family : {family : FlakyOrRerun} {runs : List TestRerun} {texts : List ℕ} {rs : List (List ℕ)} (k : NonSuccessKind) (reason : Reason) (T m : List ℕ)
+    → isRuled (nonSuccess k reason family runs) ≡ true
     → hasBit bit.flaky m ≡ false → RunsWhole family texts rs runs → kindOfRuns T m rs ≡ family
 runs-family {family = flaky} k reason T m e f none = absurd (false≢true e)
 runs-family {family = rerun} k reason T m e f none = rw f refl
@@ -101,7 +105,8 @@ main-kinds : (k : NonSuccessKind) → (isRunKind (kindOfMain k) ≡ false) × (i
 main-kinds failure = (refl, refl, refl)
 main-kinds error = (refl, refl, refl)
 
-pub nonSuccess-whole : {k : NonSuccessKind} {reason : Reason} {family : FlakyOrRerun} {runs : List TestRerun} {texts m : List ℕ} {rs : List (List ℕ)} → isRuled (nonSuccess k reason family runs) ≡ true
+pub nonSuccess-whole : {k : NonSuccessKind} {reason : Reason} {family : FlakyOrRerun} {runs : List TestRerun} {texts m : List ℕ} {rs : List (List ℕ)}
+    → isRuled (nonSuccess k reason family runs) ≡ true
     → MainHeld (kindOfMain k) reason (reason .description) texts m → RunsWhole family texts rs runs → StatusWhole (nonSuccess k reason family runs) texts (m ∷ rs)
 nonSuccess-whole {k} {reason} {family} {runs} {texts} {m} {rs} e h hs =
     let of : (q : ℕ → Bool) → q (kindOf m) ≡ q (kindOfMain k) = λ q. ap q (h .blank .kind) in

@@ -84,7 +84,8 @@ text-opens {c = c} {tally = tally} l u name plan a =
     (λ x f. record { marks = onward m; here = ap (λ (y : Content). machine (gathering l u) tally y (onward m)) f; same = q }))
 
 -- where it ends
-pub text-closes : {n : ℕ} {spots : Spots} {tally : Tally} {s : Machine} {texts d v : List ℕ} (xs : List (List ℕ)) (r : List ℕ) (ys : List (List ℕ)) (t : List ℕ) (l : Level) (u : Output) (name : List ℕ) → cleaned v ≡ t
+pub text-closes : {n : ℕ} {spots : Spots} {tally : Tally} {s : Machine} {texts d v : List ℕ} (xs : List (List ℕ))
+    (r : List ℕ) (ys : List (List ℕ)) (t : List ℕ) (l : Level) (u : Output) (name : List ℕ) → cleaned v ≡ t
     → planAt (gathering l u) true End name ≡ closeText l u → recordIn l spots ≡ length xs → takesIn l spots ≡ true → Amid (gathering l u) tally (holding (xs ++ (r ∷ ys)) texts d v) spots s
     → Reads n (endTag name ∷ []) s (Amid (at l) tally (holding (xs ++ (putText (wordOf u) (bitOf u) (length texts) (length t) r ∷ ys)) (texts ++ t) d []) spots)
 unfolding perform outputting turn marksAfter _>>=_

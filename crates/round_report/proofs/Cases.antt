@@ -28,13 +28,15 @@ one-case n i c f p records texts s h =
     let o = case-read c f p n i records texts s h in
     record { rows = o .rows; added = o .added; goes = record { after = o .after; leads = o .leads; holds = o .stands }; read = o .read }
 
-pub cases-read : (n i : ℕ) {cs : List TestCase} → Each (λ c. (every fitsRow (caseRows c) ≡ true) × PlainCase c) cs → (records : List (List ℕ)) (texts : List ℕ) (s : Machine) → Stands suite i records texts s
+pub cases-read : (n i : ℕ) {cs : List TestCase} → Each (λ c. (every fitsRow (caseRows c) ≡ true) × PlainCase c) cs
+    → (records : List (List ℕ)) (texts : List ℕ) (s : Machine) → Stands suite i records texts s
     → Reads (numbered n (each serializeTestCase cs)) s (Stands suite i) (All cs) records texts
 unfolding numbered
 cases-read n i done records texts s h = reads-none (Stands suite i) (All []) records texts s h no-case
 cases-read n i (more {x = c} {xs = cs} g gs) records texts s h =
     reads-same (numbered-append n (serializeTestCase c) (each serializeTestCase cs))
-    (reads-then (Stands suite i) (One c) records texts (Stands suite i) (All cs) (All (c ∷ cs)) (numbered n (serializeTestCase c)) (numbered (behind n (serializeTestCase c)) (each serializeTestCase cs)) s
+    (reads-then (Stands suite i) (One c) records texts (Stands suite i) (All cs) (All (c ∷ cs))
+    (numbered n (serializeTestCase c)) (numbered (behind n (serializeTestCase c)) (each serializeTestCase cs)) s
     (one-case n i c (g .0) (g .1) records texts s h)
     (cases-read (behind n (serializeTestCase c)) i gs)
     (λ v w rs qs a b. a-case (case-on v w rs c a) b))

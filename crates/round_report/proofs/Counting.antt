@@ -141,7 +141,8 @@ pairs-past l (pair {r = r} h hs) ks o p w =
     let k = h .blank .kind in
     pairs-past l hs ks (following o (only-kind (kindOf r))) p (path-first (omega arith) w .1)
 
-module _ {texts : List ℕ} {rs : List (List ℕ)} {s : TestSuite} (h : SuiteRecords texts rs s) (qs : List (List ℕ)) (o p : Open) (g : High (kinds qs)) (e : mayEnd p ≡ true) (w : Path o (kinds (rs ++ qs)) p) where
+module _ {texts : List ℕ} {rs : List (List ℕ)} {s : TestSuite} (h : SuiteRecords texts rs s) (qs : List (List ℕ))
+    (o p : Open) (g : High (kinds qs)) (e : mayEnd p ≡ true) (w : Path o (kinds (rs ++ qs)) p) where
   abbrev extras : List (List ℕ)
   extras = h .parts .extras
 
@@ -179,7 +180,8 @@ module _ {texts : List ℕ} {rs : List (List ℕ)} {s : TestSuite} (h : SuiteRec
       let q : length (properties ++ rows) ≡ length properties + length rows = length-append properties rows in
       record { many = ap length (h .whole ∙ ap (λ (l : List (List ℕ)). h .head ∷ l) (h .parts .whole)) ∙ omega arith; on = f .on }
 
-pub suites-count : {texts : List ℕ} {rs : List (List ℕ)} {ss : List TestSuite} → SuitesShown texts rs ss → (o p : Open) → mayEnd p ≡ true → Path o (kinds rs) p → length rs ≡ length (rowsOfEach suiteRows ss)
+pub suites-count : {texts : List ℕ} {rs : List (List ℕ)} {ss : List TestSuite} → SuitesShown texts rs ss
+    → (o p : Open) → mayEnd p ≡ true → Path o (kinds rs) p → length rs ≡ length (rowsOfEach suiteRows ss)
 suites-count no-suite o p e w = refl
 suites-count (a-suite {rs = rs} {qs = rest} {s = s} {ss = ss} h hs) o p e w =
     let a = suite-count h rest o p (suites-high hs) e w in

@@ -73,7 +73,8 @@ cases-read {texts} z (a-case {qs = qs} {c = c} {cs = cs} h hs) =
 
 -- ---- a suite
 module _ {texts main : List ℕ} {extras properties rows : List (List ℕ)} (s : TestSuite)
-    (h : SuiteHeld s (s .systemOut) (s .systemErr) texts main) (x : PairsShown 13 texts extras (s .extra)) (p : PairsShown 4 texts properties (s .properties)) (c : CasesShown texts rows (s .cases)) where
+    (h : SuiteHeld s (s .systemOut) (s .systemErr) texts main) (x : PairsShown 13 texts extras (s .extra))
+    (p : PairsShown 4 texts properties (s .properties)) (c : CasesShown texts rows (s .cases)) where
   abbrev below : List (List ℕ)
   below = extras ++ (properties ++ rows)
 

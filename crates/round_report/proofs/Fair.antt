@@ -15,7 +15,9 @@ use Rattle.read_element.specs.Outcome.{unlimited, fits}
 use Rattle.read_element.proofs.TreeOutcome.{Holds, held}
 use Rattle.read_machine.specs.Machine.{Machine, run, begin}
 use Rattle.read_machine.proofs.TreeInvariant.{Good, FairEvent, Ended, ran}
-use Rattle.write_report.specs.Written.{optional, statusAttributes, each, described, mainName, indented, element, caseAttributes, suiteAttributes, serializeOutput, serializeProperty, serializeProperties, serializeOutputs, serializeStatus, serializeRerun, serializeElements, serializeTestCase, serializeTestSuite, serializeReport, declaration, numbered, written}
+use Rattle.write_report.specs.Written.{optional, statusAttributes, each, described, mainName, indented, element, caseAttributes, suiteAttributes}
+use Rattle.write_report.specs.Written.{serializeOutput, serializeProperty, serializeProperties, serializeOutputs, serializeStatus, serializeRerun}
+use Rattle.write_report.specs.Written.{serializeElements, serializeTestCase, serializeTestSuite, serializeReport, declaration, numbered, written}
 
 abbrev Fairs : List Event → Type 0
 Fairs es = Each FairEvent es
@@ -42,7 +44,8 @@ fair-output name t = more tt (more tt (more tt done))
 
 fair-outputs : (o e : Option Text) → Fairs (serializeOutputs o e)
 unfolding serializeOutputs
-fair-outputs o e = each-append (fair-optional (serializeOutput (bytes "system-out")) (fair-output (bytes "system-out")) o) (fair-optional (serializeOutput (bytes "system-err")) (fair-output (bytes "system-err")) e)
+fair-outputs o e =
+    each-append (fair-optional (serializeOutput (bytes "system-out")) (fair-output (bytes "system-out")) o) (fair-optional (serializeOutput (bytes "system-err")) (fair-output (bytes "system-err")) e)
 
 fair-property : (p : Pair) → Fairs (serializeProperty p)
 unfolding serializeProperty
@@ -73,7 +76,8 @@ fair-indented (some d) (more h hs) = more tt (more newline (more h hs))
 fair-run : (family : FlakyOrRerun) (e : TestRerun) → Fairs (serializeRerun family e)
 unfolding serializeRerun
 fair-run family e =
-    more tt (each-append (fair-indented (e .description) (each-append (fair-optional (serializeOutput (bytes "stackTrace")) (fair-output (bytes "stackTrace")) (e .stackTrace)) (fair-outputs (e .systemOut) (e .systemErr)))) (more tt done))
+    more tt (each-append (fair-indented (e .description)
+    (each-append (fair-optional (serializeOutput (bytes "stackTrace")) (fair-output (bytes "stackTrace")) (e .stackTrace)) (fair-outputs (e .systemOut) (e .systemErr)))) (more tt done))
 
 fair-elements : (s : TestCaseStatus) → Fairs (serializeElements s)
 unfolding serializeElements

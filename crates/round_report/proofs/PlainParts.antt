@@ -10,7 +10,8 @@ use Rattle.tree_report.specs.Encode.{every, fitsRow, pairRow, caseRows, rowsOfE
 use Rattle.tree_report.proofs.EncodeLists.{and-left, and-right, Each, each-on, every-each}
 use Rattle.write_report.specs.Written.{each, isEmpty, written}
 use Rattle.write_table.specs.Laid.{laidOut, fits}
-use Rattle.round_elements.specs.Plain.{listed, casesOf, reasonsIn, runsIn, reasonsOf, runsOf, descriptions, outputs, times, timestamps, keysOf, bare, suiteKeys, caseKeys, goodKeys, isRuled, plain, sound}
+use Rattle.round_elements.specs.Plain.{listed, casesOf, reasonsIn, runsIn, reasonsOf, runsOf, descriptions, outputs, times}
+use Rattle.round_elements.specs.Plain.{timestamps, keysOf, bare, suiteKeys, caseKeys, goodKeys, isRuled, plain, sound}
 use Rattle.round_elements.specs.inside.PlainCase.{wholeTime, wholeMoment, WholeTime, WholeMoment, descriptionsIn, outputsIn, PlainCase}
 use Rattle.round_case.proofs.Conditions.{every-front, every-behind}
 use Rattle.round_report.proofs.Parts.{every-append, every-parts, every-rows, every-nested, each-split, each-with}
@@ -111,7 +112,8 @@ module _ (r : Report) (k : Conditions r) where
   bare-outputs : Each (λ c. every bare (outputsIn c) ≡ true) cases
   bare-outputs =
       let e = every-behind bare suiteOutputs (caseOutputs ++ runOutputs) (every-behind bare (descriptions r) (outputs r) (k .bare)) in
-      each-on (λ c q. every-append bare (listed (c .systemOut) ++ listed (c .systemErr)) (each (λ (e : TestRerun). listed (e .stackTrace) ++ (listed (e .systemOut) ++ listed (e .systemErr))) (runsIn (c .status))) (q .0) (q .1))
+      each-on (λ c q. every-append bare (listed (c .systemOut) ++ listed (c .systemErr))
+      (each (λ (e : TestRerun). listed (e .stackTrace) ++ (listed (e .systemOut) ++ listed (e .systemErr))) (runsIn (c .status))) (q .0) (q .1))
       (each-with
       (every-parts bare (λ (c : TestCase). listed (c .systemOut) ++ listed (c .systemErr)) cases (every-front bare caseOutputs runOutputs e))
       (by-runs bare (λ e. listed (e .stackTrace) ++ (listed (e .systemOut) ++ listed (e .systemErr))) (every-behind bare caseOutputs runOutputs e)))
@@ -155,7 +157,8 @@ module _ (r : Report) (k : Conditions r) where
       (each-with b (each-with d (each-with t (each-with m (each-with x u)))))
 
   rows-of-suite : (s : TestSuite) → every fitsRow (suiteRows s) ≡ true
-      → (fitsRow (suiteRow s) ≡ true) × (every fitsRow (map (pairRow 13) (s .extra)) ≡ true) × (every fitsRow (map (pairRow 4) (s .properties)) ≡ true) × Each (λ c. every fitsRow (caseRows c) ≡ true) (s .cases)
+      → (fitsRow (suiteRow s) ≡ true) × (every fitsRow (map (pairRow 13) (s .extra)) ≡ true)
+      × (every fitsRow (map (pairRow 4) (s .properties)) ≡ true) × Each (λ c. every fitsRow (caseRows c) ≡ true) (s .cases)
   rows-of-suite s e =
       let extra = map (pairRow 13) (s .extra) in
       let properties = map (pairRow 4) (s .properties) in

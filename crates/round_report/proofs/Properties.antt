@@ -66,7 +66,8 @@ unfolding numbered
 each-property n i [] f records texts s h = reads-none (Inside i) (Pairs []) records texts s h none
 each-property n i (p ∷ ps) f records texts s h =
     reads-same (numbered-property n p ps)
-    (reads-then (Inside i) (Pairs (p ∷ [])) records texts (Inside i) (Pairs ps) (Pairs (p ∷ ps)) (Tag Empty (bytes "property") n (pairAttributes p) ∷ []) (numbered (n + 2) (each serializeProperty ps)) s
+    (reads-then (Inside i) (Pairs (p ∷ [])) records texts (Inside i) (Pairs ps) (Pairs (p ∷ ps))
+    (Tag Empty (bytes "property") n (pairAttributes p) ∷ []) (numbered (n + 2) (each serializeProperty ps)) s
     (one-property n i p (and-left (fitsRow (pairRow 4 p)) (every fitsRow (map (pairRow 4) ps)) f) records texts s h)
     (each-property (n + 2) i ps (and-right (fitsRow (pairRow 4 p)) (every fitsRow (map (pairRow 4) ps)) f))
     (λ v w rs qs a b. first-pair v w rs qs p ps a b))
@@ -82,6 +83,7 @@ properties-read n (p ∷ ps) f before {rs} texts s k h =
     (numbered (n + 0) (each serializeProperty (p ∷ ps)) ++ (Tag End (bytes "properties") 0 [] ∷ [])) s
     (list-starts before texts s k h)
     λ t l.
-    reads-goes (Inside (length before)) (Pairs (p ∷ ps)) (before ++ rs) texts (Stands suite (length before)) (numbered (n + 0) (each serializeProperty (p ∷ ps))) (Tag End (bytes "properties") 0 [] ∷ []) t
+    reads-goes (Inside (length before)) (Pairs (p ∷ ps)) (before ++ rs) texts (Stands suite (length before))
+    (numbered (n + 0) (each serializeProperty (p ∷ ps))) (Tag End (bytes "properties") 0 [] ∷ []) t
     (each-property (n + 0) (length before) (p ∷ ps) f (before ++ rs) texts t l)
     (list-ends (length before)))

@@ -52,7 +52,8 @@ use Rattle.round_report.proofs.SuiteBack as suites
 use Rattle.round_report.proofs.ReportTags.{declared, declaration-goes, report-starts, report-ends, tail-goes, eof-step}
 
 -- ---- its records are read as the report
-report-decoded : (texts main : List ℕ) (rows : List (List ℕ)) (r : Report) → ReportShown texts main r → SuitesShown texts rows (r .suites) → Lasting texts (λ t. reportFrom t (only live (main ∷ rows))) (some r)
+report-decoded : (texts main : List ℕ) (rows : List (List ℕ)) (r : Report) → ReportShown texts main r
+    → SuitesShown texts rows (r .suites) → Lasting texts (λ t. reportFrom t (only live (main ∷ rows))) (some r)
 report-decoded texts main rows r h ss z =
     let k = h .blank .kind in
     let alive : live main ≡ true = lt-ltb (kindOf main) 16 (omega arith) in
@@ -144,7 +145,8 @@ module _ (r : Report) (g : PlainReport r) where
 
   texts-many : length texts ≤ length (laidOut (written r) .bytes)
   texts-many =
-      let h = held (subst (Holds (λ (t : Machine). Within (0 + mostRecordsOf (written r)) (0 + (0 + 0) + mostTextOf (written r)) (0 + 0 + pieces (written r)) (t .content))) last-run (run-takes (written r))) in
+      let h = held (subst (Holds (λ (t : Machine). Within (0 + mostRecordsOf (written r)) (0 + (0 + 0) + mostTextOf (written r)) (0 + 0 + pieces (written r)) (t .content)))
+      last-run (run-takes (written r))) in
       omega (arith, h .bytes, text-written r)
 
 -- the machine that reading ends with

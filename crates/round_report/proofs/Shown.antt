@@ -67,7 +67,15 @@ pub data SuitesShown (texts : List ℕ) : List (List ℕ) → List TestSuite →
 
 parts-on : (texts v : List ℕ) (below : List (List ℕ)) (s : TestSuite) → SuiteParts texts below s → SuiteParts (texts ++ v) below s
 parts-on texts v below s h =
-    record { extras = h .extras; properties = h .properties; rows = h .rows; whole = h .whole; extra = pairs-later texts v (h .extra); pairs = pairs-later texts v (h .pairs); cases = cases-on v (h .cases) }
+    record {
+      extras = h .extras;
+      properties = h .properties;
+      rows = h .rows;
+      whole = h .whole;
+      extra = pairs-later texts v (h .extra);
+      pairs = pairs-later texts v (h .pairs);
+      cases = cases-on v (h .cases);
+    }
 
 pub suite-on : (texts v : List ℕ) (rs : List (List ℕ)) (s : TestSuite) → SuiteRecords texts rs s → SuiteRecords (texts ++ v) rs s
 suite-on texts v rs s h =

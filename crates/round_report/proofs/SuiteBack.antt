@@ -54,7 +54,8 @@ numbered-start n s c cs =
     ap (λ (l : List Event). Tag Start (bytes "testsuite") (numberOf n s) (suiteAttributes s) ∷ l) (numbered-append (n + length (suiteAttributes s)) (c ∷ cs) (endTag (bytes "testsuite") ∷ []))
 
 -- a suite without anything inside
-alone : {texts main : List ℕ} {extras : List (List ℕ)} (s : TestSuite) → Childless s → SuiteShown texts main s → PairsShown kind.suiteExtra texts extras (s .extra) → SuiteRecords texts (main ∷ extras) s
+alone : {texts main : List ℕ} {extras : List (List ℕ)} (s : TestSuite) → Childless s → SuiteShown texts main s
+    → PairsShown kind.suiteExtra texts extras (s .extra) → SuiteRecords texts (main ∷ extras) s
 alone {texts} {main} {extras} s c h x =
     subst (λ (l : List (List ℕ)). SuiteRecords texts (main ∷ l) s) (append-nil extras)
     (suite-records s
@@ -73,7 +74,8 @@ module _ (n i : ℕ) (s : TestSuite) (g : PlainSuite s) (records : List (List �
         read = alone s c (o .shown) (o .pairs);
       }
 
-  full-read : Reads ((Tag Start (bytes "testsuite") (numberOf n s) (suiteAttributes s) ∷ []) ++ (numbered (n + length (suiteAttributes s)) (children s) ++ (Tag End (bytes "testsuite") 0 [] ∷ []))) m AtTop (One s) records texts
+  full-read : Reads ((Tag Start (bytes "testsuite") (numberOf n s) (suiteAttributes s) ∷ []) ++ (numbered (n + length (suiteAttributes s)) (children s) ++ (Tag End (bytes "testsuite") 0 [] ∷ [])))
+      m AtTop (One s) records texts
   full-read =
       let o = suite-opened (placeOf (openSuite false) m) (numberOf n s) records texts s (g .row) (g .extras) (g .time) (g .timestamp) (g .keys) in
       let a = suite-starts i (numberOf n s) (suiteAttributes s) records texts m k o in
@@ -103,7 +105,8 @@ module _ (n i : ℕ) (s : TestSuite) (g : PlainSuite s) (records : List (List �
       go (c ∷ cs) e =
           reads-same
           (numbered-start n s c cs
-          ∙ ap (λ (l : List Event). (Tag Start (bytes "testsuite") (numberOf n s) (suiteAttributes s) ∷ []) ++ (numbered (n + length (suiteAttributes s)) l ++ (Tag End (bytes "testsuite") 0 [] ∷ []))) (sym e))
+          ∙ ap (λ (l : List Event).
+          (Tag Start (bytes "testsuite") (numberOf n s) (suiteAttributes s) ∷ []) ++ (numbered (n + length (suiteAttributes s)) l ++ (Tag End (bytes "testsuite") 0 [] ∷ []))) (sym e))
           full-read
 
 pub suites-read : (n : ℕ) {ss : List TestSuite} → Each PlainSuite ss → (records : List (List ℕ)) (texts : List ℕ) (m : Machine) → AtTop records texts m

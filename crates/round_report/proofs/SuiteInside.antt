@@ -110,7 +110,8 @@ module _ (s : TestSuite) (g : PlainSuite s) where
           goes = subst (λ (l : List Event). Goes l m (Stands suite (length before) (before ++ (last-read .main ∷ (extras ++ rows))) (texts ++ (middle-read .added ++ v)))) (sym (numbered-inside n))
               (record {
                 after = after;
-                leads = leads-then (numbered n first ++ numbered (behind n first) second) (numbered (behind (behind n first) second) third) m (middle-read .goes .after) after (middle-read .goes .leads) (last-read .goes .leads);
+                leads = leads-then (numbered n first ++ numbered (behind n first) second) (numbered (behind (behind n first) second) third)
+                    m (middle-read .goes .after) after (middle-read .goes .leads) (last-read .goes .leads);
                 holds = subst (λ (t : List ℕ). Stands suite (length before) (before ++ (last-read .main ∷ (extras ++ rows))) t after) o (last-read .goes .holds);
               });
           read = subst (λ (t : List ℕ). SuiteRecords t (last-read .main ∷ (extras ++ rows)) s) o read-so;

@@ -28,8 +28,10 @@ use Rattle.round_report.proofs.Gathered.{out-named, err-named, output-g
 -- ---- texts that may be missing
 pub goods : (s : TestSuite) → fitsRow (suiteRow s) ≡ true → every bare (listed (s .systemOut) ++ listed (s .systemErr)) ≡ true → Cleans (s .systemOut) × Cleans (s .systemErr)
 goods s f b =
-    let g = fitting (suiteRow s) f in
-    (cleans (s .systemOut) (g .out) (every-front bare (listed (s .systemOut)) (listed (s .systemErr)) b), cleans (s .systemErr) (g .err) (every-behind bare (listed (s .systemOut)) (listed (s .systemErr)) b))
+    let g = fitting (suiteRow s) f in (
+      cleans (s .systemOut) (g .out) (every-front bare (listed (s .systemOut)) (listed (s .systemErr)) b),
+      cleans (s .systemErr) (g .err) (every-behind bare (listed (s .systemOut)) (listed (s .systemErr)) b),
+    )
 
 -- ---- behind the outputs
 pub record OutputsRead (es : List Event) (m : Machine) (before rest : List (List ℕ)) (texts : List ℕ) (s : TestSuite) (o e : Option Text) : Type 0 where
@@ -39,7 +41,8 @@ pub record OutputsRead (es : List Event) (m : Machine) (before rest : List (List
   pub head : SuiteHeld s o e (texts ++ added) main
 
 module _ (before rest : List (List ℕ)) (s : TestSuite) (n : ℕ) where
-  nothing-read : (main texts : List ℕ) (m : Machine) (o e : Option Text) → SuiteHeld s o e texts main → Stands suite (length before) (before ++ (main ∷ rest)) texts m → OutputsRead [] m before rest texts s o e
+  nothing-read : (main texts : List ℕ) (m : Machine) (o e : Option Text) → SuiteHeld s o e texts main
+      → Stands suite (length before) (before ++ (main ∷ rest)) texts m → OutputsRead [] m before rest texts s o e
   nothing-read main texts m o e h k =
       record {
         main = main;
@@ -88,7 +91,8 @@ outputs-read before rest s n main texts m o e g f h k =
       added = a .added ++ b .added;
       goes = record {
         after = b .goes .after;
-        leads = subst (λ (l : List Event). Leads l m (b .goes .after)) (sym (numbered-append n es fs)) (leads-then (numbered n es) (numbered (behind n es) fs) m (a .goes .after) (b .goes .after) (a .goes .leads) (b .goes .leads));
+        leads = subst (λ (l : List Event). Leads l m (b .goes .after)) (sym (numbered-append n es fs))
+            (leads-then (numbered n es) (numbered (behind n es) fs) m (a .goes .after) (b .goes .after) (a .goes .leads) (b .goes .leads));
         holds = subst (λ (t : List ℕ). Stands suite (length before) (before ++ (b .main ∷ rest)) t (b .goes .after)) q (b .goes .holds);
       };
       head = subst (λ (t : List ℕ). SuiteHeld s o e t (b .main)) q (b .head);

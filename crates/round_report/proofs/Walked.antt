@@ -28,7 +28,15 @@ quiet-extra o κ e = rw e refl
 status-told : (o : Open) (κ : ℕ) → 6 ≤ κ → κ ≤ 12 → following o (only-kind κ) .tally ≡ tallied (o .tally) κ
 unfolding following
 status-told o κ a b =
-    rw (ne-eqb κ 1 (λ e. omega arith), ne-eqb κ 2 (λ e. omega arith), ne-eqb κ 3 (λ e. omega arith), ne-eqb κ 13 (λ e. omega arith), ne-eqb κ 14 (λ e. omega arith), ne-eqb κ 4 (λ e. omega arith), ne-eqb κ 5 (λ e. omega arith)) refl
+    rw (
+      ne-eqb κ 1 (λ e. omega arith),
+      ne-eqb κ 2 (λ e. omega arith),
+      ne-eqb κ 3 (λ e. omega arith),
+      ne-eqb κ 13 (λ e. omega arith),
+      ne-eqb κ 14 (λ e. omega arith),
+      ne-eqb κ 4 (λ e. omega arith),
+      ne-eqb κ 5 (λ e. omega arith),
+    ) refl
 
 abbrev runsIn : Tally → ℕ
 runsIn t = t .flaky + t .reruns
@@ -51,7 +59,8 @@ record RunMore (t u : Tally) : Type 0 where
 
 run-told : (t : Tally) (κ : ℕ) → 9 ≤ κ → RunMore t (tallied t κ)
 unfolding tallied
-run-told t κ h = subst (RunMore t) (sym (ap (λ (b : Bool). cond b (record { mains = suc (t .mains); main = κ; flaky = t .flaky; reruns = t .reruns }) (cond (leb κ 10) (flakyMore t) (rerunMore t))) (lt-leb κ 8 h))) (go (leb κ 10))
+run-told t κ h = subst (RunMore t)
+    (sym (ap (λ (b : Bool). cond b (record { mains = suc (t .mains); main = κ; flaky = t .flaky; reruns = t .reruns }) (cond (leb κ 10) (flakyMore t) (rerunMore t))) (lt-leb κ 8 h))) (go (leb κ 10))
   where
     go : (b : Bool) → RunMore t (cond b (flakyMore t) (rerunMore t))
     go true = record { mains = refl; main = refl; runs = omega arith }
@@ -119,11 +128,19 @@ walk-below o ks p (more {x = r} {xs = rs} s hs) w = go s (λ q v. walk-below q k
     go (property e) f =
         let t = tests-property r e in
         let b = f (following o (only-kind (kindOf r))) (path-first (omega arith) w .1) in
-        record { to = b .to; path = b .path; told = told-quiet (o .tally) (b .to .tally) r rs (t .main) (t .run) (subst (λ (x : Tally). Told x rs (b .to .tally)) (quiet-property o (kindOf r) e) (b .told)) }
+        record {
+          to = b .to;
+          path = b .path;
+          told = told-quiet (o .tally) (b .to .tally) r rs (t .main) (t .run) (subst (λ (x : Tally). Told x rs (b .to .tally)) (quiet-property o (kindOf r) e) (b .told));
+        }
     go (extra e) f =
         let t = tests-extra r e in
         let b = f (following o (only-kind (kindOf r))) (path-first (omega arith) w .1) in
-        record { to = b .to; path = b .path; told = told-quiet (o .tally) (b .to .tally) r rs (t .main) (t .run) (subst (λ (x : Tally). Told x rs (b .to .tally)) (quiet-extra o (kindOf r) e) (b .told)) }
+        record {
+          to = b .to;
+          path = b .path;
+          told = told-quiet (o .tally) (b .to .tally) r rs (t .main) (t .run) (subst (λ (x : Tally). Told x rs (b .to .tally)) (quiet-extra o (kindOf r) e) (b .told));
+        }
     go (main x y) f =
         let t = tests-main r x y in
         let b = f (following o (only-kind (kindOf r))) (path-first (omega arith) w .1) in
@@ -133,7 +150,12 @@ walk-below o ks p (more {x = r} {xs = rs} s hs) w = go s (λ q v. walk-below q k
         let t = tests-run r x y in
         let b = f (following o (only-kind (kindOf r))) (path-first (omega arith) w .1) in
         let e = status-told o (kindOf r) (omega arith) y in
-        record { to = b .to; path = b .path; told = told-run (o .tally) (b .to .tally) r rs (tallied (o .tally) (kindOf r)) (t .main) (t .run) (run-told (o .tally) (kindOf r) x) (subst (λ (x : Tally). Told x rs (b .to .tally)) e (b .told)) }
+        record {
+          to = b .to;
+          path = b .path;
+          told = told-run (o .tally) (b .to .tally) r rs (tallied (o .tally) (kindOf r)) (t .main) (t .run)
+              (run-told (o .tally) (kindOf r) x) (subst (λ (x : Tally). Told x rs (b .to .tally)) e (b .told));
+        }
 
 -- ---- the rule
 pub ruled-so : (t : Tally) → ruled t ≡ true → (t .mains ≤ 1) × (t .main ≡ 8 → runsIn t ≡ 0)

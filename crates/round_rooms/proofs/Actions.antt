@@ -17,7 +17,8 @@ use Rattle.read_state.specs.Control.{Act, pass, openReport, openSuite, openCase
 use Rattle.read_rules.specs.Rules.{planAt, planEof, planFault}
 use Rattle.read_place.specs.Marks.{Marks}
 use Rattle.read_path.specs.Paths.{actPlace}
-use Rattle.read_content.specs.Content.{Content, killAll, killKind, propertyKind, recordOf, wordOf, bitOf, takes, kept, pieceOf, joinPiece, gather, adding, withRecords, cleaned, keeping, isEmpty, describing, outputting, perform}
+use Rattle.read_content.specs.Content.{Content, killAll, killKind, propertyKind, recordOf, wordOf, bitOf, takes, kept, pieceOf, joinPiece}
+use Rattle.read_content.specs.Content.{gather, adding, withRecords, cleaned, keeping, isEmpty, describing, outputting, perform}
 use Rattle.read_machine.specs.Machine.{Machine, act, step}
 use Rattle.read_machine.proofs.TreeKept.{length-all, length-kind}
 use Rattle.round_rooms.specs.Pieces.{pieceSize, eventSize}

@@ -56,6 +56,7 @@ passed true p why m t = refl
 passed false p why m t = absurd t
 
 -- the law of all three areas: there is room for x
-pub fitting : {A : Type 0} {Q : A → Type 0} (most x : ℕ) (p : Place) (why : Cause) {m n : Outcome A} → x ≤ most → Alike Q m n → Alike Q (need (fits (some most) x) p why m) (need (fits none x) p why n)
+pub fitting : {A : Type 0} {Q : A → Type 0} (most x : ℕ) (p : Place) (why : Cause) {m n : Outcome A}
+    → x ≤ most → Alike Q m n → Alike Q (need (fits (some most) x) p why m) (need (fits none x) p why n)
 unfolding need fits
 fitting {Q = Q} most x p why {m} {n} l h = subst (λ (o : Outcome _). Alike Q o n) (passed (leb x most) p why m (le→leb x most l)) h

@@ -80,15 +80,19 @@ module _ (n m k : ℕ) where
   role-alike p used kind key (role.Text o b) x g h l =
       weaken (text-alike (within p key) o b (x .value) g (omega (arith, l))) (λ q u. record { extras = omega (arith, u .extras); texts = omega (arith, u .texts) })
   role-alike p used kind key (role.Count o) x g h l = bind (leaf _) λ _ _. gives (stays (length (g .extras)) (length (g .texts)) (length (x .key) + length (x .value)) _ (omega arith) (omega arith))
-  role-alike p used kind key (role.Number o b) x g h l = bind (leaf _) λ _ _. gives (stays (length (g .extras)) (length (g .texts)) (length (x .key) + length (x .value)) _ (omega arith) (omega arith))
+  role-alike p used kind key (role.Number o b) x g h l =
+      bind (leaf _) λ _ _. gives (stays (length (g .extras)) (length (g .texts)) (length (x .key) + length (x .value)) _ (omega arith) (omega arith))
   role-alike p used kind key role.Uuid x g h l = bind (leaf _) λ _ _. gives (stays (length (g .extras)) (length (g .texts)) (length (x .key) + length (x .value)) _ (omega arith) (omega arith))
-  role-alike p used kind key (role.Timestamp kept) x g h l = bind (leaf _) λ _ _. gives (stays (length (g .extras)) (length (g .texts)) (length (x .key) + length (x .value)) _ (omega arith) (omega arith))
+  role-alike p used kind key (role.Timestamp kept) x g h l =
+      bind (leaf _) λ _ _. gives (stays (length (g .extras)) (length (g .texts)) (length (x .key) + length (x .value)) _ (omega arith) (omega arith))
   role-alike p used kind key (role.Time kept) x g h l = bind (leaf _) λ _ _. gives (stays (length (g .extras)) (length (g .texts)) (length (x .key) + length (x .value)) _ (omega arith) (omega arith))
   role-alike p used kind key role.Extra x g h l = extra-alike p used kind x g h l
   role-alike p used kind key role.Ignored x g h l = gives (stays (length (g .extras)) (length (g .texts)) (length (x .key) + length (x .value)) g (omega arith) (omega arith))
 
-  attributes-alike : (p : Place) (used kind : ℕ) (before : List (List ℕ)) (j : ℕ) (xs : List Attribute) (g : Given) → used + 1 + length (g .extras) + length xs ≤ n → length (g .texts) + attributeBytes xs ≤ m
-      → Alike (Upto (length (g .extras) + length xs) (length (g .texts) + attributeBytes xs)) (readAttributes (rooms n m k) p used kind before j xs g) (readAttributes unlimited p used kind before j xs g)
+  attributes-alike : (p : Place) (used kind : ℕ) (before : List (List ℕ)) (j : ℕ) (xs : List Attribute) (g : Given)
+      → used + 1 + length (g .extras) + length xs ≤ n → length (g .texts) + attributeBytes xs ≤ m
+      → Alike (Upto (length (g .extras) + length xs) (length (g .texts) + attributeBytes xs))
+      (readAttributes (rooms n m k) p used kind before j xs g) (readAttributes unlimited p used kind before j xs g)
   unfolding readAttributes
   attributes-alike p used kind before j [] g h l = gives {a = g} (record { extras = omega arith; texts = omega arith })
   attributes-alike p used kind before j (x ∷ xs) g h l =

@@ -21,7 +21,8 @@ use Rattle.read_state.specs.Control.{Act, pass, openReport, openSuite, openCase
 use Rattle.read_rules.specs.Rules.{atTop, atSuite, atCase, atStatus, inText, inList, inSkip, tagOfOutput, planAt, planEof, planFault}
 use Rattle.read_place.specs.Marks.{Marks}
 use Rattle.read_path.specs.Paths.{actPlace}
-use Rattle.read_content.specs.Content.{Content, killAll, killKind, propertyKind, recordOf, wordOf, bitOf, takes, kept, pieceOf, joinPiece, gather, adding, withRecords, cleaned, keeping, isEmpty, describing, outputting, perform}
+use Rattle.read_content.specs.Content.{Content, killAll, killKind, propertyKind, recordOf, wordOf, bitOf, takes, kept, pieceOf, joinPiece}
+use Rattle.read_content.specs.Content.{gather, adding, withRecords, cleaned, keeping, isEmpty, describing, outputting, perform}
 use Rattle.read_machine.specs.Machine.{Machine, act, step}
 use Rattle.read_machine.proofs.TreeKept.{length-all, length-kind}
 use Rattle.round_rooms.specs.Pieces.{pieceSize, eventSize}
@@ -106,7 +107,8 @@ module _ (n m k : ℕ) where
       bind (element-alike n m k p kind j xs (c .records) (c .texts) h (omega (arith, l))) λ g u.
       gives (record { records = u .records; bytes = omega (arith, u .texts); opens = omega arith })
 
-  keeping-alike : (p : Place) (b : Bool) (i o t : ℕ) (v : List ℕ) (c : Content) → length (c .texts) + length v ≤ m → Alike (Kept c v) (keeping (rooms n m k) p b i o t v c) (keeping unlimited p b i o t v c)
+  keeping-alike : (p : Place) (b : Bool) (i o t : ℕ) (v : List ℕ) (c : Content) → length (c .texts) + length v ≤ m
+      → Alike (Kept c v) (keeping (rooms n m k) p b i o t v c) (keeping unlimited p b i o t v c)
   unfolding keeping
   keeping-alike p b i o t v c l =
       let z = cleaned-size v in
@@ -117,21 +119,24 @@ module _ (n m k : ℕ) where
         description = refl;
       }))
 
-  describing-alike : (p : Place) (s : Marks) (c : Content) → weight c ≤ m → Alike (Within (length (c .records) + 0) (weight c + 0) (taken c)) (describing (rooms n m k) p s c) (describing unlimited p s c)
+  describing-alike : (p : Place) (s : Marks) (c : Content) → weight c ≤ m
+      → Alike (Within (length (c .records) + 0) (weight c + 0) (taken c)) (describing (rooms n m k) p s c) (describing unlimited p s c)
   unfolding describing
   describing-alike p s c l =
       choosing (isEmpty (trimmed (c .description))) (gives (record { records = omega arith; bytes = omega arith; opens = omega arith }))
       (bind (keeping-alike p true (s .statusAt) 20 6 (c .description) c (omega (arith, l))) λ d u.
       gives (record { records = omega (arith, u .records); bytes = omega (arith, u .texts); opens = omega arith }))
 
-  outputting-alike : (p : Place) (v : Level) (o : Output) (s : Marks) (c : Content) → weight c ≤ m → Alike (Within (length (c .records) + 0) (weight c + 0) (taken c)) (outputting (rooms n m k) p v o s c) (outputting unlimited p v o s c)
+  outputting-alike : (p : Place) (v : Level) (o : Output) (s : Marks) (c : Content) → weight c ≤ m
+      → Alike (Within (length (c .records) + 0) (weight c + 0) (taken c)) (outputting (rooms n m k) p v o s c) (outputting unlimited p v o s c)
   unfolding outputting
   outputting-alike p v o s c l =
       bind (keeping-alike p (takes v s) (recordOf v s) (wordOf o) (bitOf o) (c .gathered) c (omega (arith, l))) λ d u.
       gives (record { records = omega (arith, u .records); bytes = omega (arith, u .texts, u .description); opens = omega (arith, u .description) })
 
   -- the same with attributes that aren't read
-  read-less : {x y : _} (c : Content) (xs : List Attribute) → Alike (Within (length (c .records) + 0) (weight c + 0) (taken c)) x y → Alike (Within (length (c .records) + 0) (weight c + attributeBytes xs) (taken c)) x y
+  read-less : {x y : _} (c : Content) (xs : List Attribute) → Alike (Within (length (c .records) + 0) (weight c + 0) (taken c)) x y
+      → Alike (Within (length (c .records) + 0) (weight c + attributeBytes xs) (taken c)) x y
   read-less c xs h = weaken h (λ d w. record { records = w .records; bytes = omega (arith, w .bytes); opens = w .opens })
 
   perform-alike : (p : Place) (a : Act) (j : ℕ) (xs : List Attribute) (t : Control) (s : Marks) (c : Content) → length (c .records) + spends a (length xs) ≤ n → weight c + attributeBytes xs ≤ m
@@ -225,14 +230,16 @@ tag-spends End mode seen name j xs = omega (arith, none (length xs) (ends (lengt
 -- ---- steps
 module _ (n m k : ℕ) where
   act-alike : (a : Act) (j : ℕ) (xs : List Attribute) (s : Machine) (r : ℕ) → spends a (length xs) ≤ r → length (s .content .records) + r ≤ n → weight (s .content) + attributeBytes xs ≤ m
-      → Alike (λ (t : Machine). Within (length (s .content .records) + r) (weight (s .content) + attributeBytes xs) (taken (s .content) + 0) (t .content)) (act (rooms n m k) a j xs s) (act unlimited a j xs s)
+      → Alike (λ (t : Machine). Within (length (s .content .records) + r) (weight (s .content) + attributeBytes xs) (taken (s .content) + 0) (t .content))
+      (act (rooms n m k) a j xs s) (act unlimited a j xs s)
   unfolding act
   act-alike a j xs s r z h l =
       bind (perform-alike n m k (actPlace a (s .control .mode) (s .marks)) a j xs (s .control) (s .marks) (s .content) (omega (arith, z, h)) l) λ c w.
       gives (record { records = omega (arith, z, w .records); bytes = w .bytes; opens = omega (arith, w .opens) })
 
   pub step-alike : (e : Event) (s : Machine) → length (s .content .records) + eventRecords e ≤ n → weight (s .content) + eventBytes e ≤ m → taken (s .content) + eventSize e ≤ k
-      → Alike (λ (t : Machine). Within (length (s .content .records) + eventRecords e) (weight (s .content) + eventBytes e) (taken (s .content) + eventSize e) (t .content)) (step (rooms n m k) e s) (step unlimited e s)
+      → Alike (λ (t : Machine). Within (length (s .content .records) + eventRecords e) (weight (s .content) + eventBytes e) (taken (s .content) + eventSize e) (t .content))
+      (step (rooms n m k) e s) (step unlimited e s)
   unfolding step
   step-alike (Tag b name j xs) s h l o =
       act-alike (planAt (s .control .mode) (s .control .seen) b name) j xs s (eventRecords (Tag b name j xs)) (tag-spends b (s .control .mode) (s .control .seen) name j xs) h l

@@ -70,7 +70,8 @@ module _ (n m k : ℕ) where
       (let i = placeOf (g .texts) (valueText (x .key)) (g .extras) in
       choosing (leb (length (g .extras)) i) (new-suits used p kind (valueText (x .key)) (valueText (x .value)) g) (old-suits used p (valueText (x .value)) i g))
 
-  role-suits : (used : ℕ) (p : Place) (kind key : ℕ) (role : Role) (x : Attribute) (g : Given) → Suits (GivenFits used g) (GivenFits used) (byRole rooms p used kind key role x g) (byRole unlimited p used kind key role x g)
+  role-suits : (used : ℕ) (p : Place) (kind key : ℕ) (role : Role) (x : Attribute) (g : Given)
+      → Suits (GivenFits used g) (GivenFits used) (byRole rooms p used kind key role x g) (byRole unlimited p used kind key role x g)
   unfolding byRole
   role-suits used p kind key (role.Text o b) x g = text-suits used (within p key) o b (x .value) g
   role-suits used p kind key (role.Count o) x g = bind (leaf _) λ _. comes λ f. f

@@ -21,7 +21,8 @@ use Rattle.round_rooms.proofs.AlikeSteps.{weight, Within, step-alike}
 
 module _ (n m k : ℕ) where
   run-alike : (es : List Event) (s : Machine) → length (s .content .records) + mostRecordsOf es ≤ n → weight (s .content) + mostTextOf es ≤ m → taken (s .content) + pieces es ≤ k
-      → Alike (λ (t : Machine). Within (length (s .content .records) + mostRecordsOf es) (weight (s .content) + mostTextOf es) (taken (s .content) + pieces es) (t .content)) (run (rooms n m k) es s) (run unlimited es s)
+      → Alike (λ (t : Machine). Within (length (s .content .records) + mostRecordsOf es) (weight (s .content) + mostTextOf es) (taken (s .content) + pieces es) (t .content))
+      (run (rooms n m k) es s) (run unlimited es s)
   unfolding run mostRecordsOf mostTextOf pieces
   run-alike [] s h l o = step-alike n m k Eof s h l o
   run-alike (e ∷ es) s h l o =

@@ -11,8 +11,10 @@ use Rattle.write_escape.specs.Escape.{escaped}
 use Rattle.table.specs.Event.{Attribute, TagKind, Event, Tag, Piece, Eof, Fault, Empty, End, Start, Text}
 use Rattle.tree_report.specs.Report.{Pair, NonSuccessKind, failure, error, FlakyOrRerun, flaky, rerun, TestRerun, TestCaseStatus, success, nonSuccess, skipped, TestCase, TestSuite, Report}
 use Rattle.tree_report.specs.Report as report
-use Rattle.write_report.specs.Written.{startTag, endTag, textEvent, indent, optional, each, element, described, indented, runName, mainName, runChildren, stamped, timed, statusAttributes, caseAttributes, suiteAttributes, reportAttributes, declaration, numbered, written}
-use Rattle.write_report.specs.Written.{serializeOutput, serializeProperty, serializeProperties, serializeOutputs, serializeStatus, serializeRerun, serializeElements, serializeTestCase, serializeTestSuite, serializeReport}
+use Rattle.write_report.specs.Written.{startTag, endTag, textEvent, indent, optional, each, element, described, indented, runName, mainName, runChildren}
+use Rattle.write_report.specs.Written.{stamped, timed, statusAttributes, caseAttributes, suiteAttributes, reportAttributes, declaration, numbered, written}
+use Rattle.write_report.specs.Written.{serializeOutput, serializeProperty, serializeProperties, serializeOutputs, serializeStatus}
+use Rattle.write_report.specs.Written.{serializeRerun, serializeElements, serializeTestCase, serializeTestSuite, serializeReport}
 use Rattle.write_table.specs.Laid.{Item, itemsOfEvent, itemsOf, pairsOf, laidBytes, laidOut}
 use Rattle.round_rooms.specs.Pieces.{eventSize, pieces}
 use Rattle.round_rooms.specs.Needs.{attributeBytes, mostTextOf}

@@ -19,7 +19,10 @@ is-ruled-requires : tie.Need-is-ruled-requires
 is-ruled-requires c κs = search needs
 
 returns : tie.Need-returns
-returns c = λ rooms p s k j xs attributes source pa kt hd li sz. rw (c .before .before .enum-told3 .given .1) (closed-case p k (marksOf (c .before .before .before .before .before .before .before .args .marks)) rooms j xs (c .before .before .before .before .before .before .before .args .content) s (ap ruled kt ∙ sym (c .before .is-ruled .ensures) ∙ c .if1 .taken) hd (rw (c .before .before .enum-told3 .given .1) at li))
+returns c =
+    let args = c .before .before .before .before .before .before .before .args in
+    λ rooms p s k j xs attributes source pa kt hd li sz. rw (c .before .before .enum-told3 .given .1) (closed-case p k (marksOf (args .marks)) rooms j
+    xs (args .content) s (ap ruled kt ∙ sym (c .before .is-ruled .ensures) ∙ c .if1 .taken) hd (rw (c .before .before .enum-told3 .given .1) at li))
 
 refused-requires : tie.Need-refused-requires
 refused-requires c κs = search needs
@@ -28,16 +31,25 @@ enum-told-4 : tie.Need-enum-told-4
 enum-told-4 c = search needs
 
 close-status-requires : tie.Need-close-status-requires
-close-status-requires c κs = ((rw (c .before .before .enum-told4 .given .1) at (c .before .before .before .before .before .before .before .pre .1 .1 .1)), (c .before .before .before .before .before .before .before .pre .1 .0, (c .before .before .before .before .before .before .before .pre .0, c .before .before .before .before .before .before .before .pre .1 .1 .0)))
+close-status-requires c κs =
+    let pre = c .before .before .before .before .before .before .before .pre in
+    ((rw (c .before .before .enum-told4 .given .1) at (pre .1 .1 .1)), (pre .1 .0, (pre .0, pre .1 .1 .0)))
 
 returns-2 : tie.Need-returns-2
-returns-2 c = λ rooms p s k j xs attributes source pa kt hd li sz. rw (c .enum-told .given .1) (closed-top p k (marksOf (c .before .before .before .before .before .args .marks)) rooms j xs (c .before .before .before .before .before .args .content) s hd (rw (c .enum-told .given .1) at li))
+returns-2 c =
+    let args = c .before .before .before .before .before .args in
+    λ rooms p s k j xs attributes source pa kt hd li sz. rw (c .enum-told .given .1) (closed-top p k (marksOf (args .marks)) rooms j xs (args .content) s hd (rw (c .enum-told .given .1) at li))
 
 returns-3 : tie.Need-returns-3
-returns-3 c = λ rooms p s k j xs attributes source pa kt hd li sz. rw (c .enum-told2 .given .1) (closed-suite p k (marksOf (c .before .before .before .before .before .args .marks)) rooms j xs (c .before .before .before .before .before .args .content) s hd (rw (c .enum-told2 .given .1) at li))
+returns-3 c =
+    let args = c .before .before .before .before .before .args in
+    λ rooms p s k j xs attributes source pa kt hd li sz. rw (c .enum-told2 .given .1) (closed-suite p k (marksOf (args .marks)) rooms j xs (args .content) s hd (rw (c .enum-told2 .given .1) at li))
 
 returns-4 : tie.Need-returns-4
-returns-4 c = λ rooms p s k j xs attributes source pa kt hd li sz. rw (c .before .before .before .enum-told3 .given .1) (closed-not p k (marksOf (c .before .before .before .before .before .before .before .before .args .marks)) rooms j xs (c .before .before .before .before .before .before .before .before .args .content) s (ap ruled kt ∙ sym (c .before .before .is-ruled .ensures) ∙ c .before .if1 .left) pa (c .refused .ensures))
+returns-4 c =
+    let args = c .before .before .before .before .before .before .before .before .args in
+    λ rooms p s k j xs attributes source pa kt hd li sz. rw (c .before .before .before .enum-told3 .given .1)
+    (closed-not p k (marksOf (args .marks)) rooms j xs (args .content) s (ap ruled kt ∙ sym (c .before .before .is-ruled .ensures) ∙ c .before .if1 .left) pa (c .refused .ensures))
 
 same-length : tie.Need-same-length
 same-length c = search needs
@@ -46,7 +58,12 @@ same-length-2 : tie.Need-same-length-2
 same-length-2 c = search needs
 
 returns-5 : tie.Need-returns-5
-returns-5 c = λ rooms p s k j xs attributes source pa kt hd li sz. rw (c .before .before .before .before .before .before .before .enum-told4 .given .1) (closed-status p k (marksOf (c .before .before .before .before .before .before .before .before .before .before .before .before .args .marks)) rooms j xs (c .before .before .before .before .before .before .before .before .before .before .before .before .args .content) s (c .before .before .before .before .close-status .ensures rooms p s (marksOf (c .before .before .before .before .before .before .before .before .before .before .before .before .args .marks)) attributes source refl pa hd (rw (c .before .before .before .before .before .before .before .enum-told4 .given .1) at li) sz))
+returns-5 c =
+    let args = c .before .before .before .before .before .before .before .before .before .before .before .before .args in
+    let enum-told4 = c .before .before .before .before .before .before .before .enum-told4 in
+    let close-status = c .before .before .before .before .close-status in
+    λ rooms p s k j xs attributes source pa kt hd li sz. rw (enum-told4 .given .1) (closed-status p k (marksOf (args .marks)) rooms j xs
+    (args .content) s (close-status .ensures rooms p s (marksOf (args .marks)) attributes source refl pa hd (rw (enum-told4 .given .1) at li) sz))
 
 pub close-spec : {M : Type 1} → statement M
 close-spec =

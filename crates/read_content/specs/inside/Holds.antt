@@ -208,7 +208,16 @@ withList status c l = content (c .used) (c .fill) (c .description) (c .gathered)
 -- an element more is read
 abbrev pub addedIn : CodedGrown → CodedContent → CodedContent
 addedIn e c =
-    record { used = c .used + e .records; fill = e .fill; description = c .description; gathered = c .gathered; «report_at» = c .«report_at»; «suite_list» = c .«suite_list»; «case_list» = c .«case_list»; free = e .free }
+    record {
+      used = c .used + e .records;
+      fill = e .fill;
+      description = c .description;
+      gathered = c .gathered;
+      «report_at» = c .«report_at»;
+      «suite_list» = c .«suite_list»;
+      «case_list» = c .«case_list»;
+      free = e .free;
+    }
 
 abbrev pub addedTo : Element → CodedContent → Performed
 addedTo (element.Is e) c = To (addedIn e c)

@@ -40,10 +40,16 @@ returns : tie.Need-returns
 returns c = rw (c .before .enum-told .given .1) (c .level-path .ensures)
 
 returns-2 : tie.Need-returns-2
-returns-2 c = rw (c .before .before .before .enum-told2 .given .1) (leads-with (c .before .before .level-path2 .ensures) (c .with .ensures) (c .before .output-element .ensures) (level-room (levelOf (c .before .before .before .before .before .args .control .level)) (marksOf (c .before .before .before .before .before .args .m))))
+returns-2 c =
+    let args = c .before .before .before .before .before .args in
+    rw (c .before .before .before .enum-told2 .given .1)
+    (leads-with (c .before .before .level-path2 .ensures) (c .with .ensures) (c .before .output-element .ensures) (level-room (levelOf (args .control .level)) (marksOf (args .m))))
 
 returns-3 : tie.Need-returns-3
-returns-3 c = rw (c .before .before .before .enum-told3 .given .1) (leads-with (c .before .before .level-path3 .ensures) (c .with2 .ensures) (c .before .element-of .ensures) (level-room (levelOf (c .before .before .before .before .before .args .control .level)) (marksOf (c .before .before .before .before .before .args .m))))
+returns-3 c =
+    let args = c .before .before .before .before .before .args in
+    rw (c .before .before .before .enum-told3 .given .1)
+    (leads-with (c .before .before .level-path3 .ensures) (c .with2 .ensures) (c .before .element-of .ensures) (level-room (levelOf (args .control .level)) (marksOf (args .m))))
 
 pub mode-path-spec : {M : Type 1} → statement M
 mode-path-spec =

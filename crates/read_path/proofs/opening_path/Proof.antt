@@ -45,7 +45,8 @@ returns-3 : tie.Need-returns-3
 returns-3 c = λ empty mode. rw (c .before .before .before .match .keys3) (leads-with (c .before .before .suite-path .ensures) (c .with2 .ensures) (c .before .element-of2 .ensures) (omega arith))
 
 returns-4 : tie.Need-returns-4
-returns-4 c = λ empty mode. rw (opening-other _ _ (c .before .before .before .match .rest .0 .0 .1) (c .before .before .before .match .rest .0 .1) (c .before .before .before .match .rest .1)) (leads-with (c .before .before .case-path .ensures) (c .with3 .ensures) (c .before .element-of3 .ensures) (omega arith))
+returns-4 c = λ empty mode. rw (opening-other _ _ (c .before .before .before .match .rest .0 .0 .1) (c .before .before .before .match .rest .0 .1) (c .before .before .before .match .rest .1))
+    (leads-with (c .before .before .case-path .ensures) (c .with3 .ensures) (c .before .element-of3 .ensures) (omega arith))
 
 pub opening-path-spec : {M : Type 1} → statement M
 opening-path-spec =

@@ -83,13 +83,17 @@ returns : tie.Need-returns
 returns c = λ name. rw (c .before .before .act .given .1) (c .opening-path .ensures _ _)
 
 returns-2 : tie.Need-returns-2
-returns-2 c = λ name. rw (c .before .enum-told .given .1) (inside (λ (l : Level). pathOf (closing l) (modeOf (c .before .before .before .args .control)) (marksOf (c .before .before .before .args .m))) (c .before .before .before .args .control) (c .closing-path .ensures (modeOf (c .before .before .before .args .control))))
+returns-2 c =
+    λ name. rw (c .before .enum-told .given .1) (inside (λ (l : Level). pathOf (closing l) (modeOf (c .before .before .before .args .control)) (marksOf (c .before .before .before .args .m)))
+    (c .before .before .before .args .control) (c .closing-path .ensures (modeOf (c .before .before .before .args .control))))
 
 returns-3 : tie.Need-returns-3
 returns-3 c = λ name. rw (c .before .enum-told2 .given .1) (c .text-path .ensures name)
 
 returns-4 : tie.Need-returns-4
-returns-4 c = λ name. rw (c .before .enum-told3 .given .1) (inside (λ (l : Level). pathOf (readProperty l) (modeOf (c .before .before .before .args .control)) (marksOf (c .before .before .before .args .m))) (c .before .before .before .args .control) (c .property-path .ensures (modeOf (c .before .before .before .args .control))))
+returns-4 c =
+    λ name. rw (c .before .enum-told3 .given .1) (inside (λ (l : Level). pathOf (readProperty l) (modeOf (c .before .before .before .args .control)) (marksOf (c .before .before .before .args .m)))
+    (c .before .before .before .args .control) (c .property-path .ensures (modeOf (c .before .before .before .args .control))))
 
 returns-5 : tie.Need-returns-5
 returns-5 c = λ name. rw (c .before .enum-told4 .given .1) (c .mode-path .ensures)

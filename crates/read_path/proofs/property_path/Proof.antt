@@ -22,7 +22,11 @@ with-requires-2 : tie.Need-with-requires-2
 with-requires-2 c κs = search needs
 
 returns : tie.Need-returns
-returns c = λ mode. leads-two (c .before .before .before .before .level-path .ensures) (c .before .before .with .ensures) (c .before .before .before .element-of .ensures) (c .with2 .ensures) (c .before .element-of2 .ensures) (level-short (levelOf (c .before .before .before .before .before .args .level)) (marksOf (c .before .before .before .before .before .args .m)))
+returns c =
+    let args = c .before .before .before .before .before .args in
+    let level-path = c .before .before .before .before .level-path in
+    λ mode. leads-two (level-path .ensures) (c .before .before .with .ensures) (c .before .before .before .element-of .ensures)
+    (c .with2 .ensures) (c .before .element-of2 .ensures) (level-short (levelOf (args .level)) (marksOf (args .m)))
 
 pub property-path-spec : {M : Type 1} → statement M
 property-path-spec =

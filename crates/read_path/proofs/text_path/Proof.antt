@@ -22,7 +22,11 @@ with-requires : tie.Need-with-requires
 with-requires c κs = search needs
 
 returns : tie.Need-returns
-returns c = λ name. inside (λ (l : Level). pathOf (closeText l (outputIn (modeOf (c .before .before .before .before .args .control)))) (modeOf (c .before .before .before .before .args .control)) (marksOf (c .before .before .before .before .args .m))) (c .before .before .before .before .args .control) (leads-with (c .before .before .before .level-path .ensures) (c .with .ensures) (c .before .output-element .ensures ∙ ap outputElement (c .before .before .gathered .ensures)) (level-room (levelOf (c .before .before .before .before .args .control .level)) (marksOf (c .before .before .before .before .args .m))))
+returns c =
+    let args = c .before .before .before .before .args in
+    λ name. inside (λ (l : Level). pathOf (closeText l (outputIn (modeOf (args .control)))) (modeOf (args .control)) (marksOf (args .m)))
+    (args .control) (leads-with (c .before .before .before .level-path .ensures) (c .with .ensures)
+    (c .before .output-element .ensures ∙ ap outputElement (c .before .before .gathered .ensures)) (level-room (levelOf (args .control .level)) (marksOf (args .m))))
 
 pub text-path-spec : {M : Type 1} → statement M
 text-path-spec =

@@ -63,7 +63,8 @@ returns : tie.Need-returns
 returns c = λ name. rw (c .before .before .act .given .1) (c .opened .ensures)
 
 returns-2 : tie.Need-returns-2
-returns-2 c = λ name. rw (c .before .enum-told .given .1) (c .closed .ensures (c .before .before .before .args .n) ∙ ap (λ (l : Level). marksAfter (closing l) (c .before .before .before .args .n) (marksOf (c .before .before .before .args .marks))) (level-of (c .before .before .before .args .control)))
+returns-2 c = λ name. rw (c .before .enum-told .given .1) (c .closed .ensures (c .before .before .before .args .n)
+    ∙ ap (λ (l : Level). marksAfter (closing l) (c .before .before .before .args .n) (marksOf (c .before .before .before .args .marks))) (level-of (c .before .before .before .args .control)))
 
 returns-3 : tie.Need-returns-3
 unfolding marksAfter

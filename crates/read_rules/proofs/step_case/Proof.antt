@@ -22,7 +22,8 @@ returns c = λ name h. rw (c .before .match .keys1) (c .open-case .ensures name 
 
 returns-2 : tie.Need-returns-2
 unfolding atCase
-returns-2 c = λ name h. rw (c .before .before .match .keys2, h, sym (c .before .is-status .ensures) ∙ c .if1 .taken) (opening-status (c .before .before .before .args .tag) true (sym (c .before .is-status .ensures) ∙ c .if1 .taken))
+returns-2 c = λ name h. rw (c .before .before .match .keys2, h, sym (c .before .is-status .ensures) ∙ c .if1 .taken)
+    (opening-status (c .before .before .before .args .tag) true (sym (c .before .is-status .ensures) ∙ c .if1 .taken))
 
 returns-3 : tie.Need-returns-3
 unfolding atCase

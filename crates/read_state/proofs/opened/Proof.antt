@@ -47,7 +47,9 @@ returns-3 c = rw (c .before .before .before .match .keys3) (controls (c .inside2
 
 returns-4 : tie.Need-returns-4
 unfolding turn
-returns-4 c = rw (opening-other _ _ (c .before .before .before .before .match .rest .0 .0 .1) (c .before .before .before .before .match .rest .0 .1) (c .before .before .before .before .match .rest .1)) (controls (c .inside3 .ensures) (c .before .before .either3 .ensures) (c .before .tallied .ensures))
+returns-4 c =
+    let match = c .before .before .before .before .match in
+    rw (opening-other _ _ (match .rest .0 .0 .1) (match .rest .0 .1) (match .rest .1)) (controls (c .inside3 .ensures) (c .before .before .either3 .ensures) (c .before .tallied .ensures))
 
 pub opened-spec : {M : Type 1} → statement M
 opened-spec =

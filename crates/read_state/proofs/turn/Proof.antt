@@ -64,7 +64,8 @@ returns : tie.Need-returns
 returns c = λ name. rw (c .before .before .act .given .1) (c .opened .ensures)
 
 returns-2 : tie.Need-returns-2
-returns-2 c = λ name. rw (c .before .enum-told .given .1) (closes (c .before .before .before .args .control .mode) (levelOf (c .before .before .before .args .control .level)) (outputOf (c .before .before .before .args .control .output)) (controlOf (c .before .before .before .args .control)) (c .closed .ensures))
+returns-2 c = λ name. rw (c .before .enum-told .given .1) (closes (c .before .before .before .args .control .mode) (levelOf (c .before .before .before .args .control .level))
+    (outputOf (c .before .before .before .args .control .output)) (controlOf (c .before .before .before .args .control)) (c .closed .ensures))
 
 returns-3 : tie.Need-returns-3
 unfolding turn

@@ -4,7 +4,8 @@ use mathlib.Core.List.{List}
 use mathlib.Core.Bool.{Bool, true, false, cond}
 use lib.Dec.{eqb}
 use Rattle.tree_record.specs.Kinds as kind
-use Rattle.read_state.specs.Control.{Level, top, suite, case, status, Output, trace, out, err, Mode, at, gathering, listing, skipping, finished, Control, control, Act, pass, openReport, openSuite, openCase, openStatus, closeSuite, closeCase, closeStatus, openText, closeText, openList, readProperty, stop, missing, broken, orSkip, turn}
+use Rattle.read_state.specs.Control.{Level, top, suite, case, status, Output, trace, out, err, Mode, at, gathering, listing, skipping, finished, Control, control, Act, pass, openReport}
+use Rattle.read_state.specs.Control.{openSuite, openCase, openStatus, closeSuite, closeCase, closeStatus, openText, closeText, openList, readProperty, stop, missing, broken, orSkip, turn}
 use Rattle.read_state.specs.declared.Level.{Level as CodedLevel}
 use Rattle.read_state.specs.declared.Level.the-variants.{Top, Suite, Case, Status}
 use Rattle.read_state.specs.declared.Output.{Output as CodedOutput}

@@ -17,8 +17,13 @@ onward-requires : tie.Need-onward-requires
 onward-requires c κs = search needs
 
 returns : tie.Need-returns
-returns c = let a = c .before .before .before .before .before .before .args in
-    (λ name d. is-behind (a .act) name (a .st) d (a .st .content .used) (c .before .before .turn .result) (c .before .marked .result) (c .onward .result) (c .before .before .before .before .before .before .pre .1 .1) (c .before .before .turn .ensures name) (c .before .marked .ensures name) (c .onward .ensures), refl)
+returns c =
+    let start = c .before .before .before .before .before .before in
+    let a = start .args in (
+      λ name d. is-behind (a .act) name (a .st) d (a .st .content .used) (c .before .before .turn .result) (c .before .marked .result)
+          (c .onward .result) (start .pre .1 .1) (c .before .before .turn .ensures name) (c .before .marked .ensures name) (c .onward .ensures),
+      refl,
+    )
 
 pub behind-spec : {M : Type 1} → statement M
 behind-spec = tie.close (tie.spec turn-requires marked-requires add-onward onward-requires returns)

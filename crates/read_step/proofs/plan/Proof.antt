@@ -32,8 +32,10 @@ returns-3 : tie.Need-returns-3
 returns-3 c = let a = c .before .before .before .before .args in
     let k = a .control in
     let x = c .plan-tag in
-    let e = x .ensures (now (a .name)) (sym (c .before .tag-of .ensures)) in
-    (simp (ne-eqb _ _ (c .before .before .match .rest .1), ne-eqb _ _ (c .before .before .match .rest .0 .1)) e, plan-apt (k .mode) (levelOf (k .level)) (outputOf (k .output)) (k .seen) (tagKind (a .kind)) (now (a .name)) (x .result) e)
+    let e = x .ensures (now (a .name)) (sym (c .before .tag-of .ensures)) in (
+      simp (ne-eqb _ _ (c .before .before .match .rest .1), ne-eqb _ _ (c .before .before .match .rest .0 .1)) e,
+      plan-apt (k .mode) (levelOf (k .level)) (outputOf (k .output)) (k .seen) (tagKind (a .kind)) (now (a .name)) (x .result) e,
+    )
 
 pub plan-spec : {M : Type 1} → statement M
 plan-spec =

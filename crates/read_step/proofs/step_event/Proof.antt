@@ -21,18 +21,24 @@ is-piece-requires : tie.Need-is-piece-requires
 is-piece-requires c κs = search needs
 
 step-piece-requires : tie.Need-step-piece-requires
-step-piece-requires c κs = let w = c .before .before .before .before .before .before .before .before .before .before .before .before .before .pre .1 .1 .1 in record { pieces = fits-scratch (w .stands .holds); event = w .event }
+step-piece-requires c κs = let w = c .before .before .before .before .before .before .before .before .before .before .before .before .before .pre .1 .1 .1 in
+    record { pieces = fits-scratch (w .stands .holds); event = w .event }
 
 same-length : tie.Need-same-length
 same-length c = search needs
 
 returns : tie.Need-returns
-returns c = λ rooms d sized t.
-    let a = c .before .before .before .before .before .before .before .before .before .before .before .before .before .before .before .before .args in
+returns c =
+    let start = c .before .before .before .before .before .before .before .before .before .before .before .before .before .before .before .before in
+    let is-piece = c .before .before .before .before .before .is-piece in
+    let if1 = c .before .before .before .before .if1 in
+    λ rooms d sized t.
+    let a = start .args in
     let k = c .before .before .before .before .before .before .before .kind-at in
     let b = c .before .before .before .before .before .before .bytes-at in
     let x = c .before .before .step-piece in
-    piece-way rooms (now (a .events)) (now (a .attributes)) (now (a .source)) (c .before .before .before .before .before .before .before .before .before .before .before .before .before .before .before .before .pre .0) (a .st) d (k .result) (now (b .result)) (k .ensures) (b .ensures) _ _ _ (sym (c .before .before .before .before .before .is-piece .ensures) ∙ c .before .before .before .before .if1 .taken) (x .result)
+    piece-way rooms (now (a .events)) (now (a .attributes)) (now (a .source)) (start .pre .0) (a .st) d (k .result)
+    (now (b .result)) (k .ensures) (b .ensures) _ _ _ (sym (is-piece .ensures) ∙ if1 .taken) (x .result)
     (x .ensures rooms (now (a .records)) (now (a .text)) (now (a .attributes)) (now (a .source)) d sized t)
 
 plan-requires : tie.Need-plan-requires
@@ -42,30 +48,43 @@ is-skip-requires : tie.Need-is-skip-requires
 is-skip-requires c κs = search needs
 
 step-skip-requires : tie.Need-step-skip-requires
-step-skip-requires c κs = let a = c .before .before .before .before .before .before .before .before .before .before .before .before .before .before .before .args in
+step-skip-requires c κs =
+    let start = c .before .before .before .before .before .before .before .before .before .before .before .before .before .before .before in
+    let a = start .args in
     let k = c .before .before .before .before .before .before .kind-at in
     let b = c .before .before .before .before .before .bytes-at in
-    let w = skip-way unlimited (now (a .events)) (now (a .attributes)) (now (a .source)) (c .before .before .before .before .before .before .before .before .before .before .before .before .before .before .before .pre .0) (a .st) (c .before .before .before .before .before .before .before .before .before .before .before .before .before .before .before .pre .1 .1 .1 .content) (k .result) (now (b .result)) (k .ensures) (b .ensures) (skips (a .st .control) (k .result) (now (b .result)) (c .before .before .plan .result) (c .before .before .plan .ensures .0) (sym (c .before .is-skip .ensures) ∙ c .if2 .taken)) in
-    (w .0, sizes (now (a .events)) (now (a .attributes)) (now (a .source)) (c .before .before .before .before .before .before .before .before .before .before .before .before .before .before .before .pre .0) .event-limit)
+    let w = skip-way unlimited (now (a .events)) (now (a .attributes)) (now (a .source)) (start .pre .0) (a .st) (start .pre .1 .1 .1 .content) (k .result) (now (b .result)) (k .ensures) (b .ensures)
+    (skips (a .st .control) (k .result) (now (b .result)) (c .before .before .plan .result) (c .before .before .plan .ensures .0) (sym (c .before .is-skip .ensures) ∙ c .if2 .taken)) in
+    (w .0, sizes (now (a .events)) (now (a .attributes)) (now (a .source)) (start .pre .0) .event-limit)
 
 returns-2 : tie.Need-returns-2
-returns-2 c = λ rooms d sized t.
-    let a = c .before .before .before .before .before .before .before .before .before .before .before .before .before .before .before .before .args in
+returns-2 c =
+    let start = c .before .before .before .before .before .before .before .before .before .before .before .before .before .before .before .before in
+    let is-piece = c .before .before .before .before .before .is-piece in
+    let if1 = c .before .before .before .before .if1 in
+    λ rooms d sized t.
+    let a = start .args in
     let k = c .before .before .before .before .before .before .before .kind-at in
     let b = c .before .before .before .before .before .before .bytes-at in
-    let w = skip-way rooms (now (a .events)) (now (a .attributes)) (now (a .source)) (c .before .before .before .before .before .before .before .before .before .before .before .before .before .before .before .before .pre .0) (a .st) d (k .result) (now (b .result)) (k .ensures) (b .ensures) (skips (a .st .control) (k .result) (now (b .result)) (c .before .before .before .plan .result) (c .before .before .before .plan .ensures .0) (sym (c .before .before .is-skip .ensures) ∙ c .before .if2 .taken)) in
-    c .step-skip .ensures rooms (now (a .attributes)) _ _ _ d (c .before .before .before .before .before .before .before .before .before .before .before .before .before .before .before .before .pre .0) (sym (w .2) ∙ sym (c .before .before .before .before .before .is-piece .ensures) ∙ c .before .before .before .before .if1 .left) (w .1) t
+    let w = skip-way rooms (now (a .events)) (now (a .attributes)) (now (a .source)) (start .pre .0) (a .st) d (k .result) (now (b .result)) (k .ensures) (b .ensures) (skips (a .st .control)
+    (k .result) (now (b .result)) (c .before .before .before .plan .result) (c .before .before .before .plan .ensures .0) (sym (c .before .before .is-skip .ensures) ∙ c .before .if2 .taken)) in
+    c .step-skip .ensures rooms (now (a .attributes)) _ _ _ d (start .pre .0) (sym (w .2) ∙ sym (is-piece .ensures) ∙ if1 .left) (w .1) t
 
 is-stop-requires : tie.Need-is-stop-requires
 is-stop-requires c κs = search needs
 
 returns-3 : tie.Need-returns-3
-returns-3 c = λ rooms d sized t.
-    let a = c .before .before .before .before .before .before .before .before .before .before .before .before .before .before .before .before .before .args in
+returns-3 c =
+    let start = c .before .before .before .before .before .before .before .before .before .before .before .before .before .before .before .before .before in
+    let is-piece = c .before .before .before .before .before .before .is-piece in
+    let if1 = c .before .before .before .before .before .if1 in
+    let plan = c .before .before .before .before .plan in
+    λ rooms d sized t.
+    let a = start .args in
     let k = c .before .before .before .before .before .before .before .before .kind-at in
     let b = c .before .before .before .before .before .before .before .bytes-at in
-    stop-way rooms (now (a .events)) (now (a .attributes)) (now (a .source)) (c .before .before .before .before .before .before .before .before .before .before .before .before .before .before .before .before .before .pre .0) (a .st) d (k .result) (now (b .result)) (k .ensures) (b .ensures) (sym (c .before .before .before .before .before .before .is-piece .ensures) ∙ c .before .before .before .before .before .if1 .left)
-    (stops-there (a .st .control) (k .result) (now (b .result)) (c .before .before .before .before .plan .result) (c .before .before .before .before .plan .ensures .0) (sym (c .before .is-stop .ensures) ∙ c .if3 .taken)) _ _ _ t
+    stop-way rooms (now (a .events)) (now (a .attributes)) (now (a .source)) (start .pre .0) (a .st) d (k .result) (now (b .result)) (k .ensures) (b .ensures) (sym (is-piece .ensures) ∙ if1 .left)
+    (stops-there (a .st .control) (k .result) (now (b .result)) (plan .result) (plan .ensures .0) (sym (c .before .is-stop .ensures) ∙ c .if3 .taken)) _ _ _ t
 
 first-at-requires : tie.Need-first-at-requires
 first-at-requires c κs = search needs
@@ -74,10 +93,26 @@ end-at-requires : tie.Need-end-at-requires
 end-at-requires c κs = search needs
 
 step-act-requires : tie.Need-step-act-requires
-step-act-requires c κs = let a = c .before .before .before .before .before .before .before .before .before .before .before .before .before .before .before .before .before .before .before .before .before .before .args in
-    let p = c .before .before .before .before .before .before .before .before .before .before .before .before .before .before .before .before .before .before .before .before .before .before .pre in
-    let x = c .before .before .before .before .before .before .before .before .before .plan in
-    (x .ensures .1, (is-step (x .result) (sym (c .before .before .before .before .before .before .before .before .is-skip .ensures) ∙ c .before .before .before .before .before .before .before .if2 .left) (sym (c .before .before .before .before .before .before .is-stop .ensures) ∙ c .before .before .before .before .before .if3 .left), (spans-lent (now (a .events)) (now (a .attributes)) (now (a .source)) (p .0) (a .st .marks .event) (c .before .before .before .before .first-at .result) (c .before .before .before .end-at .result) (c .before .before .before .before .first-at .ensures) (c .before .before .before .end-at .ensures), (p .1 .1 .0, p .1 .1 .1))))
+step-act-requires c κs =
+    let at-is-skip = c .before .before .before .before .before .before .before .before in
+    let start = at-is-skip .before .before .before .before .before .before .before .before .before .before .before .before .before .before in
+    let if2 = c .before .before .before .before .before .before .before .if2 in
+    let is-stop = c .before .before .before .before .before .before .is-stop in
+    let if3 = c .before .before .before .before .before .if3 in
+    let first-at = c .before .before .before .before .first-at in
+    let a = start .args in
+    let p = start .pre in
+    let x = c .before .before .before .before .before .before .before .before .before .plan in (
+      x .ensures .1,
+      (
+        is-step (x .result) (sym (at-is-skip .is-skip .ensures) ∙ if2 .left) (sym (is-stop .ensures) ∙ if3 .left),
+        (
+          spans-lent (now (a .events)) (now (a .attributes)) (now (a .source)) (p .0) (a .st .marks .event) (first-at .result)
+              (c .before .before .before .end-at .result) (first-at .ensures) (c .before .before .before .end-at .ensures),
+          (p .1 .1 .0, p .1 .1 .1),
+        ),
+      ),
+    )
 
 same-length-2 : tie.Need-same-length-2
 same-length-2 c = search needs
@@ -89,17 +124,25 @@ same-length-4 : tie.Need-same-length-4
 same-length-4 c = search needs
 
 returns-4 : tie.Need-returns-4
-returns-4 c = λ rooms d sized t.
-    let a = c .before .before .before .before .before .before .before .before .before .before .before .before .before .before .before .before .before .before .before .before .before .before .before .before .before .before .before .args in
+returns-4 c =
+    let at-is-piece = c .before .before .before .before .before .before .before .before .before .before .before .before .before .before .before .before in
+    let start = at-is-piece .before .before .before .before .before .before .before .before .before .before .before in
+    let if1 = c .before .before .before .before .before .before .before .before .before .before .before .before .before .before .before .if1 in
+    let is-stop = c .before .before .before .before .before .before .before .before .before .before .before .is-stop in
+    let if3 = c .before .before .before .before .before .before .before .before .before .before .if3 in
+    λ rooms d sized t.
+    let a = start .args in
     let k = c .before .before .before .before .before .before .before .before .before .before .before .before .before .before .before .before .before .before .kind-at in
     let b = c .before .before .before .before .before .before .before .before .before .before .before .before .before .before .before .before .before .bytes-at in
     let x = c .before .before .before .before .before .before .before .before .before .before .before .before .before .before .plan in
     let f = c .before .before .before .before .before .before .before .before .before .first-at in
     let e = c .before .before .before .before .before .before .before .before .end-at in
     let s = c .before .before .before .before .step-act in
-    act-way rooms (now (a .events)) (now (a .attributes)) (now (a .source)) (c .before .before .before .before .before .before .before .before .before .before .before .before .before .before .before .before .before .before .before .before .before .before .before .before .before .before .before .pre .0) (a .st) d (k .result) (now (b .result)) (k .ensures) (b .ensures) (sym (c .before .before .before .before .before .before .before .before .before .before .before .before .before .before .before .before .is-piece .ensures) ∙ c .before .before .before .before .before .before .before .before .before .before .before .before .before .before .before .if1 .left) (actOf (a .st .control) (nameIn (k .result) (now (b .result))) (x .result)) (x .ensures .0) _ _ _
-    (stop-only (modeOf (a .st .control)) (nameIn (k .result) (now (b .result))) (x .result) (sym (c .before .before .before .before .before .before .before .before .before .before .before .is-stop .ensures) ∙ c .before .before .before .before .before .before .before .before .before .before .if3 .left)) (f .result) (e .result) (f .ensures) (e .ensures) (s .result)
-    (s .ensures rooms d (nameIn (k .result) (now (b .result))) (plan-fits (a .st) d (k .result) (now (b .result)) (actOf (a .st .control) (nameIn (k .result) (now (b .result))) (x .result)) (x .ensures .0) (t .lists)) sized t)
+    act-way rooms (now (a .events)) (now (a .attributes)) (now (a .source)) (start .pre .0) (a .st) d (k .result) (now (b .result)) (k .ensures) (b .ensures)
+    (sym (at-is-piece .is-piece .ensures) ∙ if1 .left) (actOf (a .st .control) (nameIn (k .result) (now (b .result))) (x .result)) (x .ensures .0) _ _ _
+    (stop-only (modeOf (a .st .control)) (nameIn (k .result) (now (b .result))) (x .result) (sym (is-stop .ensures) ∙ if3 .left)) (f .result) (e .result) (f .ensures) (e .ensures) (s .result)
+    (s .ensures rooms d (nameIn (k .result) (now (b .result)))
+    (plan-fits (a .st) d (k .result) (now (b .result)) (actOf (a .st .control) (nameIn (k .result) (now (b .result))) (x .result)) (x .ensures .0) (t .lists)) sized t)
 
 pub step-event-spec : {M : Type 1} → statement M
 step-event-spec =

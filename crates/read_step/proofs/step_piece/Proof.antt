@@ -38,21 +38,35 @@ same-length : tie.Need-same-length
 same-length c = search needs
 
 returns-2 : tie.Need-returns-2
-returns-2 c = λ rooms words text attributes source d sized t.
+returns-2 c =
+    let onward = c .before .before .before .before .before .before .before .before .before .onward in
+    let is-gathering = c .before .before .before .before .before .before .before .before .is-gathering in
+    let if1 = c .before .before .before .before .before .before .before .if1 in
+    let gather = c .before .before .before .before .before .gather in
+    λ rooms words text attributes source d sized t.
     let a = c .before .before .before .before .before .before .before .before .before .before .before .before .before .before .before .args in
-    piece-goes attributes source words text _ (now (a .scratch)) rooms (pieceKind (a .kind)) (pieceBytes (a .kind) (now (a .bytes))) (a .st) d _ (sym (c .before .before .before .before .before .before .before .before .is-gathering .ensures) ∙ not-false _ (c .before .before .before .before .before .before .before .if1 .left))
-    (c .before .before .before .before .before .gather .ensures rooms (here (a .st)) d (levelOf (a .st .control .level)) (outputOf (a .st .control .output)) (marksOf (a .st .marks)) words text attributes source refl (t .holds) (t .lists) sized)
-    _ _ (c .before .gathered .given .1) (c .before .before .before .before .before .before .before .before .before .onward .ensures) t
+    piece-goes attributes source words text _ (now (a .scratch)) rooms (pieceKind (a .kind))
+    (pieceBytes (a .kind) (now (a .bytes))) (a .st) d _ (sym (is-gathering .ensures) ∙ not-false _ (if1 .left))
+    (gather .ensures rooms (here (a .st)) d (levelOf (a .st .control .level)) (outputOf (a .st .control .output))
+    (marksOf (a .st .marks)) words text attributes source refl (t .holds) (t .lists) sized)
+    _ _ (c .before .gathered .given .1) (onward .ensures) t
 
 same-length-2 : tie.Need-same-length-2
 same-length-2 c = search needs
 
 returns-3 : tie.Need-returns-3
-returns-3 c = λ rooms words text attributes source d sized t.
-    let a = c .before .before .before .before .before .before .before .before .before .before .before .before .before .before .before .args in
-    piece-halts attributes source words text _ (now (a .scratch)) rooms (pieceKind (a .kind)) (pieceBytes (a .kind) (now (a .bytes))) (a .st) d _ (sym (c .before .before .before .before .before .before .before .before .is-gathering .ensures) ∙ not-false _ (c .before .before .before .before .before .before .before .if1 .left))
-    (c .before .before .before .before .before .gather .ensures rooms (here (a .st)) d (levelOf (a .st .control .level)) (outputOf (a .st .control .output)) (marksOf (a .st .marks)) words text attributes source refl (t .holds) (t .lists) sized)
-    _ _ (c .before .gathered2 .given .1) (c .before .before .before .before .before .before .before .before .before .before .before .before .before .before .before .pre .event)
+returns-3 c =
+    let start = c .before .before .before .before .before .before .before .before .before .before .before .before .before .before .before in
+    let is-gathering = c .before .before .before .before .before .before .before .before .is-gathering in
+    let if1 = c .before .before .before .before .before .before .before .if1 in
+    let gather = c .before .before .before .before .before .gather in
+    λ rooms words text attributes source d sized t.
+    let a = start .args in
+    piece-halts attributes source words text _ (now (a .scratch)) rooms (pieceKind (a .kind))
+    (pieceBytes (a .kind) (now (a .bytes))) (a .st) d _ (sym (is-gathering .ensures) ∙ not-false _ (if1 .left))
+    (gather .ensures rooms (here (a .st)) d (levelOf (a .st .control .level)) (outputOf (a .st .control .output))
+    (marksOf (a .st .marks)) words text attributes source refl (t .holds) (t .lists) sized)
+    _ _ (c .before .gathered2 .given .1) (start .pre .event)
 
 pub step-piece-spec : {M : Type 1} → statement M
 step-piece-spec =

@@ -24,16 +24,24 @@ halt-at-requires : tie.Need-halt-at-requires
 halt-at-requires c κs = search needs
 
 returns : tie.Need-returns
-returns c = λ rooms attributes words text scratch d good p q t.
-    let a = c .before .before .before .before .before .before .before .before .before .before .args in
-    skip-went rooms (now (a .events)) attributes (now (a .source)) good (a .st) d (c .before .before .before .before .before .before .before .before .before .before .pre .0) p q words text scratch _ _ (sym (c .before .before .before .before .skip-from .ensures attributes) ∙ ap skipAnswer (c .before .before .skipped .given .1)) (c .onward .ensures) t
+returns c =
+    let start = c .before .before .before .before .before .before .before .before .before .before in
+    let skip-from = c .before .before .before .before .skip-from in
+    λ rooms attributes words text scratch d good p q t.
+    let a = start .args in
+    skip-went rooms (now (a .events)) attributes (now (a .source)) good (a .st) d (start .pre .0) p q words text scratch _ _
+    (sym (skip-from .ensures attributes) ∙ ap skipAnswer (c .before .before .skipped .given .1)) (c .onward .ensures) t
 
 returns-2 : tie.Need-returns-2
-returns-2 c = λ rooms attributes words text scratch d good p q t.
-    let a = c .before .before .before .before .before .before .before .before .before .before .args in
+returns-2 c =
+    let start = c .before .before .before .before .before .before .before .before .before .before in
+    let skip-from = c .before .before .before .before .skip-from in
+    λ rooms attributes words text scratch d good p q t.
+    let a = start .args in
     let h = c .before .before .skipped2 .given in
-    subst (λ (r : Step). Stepped rooms (now (a .events)) attributes (now (a .source)) words text scratch (a .st) (runOn rooms (now (a .events)) attributes (now (a .source)) (machineOf (a .st) d)) r) (sym (c .halt-at .ensures))
-    (skip-halted rooms (now (a .events)) attributes (now (a .source)) good (a .st) d (c .before .before .before .before .before .before .before .before .before .before .pre .0) p q _ _ (sym (c .before .before .before .before .skip-from .ensures attributes) ∙ ap skipAnswer (h .1)) (c .before .before .before .before .before .before .before .before .before .before .pre .1))
+    subst (λ (r : Step). Stepped rooms (now (a .events)) attributes (now (a .source)) words text scratch (a .st) (runOn rooms (now (a .events)) attributes (now (a .source)) (machineOf (a .st) d)) r)
+    (sym (c .halt-at .ensures))
+    (skip-halted rooms (now (a .events)) attributes (now (a .source)) good (a .st) d (start .pre .0) p q _ _ (sym (skip-from .ensures attributes) ∙ ap skipAnswer (h .1)) (start .pre .1))
 
 pub step-skip-spec : {M : Type 1} → statement M
 step-skip-spec =

@@ -39,8 +39,10 @@ array-share-prefix-attributes c = let i = c .before .before .before .before .bef
     l .1 .0
 
 slice-aggregate-replay-2 : tie.Need-slice-aggregate-replay-2
-slice-aggregate-replay-2 c = let i = c .before .before .before .before .before .before .before .before .input-of in
-    let l = parts-lie (i .result) _ (c .before .before .before .before .found .given .1) _ _ _ _ _ (i .kept .1 .0) (i .kept .1 .1 .0) (i .ensures .0) in
+slice-aggregate-replay-2 c =
+    let found = c .before .before .before .before .found in
+    let i = c .before .before .before .before .before .before .before .before .input-of in
+    let l = parts-lie (i .result) _ (found .given .1) _ _ _ _ _ (i .kept .1 .0) (i .kept .1 .1 .0) (i .ensures .0) in
     sym (length-take-le _ _ (l .1 .0))
 
 sub-replay : tie.Need-sub-replay
@@ -50,8 +52,10 @@ part-replay-start : tie.Need-part-replay-start
 part-replay-start c = search needs
 
 part-replay-end : tie.Need-part-replay-end
-part-replay-end c = let i = c .before .before .before .before .before .before .before .before .input-of in
-    let l = parts-lie (i .result) _ (c .before .before .before .before .found .given .1) _ _ _ _ _ (i .kept .1 .0) (i .kept .1 .1 .0) (i .ensures .0) in
+part-replay-end c =
+    let found = c .before .before .before .before .found in
+    let i = c .before .before .before .before .before .before .before .before .input-of in
+    let l = parts-lie (i .result) _ (found .given .1) _ _ _ _ _ (i .kept .1 .0) (i .kept .1 .1 .0) (i .ensures .0) in
     l .1 .1
 
 replay-requires : tie.Need-replay-requires
@@ -61,8 +65,10 @@ enum-told : tie.Need-enum-told
 enum-told c = search needs
 
 returns : tie.Need-returns
-returns c = let i = c .before .before .before .before .before .before .before .before .before .before .input-of in
-    let l = parts-lie (i .result) _ (c .before .before .before .before .before .before .found .given .1) _ _ _ _ _ (i .kept .1 .0) (i .kept .1 .1 .0) (i .ensures .0) in
+returns c =
+    let found = c .before .before .before .before .before .before .found in
+    let i = c .before .before .before .before .before .before .before .before .before .before .input-of in
+    let l = parts-lie (i .result) _ (found .given .1) _ _ _ _ _ (i .kept .1 .0) (i .kept .1 .1 .0) (i .ensures .0) in
     l .1 .1
 
 returns-2 : tie.Need-returns-2
