@@ -21,7 +21,7 @@ use Rattle.read_content.specs.Content.{Content, killAll, propertyKind, pieceOf,
 use Rattle.trim.specs.Trim.{trimmed}
 use Rattle.read_machine.specs.Machine.{Machine, act, step, run}
 use Rattle.read_machine.proofs.TreePlans.{Planned, stays, skips, skips-on, returns, listed, reports, suites, stops, misses, breaks, cases, suite-ends, suite-list}
-use Rattle.read_machine.proofs.TreePlans.{statuses, case-ends, case-list, status-ends, texts, text-ends, properties-read, tag-plan, eof-plan, fault-plan}
+use Rattle.read_machine.proofs.TreePlans.{statuses, case-ends, case-list, status-ends, texts, texts-empty, text-ends, properties-read, tag-plan, eof-plan, fault-plan}
 use Rattle.call_claims.proofs.PathsElement.{Told, fine, told, told-bind, told-need, told-there, told-cond, told-element}
 
 -- ---- actions
@@ -62,8 +62,8 @@ module _ (rooms : Rooms) where
   told-perform p closeStatus j xs k m c l = told-describing p m c l
   told-perform p (openText level o) j xs k m c l = fine
   told-perform p (closeText level o) j xs k m c l = told-outputting p level o m c l
-  told-perform p (openList level) j xs k m c l = fine
-  told-perform p (readProperty level) j xs k m c l = told-adding p (propertyKind level) j xs c l
+  told-perform p (openList level e) j xs k m c l = fine
+  told-perform p (readProperty level e name) j xs k m c l = told-adding p (propertyKind level) j xs c l
   told-perform p stop j xs k m c l = fine
   told-perform p missing j xs k m c l = told (over p l)
   told-perform p (broken why) j xs k m c l = told (over p l)
@@ -76,7 +76,7 @@ free (listing top) = true
 free (listing suite) = true
 free (listing case) = true
 free (listing status) = false
-free (skipping level name depth) = true
+free (skipping m name depth) = free m
 free finished = true
 
 not-there : {m : Mode} → free m ≡ true → m ≡ listing status → ⊥
@@ -86,8 +86,8 @@ stays-free : {seen : Bool} {m : Mode} {a : Act} (c : Control) → Planned seen m
 unfolding turn
 stays-free c stays e h = h
 stays-free c skips e h = refl
-stays-free c skips-on e h = refl
-stays-free c returns e h = refl
+stays-free c skips-on e h = h
+stays-free c returns e h = h
 stays-free c listed e h = refl
 stays-free c reports e h = refl
 stays-free c (suites s) e h = refl
@@ -96,14 +96,18 @@ stays-free c misses e h = ap free e ∙ h
 stays-free c breaks e h = ap free e ∙ h
 stays-free c cases e h = refl
 stays-free c suite-ends e h = refl
-stays-free c suite-list e h = refl
+stays-free c (suite-list {e = true}) e h = refl
+stays-free c (suite-list {e = false}) e h = refl
 stays-free c (statuses s) e h = refl
 stays-free c case-ends e h = refl
-stays-free c case-list e h = refl
+stays-free c (case-list {e = true}) e h = refl
+stays-free c (case-list {e = false}) e h = refl
 stays-free c status-ends e h = refl
 stays-free c (texts g) e h = refl
+stays-free c (texts-empty g) e h = refl
 stays-free c text-ends e h = refl
-stays-free c properties-read e h = ap free e ∙ h
+stays-free c (properties-read {e = true}) e h = ap free e ∙ h
+stays-free c (properties-read {e = false}) e h = h
 
 -- ---- steps
 data Goes : Outcome Machine → Type 0 where

@@ -1,10 +1,10 @@
 -- Cases that are proved: the worked listing, an example of each refusal from 2 to 10, of 20 and 21, values at their limits, statuses,
--- outputs, references in texts, tables that agree; and cases of writing. What is expected is written down, not computed.
+-- outputs, references in texts, tables that agree, Empty tags; and cases of writing. What is expected is written down, not computed.
 -- Definitions only.
 use Prim.Native.Nat.{ℕ}
 use Prim.Native.String.{String}
 use mathlib.Core.Path.{_≡_}
-use mathlib.Core.List.{List, [], _∷_, _++_}
+use mathlib.Core.List.{List, [], _∷_, _++_, map}
 use mathlib.Core.Option.{Option, none, some}
 use Rattle.names.specs.Bytes.{bytes}
 use Rattle.refusal.specs.Refusal.{Outcome, accepted, refused, nowhere, number}
@@ -12,15 +12,15 @@ use Rattle.refusal.specs.declared.Cause.{Cause}
 use Rattle.refusal.specs.declared.Cause.the-variants as cause
 use Rattle.refusal.specs.declared.PathElement.{PathElement}
 use Rattle.table.specs.Event.{Event, resolve}
-use Rattle.tree_report.specs.Report.{TestSuite, Report}
+use Rattle.tree_report.specs.Report.{error, success, TestRerun, TestSuite, Report}
 use Rattle.tree_report.specs.ReportOf.{reportOf}
 use Rattle.read_machine.specs.Reading.{Read, reading}
 use Rattle.public_claims.specs.Agree.{agree}
 use Rattle.public_claims.specs.PublicListing.{publicListing}
 use Rattle.write_report.specs.Written.{written}
 use Rattle.write_answer.specs.Answer as answer
-use Rattle.public_cases.specs.Document.{Markup, _≔_, start, empty, end, text, cdata, ref, comment, indent, eventsOf, attributesOf, sourceOf}
-use Rattle.public_cases.specs.Reports.{noCounts, ofSuites, workedEvents, full, fullEvents, oneFlaky, oneFlakyEvents, emptyOutput, emptyOutputEvents}
+use Rattle.public_cases.specs.Document.{Named, Markup, _≔_, start, empty, end, text, cdata, ref, comment, indent, eventsOf, attributesOf, sourceOf}
+use Rattle.public_cases.specs.Reports.{noCounts, ofStatus, ofCases, ofSuites, workedEvents, full, fullEvents, oneFlaky, oneFlakyEvents, emptyOutput, emptyOutputEvents}
 
 -- ---- what is expected of a table
 pub data Expected : Type 0 where
@@ -86,6 +86,9 @@ testsuite i e = record { kind = 2; index = i; event = e }
 
 abbrev pub testcase : ℕ → ℕ → PathElement
 testcase i e = record { kind = 3; index = i; event = e }
+
+abbrev pub properties : PathElement
+properties = record { kind = 4; index = nowhere; event = nowhere }
 
 abbrev pub system-out : PathElement
 system-out = record { kind = 14; index = nowhere; event = nowhere }
@@ -376,6 +379,130 @@ agreeing =
     ∷ "(case \"t\" - - failure rerun 0)))"
     ∷ [])))
 
+-- ---- Empty tags, which are empty elements below report level (rules R13, R15, R16, S3 and S4)
+-- a suite with these children
+abbrev pub inSuite : List Markup → List Markup
+inSuite ms = start "testsuites" [] ∷ start "testsuite" ("name" ≔ "s" ∷ []) ∷ (ms ++ (end "testsuite" ∷ end "testsuites" ∷ []))
+
+-- a suite with these properties, and this output
+abbrev pub ofProperties : List Named → Option (List ℕ) → TestSuite
+ofProperties xs o =
+    record {
+      name = bytes "s";
+      counts = noCounts;
+      timestamp = none;
+      time = none;
+      cases = [];
+      properties = map (λ (x : Named). record { key = x .key; value = x .value }) xs;
+      systemOut = o;
+      systemErr = none;
+      extra = [];
+    }
+
+-- an Empty output in a status element gathers nothing: the case behind it is there
+abbrev pub emptyInStatus : Case
+emptyInStatus =
+    document (inSuite (start "testcase" ("name" ≔ "t" ∷ [])
+    ∷ start "failure" []
+    ∷ empty "system-out" []
+    ∷ end "failure"
+    ∷ end "testcase"
+    ∷ empty "testcase" ("name" ≔ "u" ∷ [])
+    ∷ []))
+    (lists (lines ("(report - 0 0 0 0 -"
+    ∷ "(suite \"s\" 0 0 0 0 -"
+    ∷ "(case \"t\" - - failure rerun 0)"
+    ∷ "(case \"u\" - - success flaky 0)))"
+    ∷ [])))
+
+-- a run keeps it as an empty text, and a stack trace; an unknown Empty child is nothing, nor is one with a status name
+abbrev pub emptiesOfRun : TestRerun
+emptiesOfRun =
+    record {
+      kind = error;
+      timestamp = none;
+      time = none;
+      message = none;
+      type = none;
+      stackTrace = some [];
+      systemOut = some [];
+      systemErr = none;
+      description = some (bytes "d");
+    }
+
+abbrev pub emptyInRun : Case
+emptyInRun =
+    document (withStatuses (start "flakyError" []
+    ∷ empty "stackTrace" []
+    ∷ empty "x" []
+    ∷ empty "system-out" []
+    ∷ empty "failure" []
+    ∷ text "d"
+    ∷ end "flakyError"
+    ∷ []))
+    (reads (ofSuites (ofCases (ofStatus (success (emptiesOfRun ∷ [])) ∷ []) ∷ [])))
+
+-- an Empty list replaces the one before it
+abbrev pub emptyList : Case
+emptyList =
+    document (inSuite (start "properties" [] ∷ empty "property" ("name" ≔ "a" ∷ "value" ≔ "b" ∷ []) ∷ end "properties" ∷ empty "properties" [] ∷ []))
+    (reads (ofSuites (ofProperties [] none ∷ [])))
+
+-- and an Empty output
+abbrev pub emptyAgain : Case
+emptyAgain =
+    document (inSuite (start "system-out" [] ∷ text "a" ∷ end "system-out" ∷ empty "system-out" [] ∷ empty "x" [] ∷ []))
+    (reads (ofSuites (ofProperties [] (some []) ∷ [])))
+
+-- inside an output an Empty of its name ends nothing
+abbrev pub emptyWithin : Case
+emptyWithin =
+    document (inSuite (start "system-out" [] ∷ text "a" ∷ empty "system-out" [] ∷ text "b" ∷ end "system-out" ∷ []))
+    (reads (ofSuites (ofProperties [] (some (bytes "ab")) ∷ [])))
+
+-- a property in its other spelling
+abbrev pub startProperty : Case
+startProperty =
+    document (inSuite (start "properties" [] ∷ start "property" ("name" ≔ "a" ∷ "value" ≔ "b" ∷ []) ∷ empty "x" [] ∷ end "property" ∷ end "properties" ∷ []))
+    (reads (ofSuites (ofProperties ("a" ≔ "b" ∷ []) none ∷ [])))
+
+-- nothing in it counts, and no End in it but its own; an Empty list inside a list ends nothing
+abbrev pub propertyContent : Case
+propertyContent =
+    document (inSuite (start "properties" []
+    ∷ start "property" ("name" ≔ "a" ∷ "value" ≔ "b" ∷ [])
+    ∷ empty "property" ("name" ≔ "c" ∷ "value" ≔ "d" ∷ [])
+    ∷ end "properties"
+    ∷ end "property"
+    ∷ empty "properties" []
+    ∷ empty "property" ("name" ≔ "e" ∷ "value" ≔ "f" ∷ [])
+    ∷ end "properties"
+    ∷ []))
+    (reads (ofSuites (ofProperties ("a" ≔ "b" ∷ "e" ≔ "f" ∷ []) none ∷ [])))
+
+-- cut off in its content, which is a skip; the path is that of the list: testsuites/testsuite[0]("s")/properties
+abbrev pub propertyCut : Case
+propertyCut =
+    document (start "testsuites" []
+    ∷ start "testsuite" ("name" ≔ "s" ∷ [])
+    ∷ start "properties" []
+    ∷ start "property" ("name" ≔ "a" ∷ "value" ≔ "b" ∷ [])
+    ∷ end "properties"
+    ∷ [])
+    (refuses 1 cause.EofInSkip (testsuites ∷ testsuite 0 1 ∷ properties ∷ []) 5 nowhere)
+
+abbrev pub emptyTags : List Case
+emptyTags =
+    emptyInStatus
+    ∷ emptyInRun
+    ∷ emptyList
+    ∷ emptyAgain
+    ∷ emptyWithin
+    ∷ startProperty
+    ∷ propertyContent
+    ∷ propertyCut
+    ∷ []
+
 -- ---- the table
 abbrev pub cases : List Case
 cases =
@@ -405,4 +532,4 @@ cases =
     ∷ report full fullEvents
     ∷ report oneFlaky oneFlakyEvents
     ∷ report emptyOutput emptyOutputEvents
-    ∷ references
+    ∷ (references ++ emptyTags)

@@ -43,7 +43,7 @@ abbrev pub inStatus : Mode → Bool
 inStatus (at l) = atStatusLevel l
 inStatus (gathering l o) = atStatusLevel l
 inStatus (listing l) = atStatusLevel l
-inStatus (skipping l name depth) = atStatusLevel l
+inStatus (skipping m name depth) = inStatus m
 inStatus finished = false
 
 -- a stack trace belongs to a status element, a properties list to none
@@ -56,14 +56,14 @@ abbrev pub sound : Mode → Bool
 sound (at l) = true
 sound (gathering l o) = traced l o
 sound (listing l) = not (atStatusLevel l)
-sound (skipping l name depth) = true
+sound (skipping m name depth) = sound m
 sound finished = true
 
 abbrev pub isFinished : Mode → Bool
 isFinished (at l) = false
 isFinished (gathering l o) = false
 isFinished (listing l) = false
-isFinished (skipping l name depth) = false
+isFinished (skipping m name depth) = isFinished m
 isFinished finished = true
 
 -- ---- the first live record
@@ -163,8 +163,8 @@ Fits m seen closeCase = Unit {0}
 Fits m seen closeStatus = inStatus m ≡ true
 Fits m seen (openText l o) = (atStatusLevel l ≡ true → inStatus m ≡ true) × (traced l o ≡ true)
 Fits m seen (closeText l o) = (atStatusLevel l ≡ true → inStatus m ≡ true) × (traced l o ≡ true)
-Fits m seen (openList l) = atStatusLevel l ≡ false
-Fits m seen (readProperty l) = inStatus m ≡ false
+Fits m seen (openList l e) = atStatusLevel l ≡ false
+Fits m seen (readProperty l e name) = (inStatus m ≡ false) × (atStatusLevel l ≡ false)
 Fits m seen stop = seen ≡ true
 Fits m seen missing = Unit {0}
 Fits m seen (broken n) = Unit {0}
@@ -422,7 +422,17 @@ module _ (rooms : Rooms) (k : Control) (m : Marks) (c : Content) (ns : List Node
         sane = refl;
         ended = impossible;
       }
-  perform-goes p (openList l) j xs f =
+  perform-goes p (openList l true) j xs f =
+      accept
+      (record {
+        shows = λ u. looks-killKind (c .texts ++ u) (propertyKind l) (list-hidden l) (recordOf l m) (c .records) ∙ i .shows u;
+        solid = solid-killKind (propertyKind l) (recordOf l m) (c .records) (i .solid);
+        headed = λ h. heads-killKind (propertyKind l) (list-kind l) (recordOf l m) (c .records) (i .solid) (i .headed h);
+        here = λ e. impossible (sym f ∙ e);
+        sane = refl;
+        ended = impossible;
+      })
+  perform-goes p (openList l false) j xs f =
       accept
       (record {
         shows = λ u. looks-killKind (c .texts ++ u) (propertyKind l) (list-hidden l) (recordOf l m) (c .records) ∙ i .shows u;
@@ -432,16 +442,27 @@ module _ (rooms : Rooms) (k : Control) (m : Marks) (c : Content) (ns : List Node
         sane = ap not f;
         ended = impossible;
       })
-  perform-goes p (readProperty l) j xs f =
+  perform-goes p (readProperty l true name) j xs f =
       weaken (adding-grew rooms (propertyKind l) (list-adds rooms l) p j xs c)
       λ d q.
       record {
         shows = λ u. grew-shows c d q (i .shows) u ∙ ap (ns ++_) (list-nothing l (map blanked xs)) ∙ append-nil ns;
         solid = grew-solid c d q (i .solid);
         headed = λ h. grew-heads c d q (i .headed h);
-        here = λ e. impossible (sym f ∙ e);
+        here = λ e. impossible (sym (f .0) ∙ e);
         sane = i .sane;
         ended = i .ended;
+      }
+  perform-goes p (readProperty l false name) j xs f =
+      weaken (adding-grew rooms (propertyKind l) (list-adds rooms l) p j xs c)
+      λ d q.
+      record {
+        shows = λ u. grew-shows c d q (i .shows) u ∙ ap (ns ++_) (list-nothing l (map blanked xs)) ∙ append-nil ns;
+        solid = grew-solid c d q (i .solid);
+        headed = λ h. grew-heads c d q (i .headed h);
+        here = λ e. impossible (sym (f .1) ∙ e);
+        sane = ap not (f .1);
+        ended = impossible;
       }
   perform-goes p stop j xs f =
       accept (record { shows = i .shows; solid = i .solid; headed = i .headed; here = impossible; sane = refl; ended = λ _. f })

@@ -73,8 +73,8 @@ Ruling closeSuite t = Unit {0}
 Ruling closeStatus t = Unit {0}
 Ruling (openText l o) t = Unit {0}
 Ruling (closeText l o) t = Unit {0}
-Ruling (openList l) t = Unit {0}
-Ruling (readProperty l) t = Unit {0}
+Ruling (openList l e) t = Unit {0}
+Ruling (readProperty l e name) t = Unit {0}
 Ruling stop t = Unit {0}
 Ruling missing t = Unit {0}
 Ruling (broken n) t = Unit {0}
@@ -228,10 +228,15 @@ step-kept (openText l o) xs k ns found es z g r h =
     more-found (zoneAt l) (k .seen) (k .tally) ns found (ownFrom s es) (in-zone (k .seen) (k .tally) ns found (ownFrom s es) (sym z) h)
 step-kept (closeText l o) xs k ns found es z g r h =
     more-found (zoneAt l) (k .seen) (k .tally) ns found (ownFrom (spotAt l) es) (in-zone (k .seen) (k .tally) ns found (ownFrom (spotAt l) es) (sym z) h)
-step-kept (openList l) xs k ns found es z g r h =
+step-kept (openList l true) xs k ns found es z g r h =
+    more-found (zoneAt l) (k .seen) (k .tally) ns found (ownFrom (spotAt l) es) (in-zone (k .seen) (k .tally) ns found (ownFrom (spotAt l) es) (sym z) h)
+step-kept (openList l false) xs k ns found es z g r h =
     let s : Spot = spotOf (listing l) in
     more-found (zoneAt l) (k .seen) (k .tally) ns found (ownFrom s es) (in-zone (k .seen) (k .tally) ns found (ownFrom s es) (sym z) h)
-step-kept (readProperty l) xs k ns found es z g r h = more-found (zone (k .mode)) (k .seen) (k .tally) ns found (ownFrom (spotOf (k .mode)) es) h
+step-kept (readProperty l true name) xs k ns found es z g r h = more-found (zone (k .mode)) (k .seen) (k .tally) ns found (ownFrom (spotOf (k .mode)) es) h
+step-kept (readProperty l false name) xs k ns found es z g r h =
+    let s : Spot = spotOf (skipping (listing l) name 0) in
+    more-found (zoneAt l) (k .seen) (k .tally) ns found (ownFrom s es) (in-zone (k .seen) (k .tally) ns found (ownFrom s es) (sym z) h)
 step-kept stop xs k ns found es z g r h =
     more-found outer (k .seen) (k .tally) ns found (ownFrom over es) (in-zone (k .seen) (k .tally) ns found (ownFrom over es) z h)
 step-kept missing xs k ns found es z g r h = absurd g
@@ -249,8 +254,9 @@ turn-seen closeCase c = sym (or-false (c .seen))
 turn-seen closeStatus c = sym (or-false (c .seen))
 turn-seen (openText l o) c = sym (or-false (c .seen))
 turn-seen (closeText l o) c = sym (or-false (c .seen))
-turn-seen (openList l) c = sym (or-false (c .seen))
-turn-seen (readProperty l) c = sym (or-false (c .seen))
+turn-seen (openList l e) c = sym (or-false (c .seen))
+turn-seen (readProperty l true name) c = sym (or-false (c .seen))
+turn-seen (readProperty l false name) c = sym (or-false (c .seen))
 turn-seen stop c = sym (or-false (c .seen))
 turn-seen missing c = sym (or-false (c .seen))
 turn-seen (broken n) c = sym (or-false (c .seen))
@@ -271,6 +277,13 @@ cased-level suite z = impossible (ap isCased z)
 cased-level case z = refl
 cased-level status z = refl
 
+cased-mode : (m : Mode) → zone m ≡ cased → leaves (spotOf m) ≡ false
+cased-mode (at l) z = cased-level l z
+cased-mode (gathering l o) z = cased-level l z
+cased-mode (listing l) z = cased-level l z
+cased-mode (skipping m name depth) z = cased-mode m z
+cased-mode finished z = impossible (ap isCased z)
+
 own-step : (seen : Bool) (m : Mode) (k : TagKind) (name : List ℕ) (xs : List Attribute) (es : List PublicEvent) → zone m ≡ cased →
     ownFrom (spotOf m) (PublicTag k name xs ∷ es) ≡ cond (ownAt (spotOf m) k name) (tagOf name ∷ []) [] ++ ownFrom (move seen (spotOf m) k name) es
 unfolding ownFrom move
@@ -288,9 +301,9 @@ own-step seen (gathering l o) End name xs es z = rw (cased-level l z)
 own-step seen (listing l) Start name xs es z = rw (cased-level l z)
 own-step seen (listing l) Empty name xs es z = rw (cased-level l z)
 own-step seen (listing l) End name xs es z = rw (cased-level l z)
-own-step seen (skipping l skipped depth) Start name xs es z = rw (cased-level l z)
-own-step seen (skipping l skipped depth) Empty name xs es z = rw (cased-level l z)
-own-step seen (skipping l skipped depth) End name xs es z = rw (cased-level l z)
+own-step seen (skipping m skipped depth) Start name xs es z = rw (cased-mode m z)
+own-step seen (skipping m skipped depth) Empty name xs es z = rw (cased-mode m z)
+own-step seen (skipping m skipped depth) End name xs es z = rw (cased-mode m z)
 own-step seen finished k name xs es z = impossible (ap isCased z)
 
 kept-rest : (z : Zone) (seen : Bool) (tally : Tally) (ns : List Node) (found : List (List ℕ)) (r s : List ℕ) → (z ≡ cased → r ≡ s) → Kept z seen tally ns found r → Kept z seen tally ns found s
@@ -360,7 +373,7 @@ eof-last (at case) seen closed g = absurd g
 eof-last (at status) seen closed g = absurd g
 eof-last (gathering l o) seen closed g = absurd g
 eof-last (listing l) seen closed g = absurd g
-eof-last (skipping l skipped depth) seen closed g = absurd g
+eof-last (skipping m skipped depth) seen closed g = absurd g
 eof-last finished seen closed g = last-pass
 
 fault-last : (m : Mode) → Goes (planFault m) → Last m (planFault m)
@@ -368,7 +381,7 @@ unfolding planFault
 fault-last (at l) g = absurd g
 fault-last (gathering l o) g = absurd g
 fault-last (listing l) g = absurd g
-fault-last (skipping l skipped depth) g = absurd g
+fault-last (skipping m skipped depth) g = absurd g
 fault-last finished g = last-pass
 
 -- ---- the reader's run
@@ -385,8 +398,8 @@ module _ (rooms : Rooms) where
   perform-passes p closeStatus j xs k m c = weaken (anything _) λ _ _. (tt, tt)
   perform-passes p (openText l o) j xs k m c = weaken (anything _) λ _ _. (tt, tt)
   perform-passes p (closeText l o) j xs k m c = weaken (anything _) λ _ _. (tt, tt)
-  perform-passes p (openList l) j xs k m c = weaken (anything _) λ _ _. (tt, tt)
-  perform-passes p (readProperty l) j xs k m c = weaken (anything _) λ _ _. (tt, tt)
+  perform-passes p (openList l e) j xs k m c = weaken (anything _) λ _ _. (tt, tt)
+  perform-passes p (readProperty l e name) j xs k m c = weaken (anything _) λ _ _. (tt, tt)
   perform-passes p stop j xs k m c = weaken (anything _) λ _ _. (tt, tt)
   perform-passes p missing j xs k m c = refusing
   perform-passes p (broken n) j xs k m c = refusing

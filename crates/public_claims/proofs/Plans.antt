@@ -12,7 +12,7 @@ use Rattle.read_element.specs.Outcome.{_>>=_, Place, Rooms}
 use Rattle.read_state.specs.Control.{Level, top, suite, case, status, Output, Mode, at, gathering, listing, skipping, finished, Control}
 use Rattle.read_state.specs.Control.{Act, pass, openReport, openSuite, openCase, openStatus, closeSuite, closeCase, closeStatus, openText, closeText, openList, readProperty, stop, missing, broken}
 use Rattle.read_state.specs.Control.{isStatus, orSkip, gathers, turn}
-use Rattle.read_rules.specs.Rules.{outputs, atTop, atSuite, atCase, child, atStatus, inText, inList, inSkip, shallower, planAt, planEof, planFault, tagOfOutput}
+use Rattle.read_rules.specs.Rules.{outputs, emptied, atTop, atSuite, atCase, child, atStatus, inText, inList, inSkip, shallower, planAt, planEof, planFault, tagOfOutput}
 use Rattle.read_place.specs.Marks.{Marks, onward}
 use Rattle.read_path.specs.Paths.{actPlace}
 use Rattle.read_content.specs.Content.{Content, joinPiece, gather, perform}
@@ -49,6 +49,11 @@ module _ (seen : Bool) where
   outputs-fit l name =
       choose (Fits (at l) seen) (eqb (tagOf name) system-out) (λ e. e, refl) (choose (Fits (at l) seen) (eqb (tagOf name) system-err) (λ e. e, refl) (skips l name))
 
+  emptied-fits : (l : Level) (name : List ℕ) → Fits (at l) seen (emptied l name)
+  unfolding emptied
+  emptied-fits l name =
+      choose (Fits (at l) seen) (eqb (tagOf name) system-out) (λ e. e, refl) (choose (Fits (at l) seen) (eqb (tagOf name) system-err) (λ e. e, refl) (stays l))
+
   top-fits : (k : TagKind) (t : ℕ) → Fits (at top) seen (atTop seen k t)
   unfolding atTop
   top-fits Start t = choose (Fits (at top) seen) (eqb t testsuites) tt (choose (Fits (at top) seen) (eqb t testsuite && seen) tt (stays top))
@@ -59,14 +64,16 @@ module _ (seen : Bool) where
   unfolding atSuite
   suite-fits Start name =
       choose (Fits (at suite) seen) (eqb (tagOf name) testcase) tt (choose (Fits (at suite) seen) (eqb (tagOf name) properties) refl (outputs-fit suite name))
-  suite-fits Empty name = choose (Fits (at suite) seen) (eqb (tagOf name) testcase) tt (stays suite)
+  suite-fits Empty name =
+      choose (Fits (at suite) seen) (eqb (tagOf name) testcase) tt (choose (Fits (at suite) seen) (eqb (tagOf name) properties) refl (emptied-fits suite name))
   suite-fits End name = choose (Fits (at suite) seen) (eqb (tagOf name) testsuite) tt (stays suite)
 
   case-fits : (k : TagKind) (name : List ℕ) → Fits (at case) seen (atCase k name)
   unfolding atCase
   case-fits Start name =
       test (Fits (at case) seen) (isStatus (tagOf name)) (λ e. e) (choose (Fits (at case) seen) (eqb (tagOf name) properties) refl (outputs-fit case name))
-  case-fits Empty name = test (Fits (at case) seen) (isStatus (tagOf name)) (λ e. e) (stays case)
+  case-fits Empty name =
+      test (Fits (at case) seen) (isStatus (tagOf name)) (λ e. e) (choose (Fits (at case) seen) (eqb (tagOf name) properties) refl (emptied-fits case name))
   case-fits End name = choose (Fits (at case) seen) (eqb (tagOf name) testcase) tt (stays case)
 
   child-fits : (name : List ℕ) → Fits (at status) seen (child name)
@@ -76,7 +83,7 @@ module _ (seen : Bool) where
   status-fits : (k : TagKind) (name : List ℕ) → Fits (at status) seen (atStatus k name)
   unfolding atStatus
   status-fits Start name = child-fits name
-  status-fits Empty name = child-fits name
+  status-fits Empty name = choose (Fits (at status) seen) (eqb (tagOf name) stackTrace) (λ e. e, refl) (emptied-fits status name)
   status-fits End name = choose (Fits (at status) seen) (isStatus (tagOf name)) refl (stays status)
 
   text-fits : (l : Level) (o : Output) (k : TagKind) (t : ℕ) → traced l o ≡ true → Fits (gathering l o) seen (inText l o k t)
@@ -89,27 +96,29 @@ module _ (seen : Bool) where
   not-so true e = impossible e
   not-so false e = refl
 
-  list-fits : (l : Level) (k : TagKind) (t : ℕ) → not (atStatusLevel l) ≡ true → Fits (listing l) seen (inList l k t)
+  list-fits : (l : Level) (k : TagKind) (name : List ℕ) → not (atStatusLevel l) ≡ true → Fits (listing l) seen (inList l k name)
   unfolding inList
-  list-fits l Start t h = (λ e. e, h, impossible)
-  list-fits l Empty t h = choose (Fits (listing l) seen) (eqb t property) (not-so (atStatusLevel l) h) (λ e. e, h, impossible)
-  list-fits l End t h = choose (Fits (listing l) seen) (eqb t properties) (λ e. e, refl, impossible) (λ e. e, h, impossible)
-
-  shallower-fits : (l : Level) (name : List ℕ) (depth : ℕ) (m : Mode) → inStatus m ≡ atStatusLevel l → Fits m seen (pass (shallower l name depth))
-  shallower-fits l name zero m h = (λ e. h ∙ e, refl, impossible)
-  shallower-fits l name (suc depth) m h = (λ e. h ∙ e, refl, impossible)
+  list-fits l Start name h =
+      choose (Fits (listing l) seen) (eqb (tagOf name) property) (not-so (atStatusLevel l) h, not-so (atStatusLevel l) h) (λ e. e, h, impossible)
+  list-fits l Empty name h =
+      choose (Fits (listing l) seen) (eqb (tagOf name) property) (not-so (atStatusLevel l) h, not-so (atStatusLevel l) h) (λ e. e, h, impossible)
+  list-fits l End name h = choose (Fits (listing l) seen) (eqb (tagOf name) properties) (λ e. e, refl, impossible) (λ e. e, h, impossible)
 
   passing : (m : Mode) (b : Bool) (x y : Mode) → Fits m seen (pass x) → Fits m seen (pass y) → Fits m seen (pass (cond b x y))
   passing m true x y h j = h
   passing m false x y h j = j
 
-  skip-fits : (l : Level) (skipped : List ℕ) (depth : ℕ) (k : TagKind) (name : List ℕ) → Fits (skipping l skipped depth) seen (inSkip l skipped depth k name)
-  unfolding inSkip
-  skip-fits l skipped depth Start name = (λ e. e, refl, impossible)
-  skip-fits l skipped depth Empty name = (λ e. e, refl, impossible)
-  skip-fits l skipped depth End name =
-      passing (skipping l skipped depth) (sameBytes name skipped) (shallower l skipped depth) (skipping l skipped depth)
-      (shallower-fits l skipped depth (skipping l skipped depth) refl) (λ e. e, refl, impossible)
+  module _ (m : Mode) (h : sound m ≡ true) (f : isFinished m ≡ true → seen ≡ true) (skipped : List ℕ) where
+    shallower-fits : (d depth : ℕ) → Fits (skipping m skipped d) seen (pass (shallower m skipped depth))
+    shallower-fits d zero = (λ e. e, h, f)
+    shallower-fits d (suc depth) = (λ e. e, h, f)
+
+    skip-fits : (depth : ℕ) (k : TagKind) (name : List ℕ) → Fits (skipping m skipped depth) seen (inSkip m skipped depth k name)
+    unfolding inSkip
+    skip-fits depth Start name = (λ e. e, h, f)
+    skip-fits depth Empty name = (λ e. e, h, f)
+    skip-fits depth End name =
+        passing (skipping m skipped depth) (sameBytes name skipped) (shallower m skipped depth) (skipping m skipped depth) (shallower-fits depth depth) (λ e. e, h, f)
 
   plan-fits : (m : Mode) (k : TagKind) (name : List ℕ) → sound m ≡ true → (isFinished m ≡ true → seen ≡ true) → Fits m seen (planAt m seen k name)
   unfolding planAt
@@ -118,8 +127,8 @@ module _ (seen : Bool) where
   plan-fits (at case) k name h f = case-fits k name
   plan-fits (at status) k name h f = status-fits k name
   plan-fits (gathering l o) k name h f = text-fits l o k (tagOf name) h
-  plan-fits (listing l) k name h f = list-fits l k (tagOf name) h
-  plan-fits (skipping l skipped depth) k name h f = skip-fits l skipped depth k name
+  plan-fits (listing l) k name h f = list-fits l k name h
+  plan-fits (skipping m skipped depth) k name h f = skip-fits m h f skipped depth k name
   plan-fits finished k name h f = (λ e. e, refl, f)
 
   eof-fits : (m : Mode) (closed : Bool) → (isFinished m ≡ true → seen ≡ true) → Fits m seen (planEof m seen closed)
@@ -130,7 +139,7 @@ module _ (seen : Bool) where
   eof-fits (at status) closed f = tt
   eof-fits (gathering l o) closed f = tt
   eof-fits (listing l) closed f = tt
-  eof-fits (skipping l skipped depth) closed f = tt
+  eof-fits (skipping m skipped depth) closed f = tt
   eof-fits finished closed f = (λ e. e, refl, f)
 
   fault-fits : (m : Mode) → (isFinished m ≡ true → seen ≡ true) → Fits m seen (planFault m)
@@ -138,7 +147,7 @@ module _ (seen : Bool) where
   fault-fits (at l) f = tt
   fault-fits (gathering l o) f = tt
   fault-fits (listing l) f = tt
-  fault-fits (skipping l skipped depth) f = tt
+  fault-fits (skipping m skipped depth) f = tt
   fault-fits finished f = (λ e. e, refl, f)
 
 -- Eof stops or refuses
@@ -153,8 +162,8 @@ Ends closeCase = ⊥
 Ends closeStatus = ⊥
 Ends (openText l o) = ⊥
 Ends (closeText l o) = ⊥
-Ends (openList l) = ⊥
-Ends (readProperty l) = ⊥
+Ends (openList l e) = ⊥
+Ends (readProperty l e name) = ⊥
 Ends stop = Unit {0}
 Ends missing = Unit {0}
 Ends (broken n) = Unit {0}
@@ -167,7 +176,7 @@ eof-ends (at case) seen closed = tt
 eof-ends (at status) seen closed = tt
 eof-ends (gathering l o) seen closed = tt
 eof-ends (listing l) seen closed = tt
-eof-ends (skipping l skipped depth) seen closed = tt
+eof-ends (skipping m skipped depth) seen closed = tt
 eof-ends finished seen closed = refl
 
 -- ---- steps and runs
@@ -191,7 +200,7 @@ module _ (rooms : Rooms) where
   join-same (at l) v c = (refl, refl)
   join-same (gathering l o) v c = (refl, refl)
   join-same (listing l) v c = (refl, refl)
-  join-same (skipping l name depth) v c = (refl, refl)
+  join-same (skipping m name depth) v c = (refl, refl)
   join-same finished v c = (refl, refl)
 
   gather-same : (p : Place) (m : Mode) (k : PieceKind) (b : List ℕ) (c : Content) → Holds (λ (d : Content). (d .records ≡ c .records) × (d .texts ≡ c .texts)) (gather rooms p m k b c)
@@ -241,8 +250,8 @@ module _ (rooms : Rooms) where
   end-sim closeStatus s ns i f e = absurd e
   end-sim (openText l o) s ns i f e = absurd e
   end-sim (closeText l o) s ns i f e = absurd e
-  end-sim (openList l) s ns i f e = absurd e
-  end-sim (readProperty l) s ns i f e = absurd e
+  end-sim (openList l b) s ns i f e = absurd e
+  end-sim (readProperty l b name) s ns i f e = absurd e
 
   -- from one public state on
   goes-on : (es : List Event) (p : PublicState) (t : Machine) → Sim p t →

@@ -8,7 +8,7 @@ use mathlib.Core.Option.{Option, none, some}
 use lib.ListN.{length}
 use lib.Dec.{leb, eqb}
 use Rattle.names.specs.Names.{sameBytes}
-use Rattle.names.specs.Tags.{tagOf}
+use Rattle.names.specs.Tags.{tagOf, testsuites, testsuite, testcase, properties, property, stackTrace, system-out, system-err}
 use Rattle.table.specs.Event.{TagKind, Start, Empty, End}
 use Rattle.list_text.specs.Listing.{Status, isSuccess, isFailure, isError, isSkipped, RunKind, noKind, flakyKind, rerunKind, PublicCase, PublicSuite, PublicReport}
 use Rattle.public_claims.specs.Agree.{PublicEvent, PublicTag, PublicEof, PublicFault}
@@ -61,11 +61,12 @@ unfoldable pub rule : List ℕ → Option Verdict
 rule ks = ruleFor (mains ks) (flakies ks) (reruns ks)
 
 -- ---- the walk
--- where the walk stands: at report level, in a suite, in a case, in a status element; on its way to the next End of a tag code; on
--- its way to the End of a name at depth 0; behind the report
+-- where the walk stands: at report level, in a suite, in a case, in a status element; on its way to the next End of a tag code; in a
+-- properties list; on its way to the End of a name at depth 0; behind the report
 pub data Spot : Type 0 where
   atReport inSuite inCase inStatus over : Spot
   upTo : ℕ → Spot → Spot
+  amongProperties : Spot → Spot
   past : List ℕ → ℕ → Spot → Spot
 
 -- the seven status names (rule S1), codes 6 to 12
@@ -76,43 +77,49 @@ isStatusName name = leb 6 (tagOf name) && leb (tagOf name) 12
 -- End, and whatever else is skipped (rules R10, R11)
 abbrev pub held : List ℕ → Spot → Spot
 held name s =
-    cond (eqb (tagOf name) 4) (upTo 4 s)
-    (cond (eqb (tagOf name) 14) (upTo 14 s)
-    (cond (eqb (tagOf name) 15) (upTo 15 s) (past name 0 s)))
+    cond (eqb (tagOf name) properties) (amongProperties s)
+    (cond (eqb (tagOf name) system-out) (upTo system-out s)
+    (cond (eqb (tagOf name) system-err) (upTo system-err s) (past name 0 s)))
 
 -- the same in a status element, which has a stack trace besides its outputs and no properties (rules S3, S4)
 abbrev pub heldByStatus : List ℕ → Spot
 heldByStatus name =
-    cond (eqb (tagOf name) 13) (upTo 13 inStatus)
-    (cond (eqb (tagOf name) 14) (upTo 14 inStatus)
-    (cond (eqb (tagOf name) 15) (upTo 15 inStatus) (past name 0 inStatus)))
+    cond (eqb (tagOf name) stackTrace) (upTo stackTrace inStatus)
+    (cond (eqb (tagOf name) system-out) (upTo system-out inStatus)
+    (cond (eqb (tagOf name) system-err) (upTo system-err inStatus) (past name 0 inStatus)))
 
 abbrev pub leaveSkip : ℕ → List ℕ → Spot → Spot
 leaveSkip zero name s = s
 leaveSkip (suc depth) name s = past name depth s
 
--- where it stands behind a tag; a Bool says that a report exists
+-- where it stands behind a tag; a Bool says that a report exists. Below report level an Empty tag is an empty element, which ends where
+-- it stands: the walk stays.
 unfoldable pub move : Bool → Spot → TagKind → List ℕ → Spot
--- "`testsuite` counts only once a report exists. End `testsuites` stops. All else is passed over"
-move seen atReport Start name = cond (eqb (tagOf name) 2 && seen) inSuite atReport
+-- a suite counts once a report exists, End `testsuites` ends all, and any other tag is passed over (rules R5 to R7)
+move seen atReport Start name = cond (eqb (tagOf name) testsuite && seen) inSuite atReport
 move seen atReport Empty name = atReport
-move seen atReport End name = cond (eqb (tagOf name) 1) over atReport
--- "An unknown Start is skipped"; "Any End but the element's own is passed over, and so is any Empty"
-move seen inSuite Start name = cond (eqb (tagOf name) 3) inCase (held name inSuite)
+move seen atReport End name = cond (eqb (tagOf name) testsuites) over atReport
+-- suite and case end at the next End of their own name (rule R12)
+move seen inSuite Start name = cond (eqb (tagOf name) testcase) inCase (held name inSuite)
 move seen inSuite Empty name = inSuite
-move seen inSuite End name = cond (eqb (tagOf name) 2) atReport inSuite
+move seen inSuite End name = cond (eqb (tagOf name) testsuite) atReport inSuite
 move seen inCase Start name = cond (isStatusName name) inStatus (held name inCase)
 move seen inCase Empty name = inCase
-move seen inCase End name = cond (eqb (tagOf name) 3) inSuite inCase
--- "Status elements close at an End of any of the seven status names. A child [..] Start or Empty alike"
+move seen inCase End name = cond (eqb (tagOf name) testcase) inSuite inCase
+-- a status element ends at an End of any status name (rule S2)
 move seen inStatus Start name = heldByStatus name
-move seen inStatus Empty name = heldByStatus name
+move seen inStatus Empty name = inStatus
 move seen inStatus End name = cond (isStatusName name) inCase inStatus
 -- a text takes in tags, also those of its own name, up to the first End of that name (rule R14)
 move seen (upTo code s) Start name = upTo code s
 move seen (upTo code s) Empty name = upTo code s
 move seen (upTo code s) End name = cond (eqb (tagOf name) code) s (upTo code s)
--- "to the End of the same name at depth 0, each Start of that name adding one"
+-- of a Start `property` the content is skipped, so that no End in it closes the list; all else in the list is passed over, up to End
+-- `properties` (rules R15, R16)
+move seen (amongProperties s) Start name = cond (eqb (tagOf name) property) (past name 0 (amongProperties s)) (amongProperties s)
+move seen (amongProperties s) Empty name = amongProperties s
+move seen (amongProperties s) End name = cond (eqb (tagOf name) properties) s (amongProperties s)
+-- Starts of the skipped name add to the depth, its Ends take away (rule R11)
 move seen (past skipped depth s) Start name = past skipped (cond (sameBytes name skipped) (suc depth) depth) s
 move seen (past skipped depth s) Empty name = past skipped depth s
 move seen (past skipped depth s) End name = cond (sameBytes name skipped) (leaveSkip depth skipped s) (past skipped depth s)
@@ -128,6 +135,7 @@ ownAt inSuite k name = false
 ownAt inStatus k name = false
 ownAt over k name = false
 ownAt (upTo code s) k name = false
+ownAt (amongProperties s) k name = false
 ownAt (past skipped depth s) k name = false
 
 -- the case is left at its End
@@ -138,6 +146,7 @@ leaves over = true
 leaves inCase = false
 leaves inStatus = false
 leaves (upTo code s) = leaves s
+leaves (amongProperties s) = leaves s
 leaves (past skipped depth s) = leaves s
 
 -- the codes of a case's own status elements in the events from a spot in it on, to its End
@@ -159,6 +168,7 @@ beginsReport inCase k name = false
 beginsReport inStatus k name = false
 beginsReport over k name = false
 beginsReport (upTo code s) k name = false
+beginsReport (amongProperties s) k name = false
 beginsReport (past skipped depth s) k name = false
 
 -- the case that a tag in a suite begins, with its own status elements in the events behind it; an Empty case has none
@@ -171,6 +181,7 @@ caseAt inCase k name es = []
 caseAt inStatus k name es = []
 caseAt over k name es = []
 caseAt (upTo code s) k name es = []
+caseAt (amongProperties s) k name es = []
 caseAt (past skipped depth s) k name es = []
 
 -- the cases of the last report, in order, each by its own status elements; those before were found already

@@ -1,4 +1,4 @@
--- The public machine: it reads public events alone, with no areas and no texts, by the rules of crate control. What it reads is a
+-- The public machine: it reads public events alone, with no areas and no texts, by the plan of reading (crate read_rules). What it reads is a
 -- list of nodes in document order, and the public report that they make. Definitions only.
 use Prim.Native.Nat.{ℕ}
 use mathlib.Core.List.{List, [], _∷_, _++_}
@@ -126,8 +126,8 @@ publicAct closeCase xs ns = ns
 publicAct closeStatus xs ns = ns
 publicAct (openText l o) xs ns = ns
 publicAct (closeText l o) xs ns = ns
-publicAct (openList l) xs ns = ns
-publicAct (readProperty l) xs ns = ns
+publicAct (openList l e) xs ns = ns
+publicAct (readProperty l e name) xs ns = ns
 publicAct stop xs ns = ns
 publicAct missing xs ns = ns
 publicAct (broken n) xs ns = ns

@@ -1,7 +1,7 @@
 -- What each act of the code comes to, in the mode it is done in. Assumes nothing.
 use Prim.Native.Nat.{ℕ, _+_, _*_, _≤_}
 use mathlib.Core.Path.{_≡_, refl, sym, ap, subst, _∙_}
-use mathlib.Core.Bool.{Bool, true, false, cond, not}
+use mathlib.Core.Bool.{Bool, true, false, cond, not, _||_}
 use mathlib.Core.List.{List, []}
 use native.Mathlib.Omega.{arith}
 use lib.ListN.{length}
@@ -13,7 +13,7 @@ use Rattle.tree_status.specs.declared.Tally.{Tally}
 use Rattle.tree_status.specs.Status.{ruled}
 use Rattle.read_element.specs.Outcome.{Place, Rooms, need}
 use Rattle.read_state.specs.Control.{Level, top, suite, case, status, Output, at, gathering, listing, Control, control, orSkip, turn}
-use Rattle.read_state.specs.inside.Coded.{levelOf, modeAt, opening, closing, actIn, isStep}
+use Rattle.read_state.specs.inside.Coded.{levelOf, outputOf, modeAt, opening, closing, actIn, isStep}
 use Rattle.read_state.specs.declared.Level.{Level as CodedLevel}
 use Rattle.read_state.specs.declared.Level.the-variants as level
 use Rattle.read_state.specs.declared.Mode.{Mode as CodedMode}
@@ -93,12 +93,12 @@ module _ (k : CodedMode) (l : Level) (o : Output) (m : Marks) {words text scratc
   pub status-end : statusEnd l m * 32 ≤ length words
   status-end = within-words (statusEnd l m) (status-low l m c (h .said) (opened-in k l o m c (h .said) (h .lists)))
 
-  pub list-end : {a : CodedAct} → a ≡ act.OpenList → apt a (modeAt k l o) ≡ true → (listOf l c .first + listOf l c .count) * 32 ≤ length words
+  pub list-end : {a : CodedAct} {e : Bool} → a ≡ act.OpenList e → apt a (modeAt k l o) ≡ true → (listOf l c .first + listOf l c .count) * 32 ≤ length words
   list-end e x =
       within-words (listOf l c .first + listOf l c .count)
       (list-low k l o m c (h .said) (subst (λ (b : CodedAct). apt b (modeAt k l o) ≡ true) e x) (h .lists))
 
-  pub property-end : {a : CodedAct} → a ≡ act.ReadProperty → apt a (modeAt k l o) ≡ true → listOf l c .count * 32 ≤ length words
+  pub property-end : {a : CodedAct} {e : Bool} → a ≡ act.ReadProperty e → apt a (modeAt k l o) ≡ true → listOf l c .count * 32 ≤ length words
   property-end e x =
       let n = few-properties (h .holds) m l (list-mode k l o m c (h .said) (subst (λ (b : CodedAct). apt b (modeAt k l o) ≡ true) e x) (h .lists)) in
       let u = h .holds .used in
@@ -125,6 +125,9 @@ same-lists top m n a b d c s x = x
 same-lists suite m n a b d c s x = rw a x
 same-lists case m n a b d c s x = rw (a, b) x
 same-lists status m n a b d c s x = rw (a, b, d) x
+
+list-left : (l : Level) (m : Marks) (c : CodedContent) (s : Content) → Lists (listing l) m c s → Lists (at l) m c s
+list-left l m c s x = (x .0, x .1 .0)
 
 module _ (l : Level) (o : Output) (seen closed : Bool) (t : Tally) (name : List ℕ) (m : Marks) (p : Place) (rooms : Rooms) (j : ℕ) (xs : List Attribute)
     (words text scratch attributes source : List ℕ) (c : CodedContent) (s : Content) (r : Performed) where
@@ -171,26 +174,31 @@ module _ (l : Level) (o : Output) (seen closed : Bool) (t : Tally) (name : List 
   close-in mode.Text a li f = no a
   close-in mode.List a li f = no a
 
-  close-text-in : (k : CodedMode) → isText (modeAt k l o) ≡ true → Lists (modeAt k l o) m c s
-      → (Lists (gathering l o) m c s → Performs (at l) m p words text scratch attributes source (outputting rooms p l o m s) r) → In k act.CloseText
+  -- an Empty output is closed in its element
+  close-text-in : (k : CodedMode) (out : CodedOutput) → (isAt (modeAt k l o) || isText (modeAt k l o)) ≡ true → Lists (modeAt k l o) m c s
+      → (Lists (gathering l (outputOf out)) m c s → Performs (at l) m p words text scratch attributes source (outputting rooms p l (outputOf out) m s) r)
+      → In k (act.CloseText out)
   unfolding turn marksAfter perform
-  close-text-in mode.At a li f = no a
-  close-text-in mode.Text a li f = f li
-  close-text-in mode.List a li f = no a
+  close-text-in mode.At out a li f = f (li .0)
+  close-text-in mode.Text out a li f = f li
+  close-text-in mode.List out a li f = no a
 
-  property-in : (k : CodedMode) → isList (modeAt k l o) ≡ true → Lists (modeAt k l o) m c s
-      → (Lists (listing l) m c s → Performs (listing l) m p words text scratch attributes source (adding rooms p (propertyKind l) j xs s) r) → In k act.ReadProperty
+  property-in : (k : CodedMode) (e : Bool) → isList (modeAt k l o) ≡ true → Lists (modeAt k l o) m c s
+      → (Lists (listing l) m c s → Performs (listing l) m p words text scratch attributes source (adding rooms p (propertyKind l) j xs s) r) → In k (act.ReadProperty e)
   unfolding turn marksAfter perform
-  property-in mode.At a li f = no a
-  property-in mode.Text a li f = no a
-  property-in mode.List a li f = comes-on (f li) (same-lists l m _ refl refl refl)
+  property-in mode.At e a li f = no a
+  property-in mode.Text e a li f = no a
+  property-in mode.List true a li f = comes-on (f li) (same-lists l m _ refl refl refl)
+  property-in mode.List false a li f = comes-on (f li) (same-lists l m _ refl refl refl)
 
-  list-in : (k : CodedMode) {words₀ : List ℕ} → hasList (modeAt k l o) ≡ true → Holds words₀ text scratch attributes source c s → Lists (modeAt k l o) m c s
-      → words ≡ killWords (listOf l c .count) (listOf l c .first) words₀ → r ≡ To (withList l c (record { first = c .used; count = 0 })) → In k act.OpenList
+  list-in : (k : CodedMode) (e : Bool) {words₀ : List ℕ} → hasList (modeAt k l o) ≡ true → Holds words₀ text scratch attributes source c s → Lists (modeAt k l o) m c s
+      → words ≡ killWords (listOf l c .count) (listOf l c .first) words₀ → r ≡ To (withList l c (record { first = c .used; count = 0 })) → In k (act.OpenList e)
   unfolding turn marksAfter perform
-  list-in mode.At a hd li e q = rw q (comes-on (list-opened hd p m l a li e) (same-lists l m _ refl refl refl))
-  list-in mode.Text a hd li e q = no a
-  list-in mode.List a hd li e q = no a
+  list-in mode.At true a hd li w q =
+      rw q (comes-on (list-opened hd p m l a li w) (λ d t x. list-left l _ d t (same-lists l m _ refl refl refl d t x)))
+  list-in mode.At false a hd li w q = rw q (comes-on (list-opened hd p m l a li w) (same-lists l m _ refl refl refl))
+  list-in mode.Text e a hd li w q = no a
+  list-in mode.List e a hd li w q = no a
 
   -- ---- the same of an act that is known to be it
   module _ (k : CodedMode) {a : CodedAct} where
@@ -220,16 +228,17 @@ module _ (l : Level) (o : Output) (seen closed : Bool) (t : Tally) (name : List 
           → In k a
       acted-close e f = turn-to e (λ x. close-in k x li f) h
 
-      pub acted-close-text : a ≡ act.CloseText → (Lists (gathering l o) m c s → Performs (at l) m p words text scratch attributes source (outputting rooms p l o m s) r) → In k a
-      acted-close-text e f = turn-to e (λ x. close-text-in k x li f) h
+      pub acted-close-text : {out : CodedOutput} → a ≡ act.CloseText out
+          → (Lists (gathering l (outputOf out)) m c s → Performs (at l) m p words text scratch attributes source (outputting rooms p l (outputOf out) m s) r) → In k a
+      acted-close-text {out} e f = turn-to e (λ x. close-text-in k out x li f) h
 
-      pub acted-property : a ≡ act.ReadProperty
+      pub acted-property : {e : Bool} → a ≡ act.ReadProperty e
           → (Lists (listing l) m c s → Performs (listing l) m p words text scratch attributes source (adding rooms p (propertyKind l) j xs s) r) → In k a
-      acted-property e f = turn-to e (λ x. property-in k x li f) h
+      acted-property {e} q f = turn-to q (λ x. property-in k e x li f) h
 
-      pub acted-list : {words₀ : List ℕ} → a ≡ act.OpenList → Holds words₀ text scratch attributes source c s
+      pub acted-list : {e : Bool} {words₀ : List ℕ} → a ≡ act.OpenList e → Holds words₀ text scratch attributes source c s
           → words ≡ killWords (listOf l c .count) (listOf l c .first) words₀ → r ≡ To (withList l c (record { first = c .used; count = 0 })) → In k a
-      acted-list e hd w q = turn-to e (λ x. list-in k x hd li w q) h
+      acted-list {e} z hd w q = turn-to z (λ x. list-in k e x hd li w q) h
 
       pub acted-open : {kind : ℕ} {e : Bool} → a ≡ act.Open kind e
           → (opens kind (modeAt k l o) ≡ true → Performs (turn (opening kind e) (standing k l o seen closed t) .mode) (marksAfter (opening kind e) (length (s .records)) m)

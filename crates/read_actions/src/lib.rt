@@ -75,14 +75,13 @@ pub fn perform(
         (areas (now (records .entry)) (now (text .entry))) (areas (now (records .exit)) (now (text .exit))) (now (scratch .entry)) r ⌝ }
 {
     let level = control.level;
-    let output = control.output;
     let tally = control.tally;
     match act {
         Act::Open(kind, _) => open_element(kind, range, content, attributes, source, records, text),
         Act::Close => close(level, tally, marks, content, records, text, scratch),
-        Act::CloseText => close_text(level, output, marks, content, records, text, scratch),
-        Act::OpenList => Performed::To(open_list(level, content, records)),
-        Act::ReadProperty => read_property(
+        Act::CloseText(output) => close_text(level, output, marks, content, records, text, scratch),
+        Act::OpenList(_) => Performed::To(open_list(level, content, records)),
+        Act::ReadProperty(_) => read_property(
             level,
             range,
             content,

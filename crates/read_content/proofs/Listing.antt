@@ -224,5 +224,5 @@ pub lists-at : (mode : Mode) (e : ℕ) (m : Marks) (c : CodedContent) (s : Conte
 lists-at (at l) e m c s li = (opened-at l e m c s (li .0), li .1)
 lists-at (gathering l o) e m c s li = opened-at l e m c s li
 lists-at (listing l) e m c s li = (opened-at l e m c s (li .0), li .1)
-lists-at (skipping l name depth) e m c s li = li
+lists-at (skipping outer name depth) e m c s li = li
 lists-at finished e m c s li = li

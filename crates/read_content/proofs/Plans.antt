@@ -9,7 +9,7 @@ use Rattle.names.specs.Tags.{tagOf, testsuites, testsuite, testcase, properties
 use Rattle.table.specs.Event.{TagKind, Start, Empty, End}
 use Rattle.read_state.specs.Control.{Level, top, suite, case, status, Output, Mode, at, gathering, listing, skipping, finished, Act, pass, openReport, openSuite, openCase}
 use Rattle.read_state.specs.Control.{openStatus, closeSuite, closeCase, closeStatus, openText, closeText, openList, readProperty, stop, missing, broken, isStatus, orSkip}
-use Rattle.read_rules.specs.Rules.{outputs, atTop, atSuite, atCase, child, atStatus, tagOfOutput, inText, inList, planAt, planEof}
+use Rattle.read_rules.specs.Rules.{outputs, emptied, atTop, atSuite, atCase, child, atStatus, tagOfOutput, inText, inList, planAt, planEof}
 use Rattle.read_state.specs.inside.Coded.{modeAt, opening, closing, actIn}
 use Rattle.read_state.specs.declared.Mode.{Mode as CodedMode}
 use Rattle.read_state.specs.declared.Mode.the-variants as mode
@@ -42,7 +42,7 @@ abbrev goesOn : Mode → Bool
 goesOn (at l) = false
 goesOn (gathering l o) = true
 goesOn (listing l) = true
-goesOn (skipping l name depth) = true
+goesOn (skipping m name depth) = true
 goesOn finished = true
 
 -- an act of the definitions that fits a mode
@@ -56,9 +56,9 @@ fit mode.At l closeSuite = true
 fit mode.At l closeCase = true
 fit mode.At l closeStatus = true
 fit mode.At l (openText x o) = true
-fit mode.At l (closeText x o) = false
-fit mode.At l (openList x) = isSuite l || isCase l
-fit mode.At l (readProperty x) = false
+fit mode.At l (closeText x o) = true
+fit mode.At l (openList x e) = isSuite l || isCase l
+fit mode.At l (readProperty x e name) = false
 fit mode.At l stop = true
 fit mode.At l missing = true
 fit mode.At l (broken n) = true
@@ -72,8 +72,8 @@ fit mode.Text l closeCase = false
 fit mode.Text l closeStatus = false
 fit mode.Text l (openText x o) = false
 fit mode.Text l (closeText x o) = true
-fit mode.Text l (openList x) = false
-fit mode.Text l (readProperty x) = false
+fit mode.Text l (openList x e) = false
+fit mode.Text l (readProperty x e name) = false
 fit mode.Text l stop = true
 fit mode.Text l missing = true
 fit mode.Text l (broken n) = true
@@ -87,8 +87,8 @@ fit mode.List l closeCase = false
 fit mode.List l closeStatus = false
 fit mode.List l (openText x o) = false
 fit mode.List l (closeText x o) = false
-fit mode.List l (openList x) = false
-fit mode.List l (readProperty x) = true
+fit mode.List l (openList x e) = false
+fit mode.List l (readProperty x e name) = true
 fit mode.List l stop = true
 fit mode.List l missing = true
 fit mode.List l (broken n) = true
@@ -108,6 +108,10 @@ outputs-fit : (l x : Level) (name : List ℕ) → Fit mode.At l (outputs x name)
 unfolding outputs orSkip
 outputs-fit l x name = pick (eqb (tagOf name) system-out) (λ _. fits refl) (pick (eqb (tagOf name) system-err) (λ _. fits refl) (fits refl))
 
+emptied-fit : (l x : Level) (name : List ℕ) → Fit mode.At l (emptied x name)
+unfolding emptied
+emptied-fit l x name = pick (eqb (tagOf name) system-out) (λ _. fits refl) (pick (eqb (tagOf name) system-err) (λ _. fits refl) (fits refl))
+
 child-fit : (name : List ℕ) → Fit mode.At status (child name)
 unfolding child
 child-fit name = pick (eqb (tagOf name) stackTrace) (λ _. fits refl) (outputs-fit status status name)
@@ -119,19 +123,21 @@ plan-fit mode.At top o seen Empty name = pick (eqb (tagOf name) testsuites) (λ 
 plan-fit mode.At top o seen End name = pick (eqb (tagOf name) testsuites) (λ _. pick seen (λ _. fits refl) (fits refl)) (fits refl)
 plan-fit mode.At suite o seen Start name =
     pick (eqb (tagOf name) testcase) (λ _. fits refl) (pick (eqb (tagOf name) properties) (λ _. fits refl) (outputs-fit suite suite name))
-plan-fit mode.At suite o seen Empty name = pick (eqb (tagOf name) testcase) (λ _. fits refl) (fits refl)
+plan-fit mode.At suite o seen Empty name =
+    pick (eqb (tagOf name) testcase) (λ _. fits refl) (pick (eqb (tagOf name) properties) (λ _. fits refl) (emptied-fit suite suite name))
 plan-fit mode.At suite o seen End name = pick (eqb (tagOf name) testsuite) (λ _. fits refl) (fits refl)
 plan-fit mode.At case o seen Start name =
     pick (isStatus (tagOf name)) (λ e. fits e) (pick (eqb (tagOf name) properties) (λ _. fits refl) (outputs-fit case case name))
-plan-fit mode.At case o seen Empty name = pick (isStatus (tagOf name)) (λ e. fits e) (fits refl)
+plan-fit mode.At case o seen Empty name =
+    pick (isStatus (tagOf name)) (λ e. fits e) (pick (eqb (tagOf name) properties) (λ _. fits refl) (emptied-fit case case name))
 plan-fit mode.At case o seen End name = pick (eqb (tagOf name) testcase) (λ _. fits refl) (fits refl)
 plan-fit mode.At status o seen Start name = child-fit name
-plan-fit mode.At status o seen Empty name = child-fit name
+plan-fit mode.At status o seen Empty name = pick (eqb (tagOf name) stackTrace) (λ _. fits refl) (emptied-fit status status name)
 plan-fit mode.At status o seen End name = pick (isStatus (tagOf name)) (λ _. fits refl) (fits refl)
 plan-fit mode.Text l o seen Start name = fits refl
 plan-fit mode.Text l o seen Empty name = fits refl
 plan-fit mode.Text l o seen End name = pick (eqb (tagOf name) (tagOfOutput o)) (λ _. fits refl) (fits refl)
-plan-fit mode.List l o seen Start name = fits refl
+plan-fit mode.List l o seen Start name = pick (eqb (tagOf name) property) (λ _. fits refl) (fits refl)
 plan-fit mode.List l o seen Empty name = pick (eqb (tagOf name) property) (λ _. fits refl) (fits refl)
 plan-fit mode.List l o seen End name = pick (eqb (tagOf name) properties) (λ _. fits refl) (fits refl)
 
@@ -202,11 +208,11 @@ closing-none l suite = refl
 closing-none l case = refl
 closing-none l status = refl
 
-list-fit : (l : Level) (o : Output) → (isSuite l || isCase l) ≡ true → apt act.OpenList (modeAt mode.At l o) ≡ true
-list-fit top o h = no h
-list-fit suite o h = refl
-list-fit case o h = refl
-list-fit status o h = no h
+list-fit : (e : Bool) (l : Level) (o : Output) → (isSuite l || isCase l) ≡ true → apt (act.OpenList e) (modeAt mode.At l o) ≡ true
+list-fit e top o h = no h
+list-fit e suite o h = refl
+list-fit e case o h = refl
+list-fit e status o h = no h
 
 fit-apt : (m : CodedMode) (l : Level) (o : Output) (name : List ℕ) (a : CodedAct) → fit m l (actIn (modeAt m l o) name a) ≡ true → apt a (modeAt m l o) ≡ true
 fit-apt m l o name act.Pass h = refl
@@ -218,18 +224,18 @@ fit-apt mode.List l o name act.Close h = no (sym (closing-none l l) ∙ h)
 fit-apt mode.At l o name (act.OpenText x) h = refl
 fit-apt mode.Text l o name (act.OpenText x) h = no h
 fit-apt mode.List l o name (act.OpenText x) h = no h
-fit-apt mode.At l o name act.CloseText h = no h
-fit-apt mode.Text l o name act.CloseText h = refl
-fit-apt mode.List l o name act.CloseText h = no h
-fit-apt mode.At l o name act.OpenList h = list-fit l o h
-fit-apt mode.Text l o name act.OpenList h = no h
-fit-apt mode.List l o name act.OpenList h = no h
+fit-apt mode.At l o name (act.CloseText x) h = refl
+fit-apt mode.Text l o name (act.CloseText x) h = refl
+fit-apt mode.List l o name (act.CloseText x) h = no h
+fit-apt mode.At l o name (act.OpenList e) h = list-fit e l o h
+fit-apt mode.Text l o name (act.OpenList e) h = no h
+fit-apt mode.List l o name (act.OpenList e) h = no h
 fit-apt mode.At l o name act.CloseList h = refl
 fit-apt mode.Text l o name act.CloseList h = no h
 fit-apt mode.List l o name act.CloseList h = refl
-fit-apt mode.At l o name act.ReadProperty h = no h
-fit-apt mode.Text l o name act.ReadProperty h = no h
-fit-apt mode.List l o name act.ReadProperty h = refl
+fit-apt mode.At l o name (act.ReadProperty e) h = no h
+fit-apt mode.Text l o name (act.ReadProperty e) h = no h
+fit-apt mode.List l o name (act.ReadProperty e) h = refl
 fit-apt m l o name act.Stop h = refl
 fit-apt m l o name act.Missing h = refl
 fit-apt m l o name (act.Broken why) h = refl

@@ -99,7 +99,7 @@ abbrev pub joinPiece : Mode → List ℕ → Content → Content
 joinPiece (at l) v c = withTexts c (c .description ++ v) (c .gathered)
 joinPiece (gathering l o) v c = withTexts c (c .description) (c .gathered ++ v)
 joinPiece (listing l) v c = c
-joinPiece (skipping l name depth) v c = c
+joinPiece (skipping m name depth) v c = c
 joinPiece finished v c = c
 
 -- a piece is decoded, and goes into scratch (rule M6); 14 and 21 have the path of the text (rules F9 and F12)
@@ -161,9 +161,9 @@ perform rooms p closeCase j xs k m c = need (ruled (k .tally)) p cause.StatusRul
 perform rooms p closeStatus j xs k m c = describing rooms p m c
 perform rooms p (openText l o) j xs k m c = accepted c
 perform rooms p (closeText l o) j xs k m c = outputting rooms p l o m c
--- "A later properties list [..] replaces the earlier one."
-perform rooms p (openList l) j xs k m c = accepted (withRecords c (killKind (propertyKind l) (recordOf l m) (c .records)))
-perform rooms p (readProperty l) j xs k m c = adding rooms p (propertyKind l) j xs c
+-- a later list replaces the earlier one (rule R17), an Empty one too
+perform rooms p (openList l e) j xs k m c = accepted (withRecords c (killKind (propertyKind l) (recordOf l m) (c .records)))
+perform rooms p (readProperty l e name) j xs k m c = adding rooms p (propertyKind l) j xs c
 perform rooms p stop j xs k m c = accepted c
 perform rooms p missing j xs k m c = refusedAt p cause.MissingReport
 perform rooms p (broken why) j xs k m c = refusedAt p why

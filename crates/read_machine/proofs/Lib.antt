@@ -10,3 +10,4 @@ pub mod TreeInvariant
 pub mod TreeReport
 pub mod TreeReading
 pub mod Skipping
+pub mod EmptyTags

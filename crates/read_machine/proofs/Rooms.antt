@@ -49,8 +49,8 @@ module _ (rooms rooms′ : Rooms) (w : Wider rooms rooms′) where
   perform-agrees p closeStatus j xs k m c = describing-agrees p m c
   perform-agrees p (openText l o) j xs k m c = same
   perform-agrees p (closeText l o) j xs k m c = outputting-agrees p l o m c
-  perform-agrees p (openList l) j xs k m c = same
-  perform-agrees p (readProperty l) j xs k m c = adding-agrees p (propertyKind l) j xs c
+  perform-agrees p (openList l e) j xs k m c = same
+  perform-agrees p (readProperty l e name) j xs k m c = adding-agrees p (propertyKind l) j xs c
   perform-agrees p stop j xs k m c = same
   perform-agrees p missing j xs k m c = same
   perform-agrees p (broken n) j xs k m c = same

@@ -19,7 +19,7 @@ use Rattle.read_element.proofs.RoomsNumbers.{ByRules, fine, low, low-number, lo
 use Rattle.read_state.specs.Control.{Level, top, suite, case, status, Output, Mode, at, gathering, listing, skipping, finished, Control}
 use Rattle.read_state.specs.Control.{Act, pass, openReport, openSuite, openCase, openStatus, closeSuite, closeCase, closeStatus, openText, closeText, openList, readProperty, stop, missing, broken}
 use Rattle.read_state.specs.Control.{isStatus, orSkip, gathers}
-use Rattle.read_rules.specs.Rules.{outputs, atTop, atSuite, atCase, child, atStatus, tagOfOutput, inText, inList, inSkip, planAt, planEof, planFault}
+use Rattle.read_rules.specs.Rules.{outputs, emptied, atTop, atSuite, atCase, child, atStatus, tagOfOutput, inText, inList, inSkip, planAt, planEof, planFault}
 use Rattle.read_place.specs.Marks.{Marks}
 use Rattle.read_path.specs.Paths.{actPlace}
 use Rattle.read_content.specs.Content.{Content, killAll, propertyKind, pieceOf, gather, adding, withRecords, keeping, isEmpty, describing, outputting, perform}
@@ -40,8 +40,8 @@ breaking closeCase = 0
 breaking closeStatus = 0
 breaking (openText l o) = 0
 breaking (closeText l o) = 0
-breaking (openList l) = 0
-breaking (readProperty l) = 0
+breaking (openList l e) = 0
+breaking (readProperty l e name) = 0
 breaking stop = 0
 breaking missing = 0
 breaking (broken why) = number why
@@ -57,6 +57,10 @@ low-outputs : (l : Level) (name : List ℕ) → LowAct (outputs l name)
 unfolding outputs orSkip
 low-outputs l name = choosing (eqb (tagOf name) system-out) (lowAct (lit≤ tt)) (choosing (eqb (tagOf name) system-err) (lowAct (lit≤ tt)) (lowAct (lit≤ tt)))
 
+low-emptied : (l : Level) (name : List ℕ) → LowAct (emptied l name)
+unfolding emptied
+low-emptied l name = choosing (eqb (tagOf name) system-out) (lowAct (lit≤ tt)) (choosing (eqb (tagOf name) system-err) (lowAct (lit≤ tt)) (lowAct (lit≤ tt)))
+
 low-top : (seen : Bool) (k : TagKind) (t : ℕ) → LowAct (atTop seen k t)
 unfolding atTop
 low-top seen Start t = choosing (eqb t testsuites) (lowAct (lit≤ tt)) (choosing (eqb t testsuite && seen) (lowAct (lit≤ tt)) (lowAct (lit≤ tt)))
@@ -66,13 +70,13 @@ low-top seen End t = choosing (eqb t testsuites) (choosing seen (lowAct (lit≤ 
 low-suite : (k : TagKind) (name : List ℕ) → LowAct (atSuite k name)
 unfolding atSuite
 low-suite Start name = choosing (eqb (tagOf name) testcase) (lowAct (lit≤ tt)) (choosing (eqb (tagOf name) properties) (lowAct (lit≤ tt)) (low-outputs suite name))
-low-suite Empty name = choosing (eqb (tagOf name) testcase) (lowAct (lit≤ tt)) (lowAct (lit≤ tt))
+low-suite Empty name = choosing (eqb (tagOf name) testcase) (lowAct (lit≤ tt)) (choosing (eqb (tagOf name) properties) (lowAct (lit≤ tt)) (low-emptied suite name))
 low-suite End name = choosing (eqb (tagOf name) testsuite) (lowAct (lit≤ tt)) (lowAct (lit≤ tt))
 
 low-case : (k : TagKind) (name : List ℕ) → LowAct (atCase k name)
 unfolding atCase
 low-case Start name = choosing (isStatus (tagOf name)) (lowAct (lit≤ tt)) (choosing (eqb (tagOf name) properties) (lowAct (lit≤ tt)) (low-outputs case name))
-low-case Empty name = choosing (isStatus (tagOf name)) (lowAct (lit≤ tt)) (lowAct (lit≤ tt))
+low-case Empty name = choosing (isStatus (tagOf name)) (lowAct (lit≤ tt)) (choosing (eqb (tagOf name) properties) (lowAct (lit≤ tt)) (low-emptied case name))
 low-case End name = choosing (eqb (tagOf name) testcase) (lowAct (lit≤ tt)) (lowAct (lit≤ tt))
 
 low-child : (name : List ℕ) → LowAct (child name)
@@ -82,7 +86,7 @@ low-child name = choosing (eqb (tagOf name) stackTrace) (lowAct (lit≤ tt)) (lo
 low-status : (k : TagKind) (name : List ℕ) → LowAct (atStatus k name)
 unfolding atStatus
 low-status Start name = low-child name
-low-status Empty name = low-child name
+low-status Empty name = choosing (eqb (tagOf name) stackTrace) (lowAct (lit≤ tt)) (low-emptied status name)
 low-status End name = choosing (isStatus (tagOf name)) (lowAct (lit≤ tt)) (lowAct (lit≤ tt))
 
 low-text : (l : Level) (o : Output) (k : TagKind) (t : ℕ) → LowAct (inText l o k t)
@@ -91,17 +95,17 @@ low-text l o Start t = lowAct (lit≤ tt)
 low-text l o Empty t = lowAct (lit≤ tt)
 low-text l o End t = choosing (eqb t (tagOfOutput o)) (lowAct (lit≤ tt)) (lowAct (lit≤ tt))
 
-low-list : (l : Level) (k : TagKind) (t : ℕ) → LowAct (inList l k t)
+low-list : (l : Level) (k : TagKind) (name : List ℕ) → LowAct (inList l k name)
 unfolding inList
-low-list l Start t = lowAct (lit≤ tt)
-low-list l Empty t = choosing (eqb t property) (lowAct (lit≤ tt)) (lowAct (lit≤ tt))
-low-list l End t = choosing (eqb t properties) (lowAct (lit≤ tt)) (lowAct (lit≤ tt))
+low-list l Start name = choosing (eqb (tagOf name) property) (lowAct (lit≤ tt)) (lowAct (lit≤ tt))
+low-list l Empty name = choosing (eqb (tagOf name) property) (lowAct (lit≤ tt)) (lowAct (lit≤ tt))
+low-list l End name = choosing (eqb (tagOf name) properties) (lowAct (lit≤ tt)) (lowAct (lit≤ tt))
 
-low-skip : (l : Level) (skipped : List ℕ) (depth : ℕ) (k : TagKind) (name : List ℕ) → LowAct (inSkip l skipped depth k name)
+low-skip : (m : Mode) (skipped : List ℕ) (depth : ℕ) (k : TagKind) (name : List ℕ) → LowAct (inSkip m skipped depth k name)
 unfolding inSkip
-low-skip l skipped depth Start name = lowAct (lit≤ tt)
-low-skip l skipped depth Empty name = lowAct (lit≤ tt)
-low-skip l skipped depth End name = lowAct (lit≤ tt)
+low-skip m skipped depth Start name = lowAct (lit≤ tt)
+low-skip m skipped depth Empty name = lowAct (lit≤ tt)
+low-skip m skipped depth End name = lowAct (lit≤ tt)
 
 low-plan : (m : Mode) (seen : Bool) (k : TagKind) (name : List ℕ) → LowAct (planAt m seen k name)
 unfolding planAt
@@ -110,8 +114,8 @@ low-plan (at suite) seen k name = low-suite k name
 low-plan (at case) seen k name = low-case k name
 low-plan (at status) seen k name = low-status k name
 low-plan (gathering l o) seen k name = low-text l o k (tagOf name)
-low-plan (listing l) seen k name = low-list l k (tagOf name)
-low-plan (skipping l skipped depth) seen k name = low-skip l skipped depth k name
+low-plan (listing l) seen k name = low-list l k name
+low-plan (skipping m skipped depth) seen k name = low-skip m skipped depth k name
 low-plan finished seen k name = lowAct (lit≤ tt)
 
 low-eof : (m : Mode) (seen closed : Bool) → LowAct (planEof m seen closed)
@@ -122,7 +126,7 @@ low-eof (at case) seen closed = lowAct (lit≤ tt)
 low-eof (at status) seen closed = lowAct (lit≤ tt)
 low-eof (gathering l o) seen closed = lowAct (lit≤ tt)
 low-eof (listing l) seen closed = lowAct (lit≤ tt)
-low-eof (skipping l skipped depth) seen closed = lowAct (lit≤ tt)
+low-eof (skipping m skipped depth) seen closed = lowAct (lit≤ tt)
 low-eof finished seen closed = lowAct (lit≤ tt)
 
 low-fault : (m : Mode) → LowAct (planFault m)
@@ -130,7 +134,7 @@ unfolding planFault
 low-fault (at l) = lowAct (lit≤ tt)
 low-fault (gathering l o) = lowAct (lit≤ tt)
 low-fault (listing l) = lowAct (lit≤ tt)
-low-fault (skipping l skipped depth) = lowAct (lit≤ tt)
+low-fault (skipping m skipped depth) = lowAct (lit≤ tt)
 low-fault finished = lowAct (lit≤ tt)
 
 -- ---- actions
@@ -181,8 +185,8 @@ low-perform p closeCase j xs k m c h = low-need _ p cause.StatusRule (inr (inl r
 low-perform p closeStatus j xs k m c h = low-describing p m c
 low-perform p (openText l o) j xs k m c h = fine
 low-perform p (closeText l o) j xs k m c h = low-outputting p l o m c
-low-perform p (openList l) j xs k m c h = fine
-low-perform p (readProperty l) j xs k m c h = low-adding p (propertyKind l) j xs c
+low-perform p (openList l e) j xs k m c h = fine
+low-perform p (readProperty l e name) j xs k m c h = low-adding p (propertyKind l) j xs c
 low-perform p stop j xs k m c h = fine
 low-perform p missing j xs k m c h = low (inl (lit≤ tt))
 low-perform p (broken n) j xs k m c h = low (inl h)

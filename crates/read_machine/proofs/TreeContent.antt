@@ -236,7 +236,7 @@ joins : {rooms : Rooms} {c : Content} (m : Mode) (v : List ℕ) → utf8 v ≡ t
 joins {c = c} (at l) v u s = (sound-texts (utf8-append (c .description) v (s .description) ∙ u) (s .gathered) s, refl)
 joins {c = c} (gathering l o) v u s = (sound-texts (s .description) (utf8-append (c .gathered) v (s .gathered) ∙ u) s, refl)
 joins (listing l) v u s = (s, refl)
-joins (skipping l skipped depth) v u s = (s, refl)
+joins (skipping m skipped depth) v u s = (s, refl)
 joins finished v u s = (s, refl)
 
 pub gathers-piece : {rooms : Rooms} {c : Content} (p : Place) (m : Mode) (k : PieceKind) (b : List ℕ) → Fair k b → Sound rooms c → Holds (Same rooms c) (gather rooms p m k b c)

@@ -24,7 +24,7 @@ use Rattle.read_machine.proofs.TreeLevels.{suite-properties, case-opens
 use Rattle.read_machine.proofs.TreeKept.{Status, status-of, status-bounds, status-class}
 use Rattle.read_machine.proofs.TreePlans.{Gathered, suite-out, suite-err, case-out, case-err, status-trace, status-out, status-err, Planned, stays, skips}
 use Rattle.read_machine.proofs.TreePlans.{skips-on, returns, listed, reports, suites, stops, misses, breaks, cases, suite-ends, suite-list, statuses}
-use Rattle.read_machine.proofs.TreePlans.{case-ends, case-list, status-ends, texts, text-ends, properties-read, tag-plan, eof-plan, fault-plan}
+use Rattle.read_machine.proofs.TreePlans.{case-ends, case-list, status-ends, texts, texts-empty, text-ends, properties-read, tag-plan, eof-plan, fault-plan}
 use Rattle.read_machine.proofs.TreeContent.{Sound, sound-some, sound-all, sound-kind, More, adds, Same, describes, Holder, puts-out, Fair, gathers-piece}
 use Rattle.refusal.specs.declared.Cause.the-variants as cause
 
@@ -46,7 +46,7 @@ abbrev pub Moded : Mode → Bool → Tally → (s c e κ : ℕ) → List ℕ →
 Moded (at l) seen t s c e κ ks = Standing l seen t s c e κ ks
 Moded (gathering l o) seen t s c e κ ks = Gathered l o × Standing l seen t s c e κ ks
 Moded (listing l) seen t s c e κ ks = Listing l seen t s c e κ ks
-Moded (skipping l name depth) seen t s c e κ ks = Standing l seen t s c e κ ks
+Moded (skipping m name depth) seen t s c e κ ks = Moded m seen t s c e κ ks
 Moded finished seen t s c e κ ks = Walk Ready ks
 
 pub record Good (rooms : Rooms) (s : Machine) : Type 0 where
@@ -117,7 +117,9 @@ acted closed t k c j xs (cases {e = false}) s w =
     })
 acted {seen = seen} closed t k c j xs suite-ends s w =
     let q : seen ≡ true → Walk Ready (kinds (c .records)) = λ z. suite-closes w in accept (record { sound = s; order = q })
-acted closed t k c j xs suite-list s w =
+acted closed t k c j xs (suite-list {e = true}) s w =
+    accept (record { sound = sound-kind 4 (k .suiteAt) s; order = subst (InSuite (k .suiteAt) 2) (sym (kinds-killed 4 (k .suiteAt) (sound-some s))) (suite-wide (lit≤ tt) (suite-lists w)) })
+acted closed t k c j xs (suite-list {e = false}) s w =
     accept (record { sound = sound-kind 4 (k .suiteAt) s; order = subst (InSuite (k .suiteAt) 1) (sym (kinds-killed 4 (k .suiteAt) (sound-some s))) (suite-lists w) })
 acted closed t k c j xs (statuses {κ = κ} {e = true} q) s w =
     (let st = status-of κ q in
@@ -143,20 +145,31 @@ acted closed t k c j xs (statuses {κ = κ} {e = false} q) s w =
 acted {rooms} closed t k c j xs case-ends s w =
     bind {Q = λ d. Sound rooms d × InSuite (k .suiteAt) 2 (kinds (d .records))} (needed (ruled t) _ cause.StatusRule λ e. accept (s, case-closes e w)) λ d g.
     accept (record { sound = g .0; order = g .1 })
-acted closed t k c j xs case-list s w =
+acted closed t k c j xs (case-list {e = true}) s w =
+    accept (record { sound = sound-kind 5 (k .caseAt) s; order = subst (InCase (k .suiteAt) (k .caseAt) t 2) (sym (kinds-killed 5 (k .caseAt) (sound-some s))) (case-wide (lit≤ tt) (case-lists w)) })
+acted closed t k c j xs (case-list {e = false}) s w =
     accept (record { sound = sound-kind 5 (k .caseAt) s; order = subst (InCase (k .suiteAt) (k .caseAt) t 1) (sym (kinds-killed 5 (k .caseAt) (sound-some s))) (case-lists w) })
 acted closed t k c j xs status-ends s w =
     bind (describes k _ (w .1) (w .2) s) λ d g. accept (record { sound = g .0; order = subst (InCase (k .suiteAt) (k .caseAt) t 2) (sym (g .1)) (w .0) })
 acted {seen = seen} closed t k c j xs (texts {l = l} {o = o} g) s w =
     let q : Gathered l o × Standing l seen t (k .suiteAt) (k .caseAt) (k .statusAt) (k .statusKind) (kinds (c .records)) = (g, w) in accept (record { sound = s; order = q })
+acted {seen = seen} closed t k c j xs (texts-empty {l = l} g) s w =
+    bind (puts-out k _ g (holder seen t (kinds (c .records)) k g w) s) λ d q.
+    accept (record { sound = q .0; order = subst (Standing l seen t (k .suiteAt) (k .caseAt) (k .statusAt) (k .statusKind)) (sym (q .1)) w })
 acted {seen = seen} closed t k c j xs (text-ends {l = l}) s w =
     bind (puts-out k _ (w .0) (holder seen t (kinds (c .records)) k (w .0) (w .1)) s) λ d g.
     accept (record { sound = g .0; order = subst (Standing l seen t (k .suiteAt) (k .caseAt) (k .statusAt) (k .statusKind)) (sym (g .1)) (w .1) })
 acted closed t k c j xs (properties-read {l = top}) s w = absurd w
-acted closed t k c j xs (properties-read {l = suite}) s w =
+acted closed t k c j xs (properties-read {l = suite} {e = true}) s w =
     bind (adds _ j xs TreeRoles.suiteProperty s) λ d g.
     accept (record { sound = g .0; order = subst (InSuite (k .suiteAt) 1) (alone (g .1) (λ b. let l = b .1 in omega arith)) (suite-properties w) })
-acted closed t k c j xs (properties-read {l = case}) s w =
+acted closed t k c j xs (properties-read {l = suite} {e = false}) s w =
+    bind (adds _ j xs TreeRoles.suiteProperty s) λ d g.
+    accept (record { sound = g .0; order = subst (InSuite (k .suiteAt) 1) (alone (g .1) (λ b. let l = b .1 in omega arith)) (suite-properties w) })
+acted closed t k c j xs (properties-read {l = case} {e = true}) s w =
+    bind (adds _ j xs TreeRoles.caseProperty s) λ d g.
+    accept (record { sound = g .0; order = subst (InCase (k .suiteAt) (k .caseAt) t 1) (alone (g .1) (λ b. let l = b .1 in omega arith)) (case-properties w) })
+acted closed t k c j xs (properties-read {l = case} {e = false}) s w =
     bind (adds _ j xs TreeRoles.caseProperty s) λ d g.
     accept (record { sound = g .0; order = subst (InCase (k .suiteAt) (k .caseAt) t 1) (alone (g .1) (λ b. let l = b .1 in omega arith)) (case-properties w) })
 acted closed t k c j xs (properties-read {l = status}) s w = absurd w
@@ -203,7 +216,7 @@ ended (at case) seen closed t k c s w = refuse
 ended (at status) seen closed t k c s w = refuse
 ended (gathering l o) seen closed t k c s w = refuse
 ended (listing l) seen closed t k c s w = refuse
-ended (skipping l skipped depth) seen closed t k c s w = refuse
+ended (skipping m skipped depth) seen closed t k c s w = refuse
 ended finished seen closed t k c s w = accept (record { sound = s; order = w })
 
 -- a run from a good state: where it is accepted, its records and texts are such as a layout has

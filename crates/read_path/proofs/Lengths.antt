@@ -12,7 +12,7 @@ use Rattle.table.specs.Event.{TagKind, Start, Empty, End}
 use Rattle.read_state.specs.Control.{Level, top, suite, case, status, Output, trace, out, err, Mode, at, gathering, listing, skipping, finished}
 use Rattle.read_state.specs.Control.{Act, pass, openReport, openSuite, openCase, openStatus, closeSuite, closeCase, closeStatus, openText, closeText, openList, readProperty, stop, missing, broken}
 use Rattle.read_state.specs.Control.{isStatus, orSkip}
-use Rattle.read_rules.specs.Rules.{tagOfOutput, outputs, child, atTop, atSuite, atCase, atStatus, inText, inList, inSkip, planAt, planEof, planFault}
+use Rattle.read_rules.specs.Rules.{tagOfOutput, outputs, emptied, child, atTop, atSuite, atCase, atStatus, inText, inList, inSkip, planAt, planEof, planFault}
 use Rattle.read_place.specs.Marks.{Marks}
 use Rattle.read_path.specs.Paths.{levelPath, modePath, pathOf}
 use Rattle.read_path.specs.inside.Coded.{hasRoom}
@@ -35,15 +35,15 @@ pub mode-short : (mode : Mode) (m : Marks) → length (modePath mode m) ≤ 5
 mode-short (at l) m = level-room l m
 mode-short (gathering l o) m = one-more l m _
 mode-short (listing l) m = one-more l m _
-mode-short (skipping l name depth) m = level-room l m
+mode-short (skipping outer name depth) m = mode-short outer m
 mode-short finished m = omega arith
 
 -- the path of an act that has room has at most five elements
 pub path-short : (a : Act) (mode : Mode) (m : Marks) → hasRoom a ≡ true → length (pathOf a mode m) ≤ 5
-path-short (readProperty top) mode m h = omega arith
-path-short (readProperty suite) mode m h = omega arith
-path-short (readProperty case) mode m h = omega arith
-path-short (readProperty status) mode m h = absurd (never h)
+path-short (readProperty top e name) mode m h = omega arith
+path-short (readProperty suite e name) mode m h = omega arith
+path-short (readProperty case e name) mode m h = omega arith
+path-short (readProperty status e name) mode m h = absurd (never h)
   where
     never : false ≡ true → ⊥
     never e = let z : _≡_ {A = ℕ} 0 1 = cc in omega arith
@@ -57,7 +57,7 @@ path-short closeCase mode m h = omega arith
 path-short closeStatus mode m h = omega arith
 path-short (openText l o) mode m h = omega arith
 path-short (closeText l o) mode m h = one-more l m _
-path-short (openList l) mode m h = omega arith
+path-short (openList l e) mode m h = omega arith
 path-short stop mode m h = omega arith
 path-short missing mode m h = omega arith
 path-short (broken n) mode m h = mode-short mode m
@@ -73,6 +73,12 @@ outputs-room l name =
     one-of (eqb (tagOf name) system-out) (openText l out) (cond (eqb (tagOf name) system-err) (openText l err) (orSkip l name)) refl
     (one-of (eqb (tagOf name) system-err) (openText l err) (orSkip l name) refl refl)
 
+emptied-room : (l : Level) (name : List ℕ) → hasRoom (emptied l name) ≡ true
+unfolding emptied
+emptied-room l name =
+    one-of (eqb (tagOf name) system-out) (closeText l out) (cond (eqb (tagOf name) system-err) (closeText l err) (pass (at l))) refl
+    (one-of (eqb (tagOf name) system-err) (closeText l err) (pass (at l)) refl refl)
+
 top-opens : (seen empty : Bool) (t : ℕ) → hasRoom (cond (eqb t testsuites) (openReport empty) (cond (eqb t testsuite && seen) (openSuite empty) (pass (at top)))) ≡ true
 top-opens seen empty t =
     one-of (eqb t testsuites) (openReport empty) (cond (eqb t testsuite && seen) (openSuite empty) (pass (at top))) refl
@@ -87,17 +93,21 @@ top-room seen End t = one-of (eqb t testsuites) (cond seen stop missing) (pass (
 suite-room : (k : TagKind) (name : List ℕ) → hasRoom (atSuite k name) ≡ true
 unfolding atSuite
 suite-room Start name =
-    one-of (eqb (tagOf name) testcase) (openCase false) (cond (eqb (tagOf name) properties) (openList suite) (outputs suite name)) refl
-    (one-of (eqb (tagOf name) properties) (openList suite) (outputs suite name) refl (outputs-room suite name))
-suite-room Empty name = one-of (eqb (tagOf name) testcase) (openCase true) (pass (at suite)) refl refl
+    one-of (eqb (tagOf name) testcase) (openCase false) (cond (eqb (tagOf name) properties) (openList suite false) (outputs suite name)) refl
+    (one-of (eqb (tagOf name) properties) (openList suite false) (outputs suite name) refl (outputs-room suite name))
+suite-room Empty name =
+    one-of (eqb (tagOf name) testcase) (openCase true) (cond (eqb (tagOf name) properties) (openList suite true) (emptied suite name)) refl
+    (one-of (eqb (tagOf name) properties) (openList suite true) (emptied suite name) refl (emptied-room suite name))
 suite-room End name = one-of (eqb (tagOf name) testsuite) closeSuite (pass (at suite)) refl refl
 
 case-room : (k : TagKind) (name : List ℕ) → hasRoom (atCase k name) ≡ true
 unfolding atCase
 case-room Start name =
-    one-of (isStatus (tagOf name)) (openStatus (tagOf name) false) (cond (eqb (tagOf name) properties) (openList case) (outputs case name)) refl
-    (one-of (eqb (tagOf name) properties) (openList case) (outputs case name) refl (outputs-room case name))
-case-room Empty name = one-of (isStatus (tagOf name)) (openStatus (tagOf name) true) (pass (at case)) refl refl
+    one-of (isStatus (tagOf name)) (openStatus (tagOf name) false) (cond (eqb (tagOf name) properties) (openList case false) (outputs case name)) refl
+    (one-of (eqb (tagOf name) properties) (openList case false) (outputs case name) refl (outputs-room case name))
+case-room Empty name =
+    one-of (isStatus (tagOf name)) (openStatus (tagOf name) true) (cond (eqb (tagOf name) properties) (openList case true) (emptied case name)) refl
+    (one-of (eqb (tagOf name) properties) (openList case true) (emptied case name) refl (emptied-room case name))
 case-room End name = one-of (eqb (tagOf name) testcase) closeCase (pass (at case)) refl refl
 
 child-room : (name : List ℕ) → hasRoom (child name) ≡ true
@@ -107,7 +117,7 @@ child-room name = one-of (eqb (tagOf name) stackTrace) (openText status trace) (
 status-room : (k : TagKind) (name : List ℕ) → hasRoom (atStatus k name) ≡ true
 unfolding atStatus
 status-room Start name = child-room name
-status-room Empty name = child-room name
+status-room Empty name = one-of (eqb (tagOf name) stackTrace) (closeText status trace) (emptied status name) refl (emptied-room status name)
 status-room End name = one-of (isStatus (tagOf name)) closeStatus (pass (at status)) refl refl
 
 text-room : (l : Level) (o : Output) (k : TagKind) (t : ℕ) → hasRoom (inText l o k t) ≡ true
@@ -116,17 +126,17 @@ text-room l o Start t = refl
 text-room l o Empty t = refl
 text-room l o End t = one-of (eqb t (tagOfOutput o)) (closeText l o) (pass (gathering l o)) refl refl
 
-list-room : (l : Level) (k : TagKind) (t : ℕ) → hasRoom (readProperty l) ≡ true → hasRoom (inList l k t) ≡ true
+list-room : (l : Level) (k : TagKind) (name : List ℕ) → ((e : Bool) → hasRoom (readProperty l e name) ≡ true) → hasRoom (inList l k name) ≡ true
 unfolding inList
-list-room l Start t h = refl
-list-room l Empty t h = one-of (eqb t property) (readProperty l) (pass (listing l)) h refl
-list-room l End t h = one-of (eqb t properties) (pass (at l)) (pass (listing l)) refl refl
+list-room l Start name h = one-of (eqb (tagOf name) property) (readProperty l false name) (pass (listing l)) (h false) refl
+list-room l Empty name h = one-of (eqb (tagOf name) property) (readProperty l true name) (pass (listing l)) (h true) refl
+list-room l End name h = one-of (eqb (tagOf name) properties) (pass (at l)) (pass (listing l)) refl refl
 
-skip-room : (l : Level) (skipped : List ℕ) (depth : ℕ) (k : TagKind) (name : List ℕ) → hasRoom (inSkip l skipped depth k name) ≡ true
+skip-room : (m : Mode) (skipped : List ℕ) (depth : ℕ) (k : TagKind) (name : List ℕ) → hasRoom (inSkip m skipped depth k name) ≡ true
 unfolding inSkip
-skip-room l skipped depth Start name = refl
-skip-room l skipped depth Empty name = refl
-skip-room l skipped depth End name = refl
+skip-room m skipped depth Start name = refl
+skip-room m skipped depth Empty name = refl
+skip-room m skipped depth End name = refl
 
 -- a tag's act, where reading isn't in a status element's properties
 pub planned-room : (mode : Mode) (seen : Bool) (k : TagKind) (name : List ℕ) → (mode ≡ listing status → ⊥) → hasRoom (planAt mode seen k name) ≡ true
@@ -136,11 +146,11 @@ planned-room (at suite) seen k name h = suite-room k name
 planned-room (at case) seen k name h = case-room k name
 planned-room (at status) seen k name h = status-room k name
 planned-room (gathering l o) seen k name h = text-room l o k (tagOf name)
-planned-room (listing top) seen k name h = list-room top k (tagOf name) refl
-planned-room (listing suite) seen k name h = list-room suite k (tagOf name) refl
-planned-room (listing case) seen k name h = list-room case k (tagOf name) refl
+planned-room (listing top) seen k name h = list-room top k name (λ e. refl)
+planned-room (listing suite) seen k name h = list-room suite k name (λ e. refl)
+planned-room (listing case) seen k name h = list-room case k name (λ e. refl)
 planned-room (listing status) seen k name h = absurd (h refl)
-planned-room (skipping l skipped depth) seen k name h = skip-room l skipped depth k name
+planned-room (skipping m skipped depth) seen k name h = skip-room m skipped depth k name
 planned-room finished seen k name h = refl
 
 -- the act that Eof gives has room for an Attribute in its path
@@ -152,7 +162,7 @@ eof-room (at case) seen closed = refl
 eof-room (at status) seen closed = refl
 eof-room (gathering l o) seen closed = refl
 eof-room (listing l) seen closed = refl
-eof-room (skipping l skipped depth) seen closed = refl
+eof-room (skipping m skipped depth) seen closed = refl
 eof-room finished seen closed = refl
 
 -- the act that Fault gives has room for an Attribute in its path
@@ -161,5 +171,5 @@ unfolding planFault
 fault-room (at l) = refl
 fault-room (gathering l o) = refl
 fault-room (listing l) = refl
-fault-room (skipping l skipped depth) = refl
+fault-room (skipping m skipped depth) = refl
 fault-room finished = refl

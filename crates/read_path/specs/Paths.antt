@@ -29,12 +29,12 @@ outputElement trace = stackTraceElement
 outputElement out = element 14 nowhere nowhere
 outputElement err = element 15 nowhere nowhere
 
--- a skip has the path of the element or list that the skipped tag stands in
+-- inside an element its own path (rule R18); a skip has the path of the element or list that the skipped tag stands in (rule F7)
 abbrev pub modePath : Mode → Marks → List PathElement
 modePath (at l) m = levelPath l m
 modePath (gathering l o) m = levelPath l m ++ (outputElement o ∷ [])
 modePath (listing l) m = levelPath l m ++ (element 4 nowhere nowhere ∷ [])
-modePath (skipping l name depth) m = levelPath l m
+modePath (skipping outer name depth) m = modePath outer m
 modePath finished m = []
 
 -- `pass`, `closeSuite`, `openText`, `openList` and `stop` never refuse, and nothing is refused where reading is finished: the path
@@ -44,7 +44,7 @@ abbrev pub pathOf : Act → Mode → Marks → List PathElement
 pathOf (openSuite e) mode m = root ++ (element 2 (m .suiteIndex) nowhere ∷ [])
 pathOf (openCase e) mode m = levelPath suite m ++ (element 3 (m .caseIndex) nowhere ∷ [])
 pathOf (openStatus k e) mode m = levelPath case m ++ (element k nowhere nowhere ∷ [])
-pathOf (readProperty l) mode m = levelPath l m ++ (element 4 nowhere nowhere ∷ element 5 (m .propertyIndex) nowhere ∷ [])
+pathOf (readProperty l e name) mode m = levelPath l m ++ (element 4 nowhere nowhere ∷ element 5 (m .propertyIndex) nowhere ∷ [])
 pathOf missing mode m = []
 pathOf (openReport e) mode m = root
 pathOf (pass n) mode m = root
@@ -53,7 +53,7 @@ pathOf closeCase mode m = levelPath case m
 pathOf closeStatus mode m = levelPath status m
 pathOf (openText l o) mode m = root
 pathOf (closeText l o) mode m = levelPath l m ++ (outputElement o ∷ [])
-pathOf (openList l) mode m = root
+pathOf (openList l e) mode m = root
 pathOf stop mode m = root
 pathOf (broken n) mode m = modePath mode m
 

@@ -5,8 +5,7 @@ ghost use mathlib.Core.Bool.{Bool};
 ghost use mathlib.Core.List.{List};
 ghost use Rattle.read_element.specs.Outcome as outcome;
 ghost use Rattle.read_state.specs.Control as plan;
-ghost use Rattle.read_state.specs.declared.Act.the-variants.{CloseText};
-ghost use Rattle.read_state.specs.inside.Coded.{levelOf, outputOf, outputIn, modeOf, opening, closing, actOf};
+ghost use Rattle.read_state.specs.inside.Coded.{levelOf, outputOf, modeOf, opening, closing, actOf};
 ghost use Rattle.read_path.specs.Paths as standing;
 ghost use Rattle.read_place.specs.inside.Coded.{marksOf};
 ghost use Rattle.read_path.specs.inside.Coded.{Leads, withAttribute};
@@ -107,28 +106,14 @@ fn closing_path(level: Level, m: Marks) -> Path
     }
 }
 
-// The text that is gathered; `Out` stands where there is none.
-fn gathered(control: Control) -> Output
-    ensures { λ r. ⌜ outputOf r ≡ outputIn (modeOf control) ⌝ }
+fn text_path(level: Level, output: Output, m: Marks) -> Path
+    ensures { λ r. ⌜ ((mode : plan.Mode) → Leads r (standing.pathOf (plan.closeText (levelOf level) (outputOf output)) mode (marksOf m))) ⌝ }
 {
-    let mode = control.mode;
-    let output = control.output;
-    match mode {
-        Mode::At => Output::Out,
-        Mode::Text => output,
-        Mode::List => Output::Out,
-    }
-}
-
-fn text_path(control: Control, m: Marks) -> Path
-    ensures { λ r. ⌜ ((name : List ℕ) → Leads r (standing.pathOf (actOf control name CloseText) (modeOf control) (marksOf m))) ⌝ }
-{
-    let level = control.level;
-    level_path(level, m).with(output_element(gathered(control)))
+    level_path(level, m).with(output_element(output))
 }
 
 fn property_path(level: Level, m: Marks) -> Path
-    ensures { λ r. ⌜ ((mode : plan.Mode) → Leads r (standing.pathOf (plan.readProperty (levelOf level)) mode (marksOf m))) ⌝ }
+    ensures { λ r. ⌜ ((empty : Bool) (name : List ℕ) (mode : plan.Mode) → Leads r (standing.pathOf (plan.readProperty (levelOf level) empty name) mode (marksOf m))) ⌝ }
 {
     let list = level_path(level, m).with(element_of(4, NOWHERE, NOWHERE));
     list.with(element_of(5, m.property_index, NOWHERE))
@@ -142,14 +127,14 @@ pub fn path_of(act: Act, control: Control, m: Marks) -> Path
     match act {
         Act::Open(kind, _) => opening_path(kind, m),
         Act::Close => closing_path(level, m),
-        Act::CloseText => text_path(control, m),
-        Act::ReadProperty => property_path(level, m),
+        Act::CloseText(output) => text_path(level, output, m),
+        Act::ReadProperty(_) => property_path(level, m),
         Act::Broken(_) => mode_path(control, m),
         Act::Missing => Path::new(),
         Act::Pass => root(),
         Act::Skip => root(),
         Act::OpenText(_) => root(),
-        Act::OpenList => root(),
+        Act::OpenList(_) => root(),
         Act::CloseList => root(),
         Act::Stop => root(),
     }

@@ -14,6 +14,6 @@ unfolding marksAfter
 open-suite = refl
 
 -- the properties of a later list are counted from 0
-later-list : marksAfter (openList suite) 9 (marks 7 1 3 0 0 0 4 6 0 0) ≡ marks 7 1 3 0 0 0 0 6 0 0
+later-list : marksAfter (openList suite true) 9 (marks 7 1 3 0 0 0 4 6 0 0) ≡ marks 7 1 3 0 0 0 0 6 0 0
 unfolding marksAfter
 later-list = refl

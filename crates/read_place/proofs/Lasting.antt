@@ -24,8 +24,8 @@ event-kept (openCase e) n m = refl
 event-kept (openStatus k e) n m = refl
 event-kept closeSuite n m = refl
 event-kept closeCase n m = refl
-event-kept (openList l) n m = refl
-event-kept (readProperty l) n m = refl
+event-kept (openList l e) n m = refl
+event-kept (readProperty l e name) n m = refl
 event-kept (pass k) n m = refl
 event-kept closeStatus n m = refl
 event-kept (openText l o) n m = refl
@@ -60,8 +60,8 @@ low-after (openCase e) u m l = record { event = omega arith; suiteIndex = omega 
 low-after (openStatus k e) u m l = record { event = omega arith; suiteIndex = omega arith; caseIndex = omega arith; propertyIndex = omega arith }
 low-after closeSuite u m l = record { event = omega arith; suiteIndex = omega arith; caseIndex = omega arith; propertyIndex = omega arith }
 low-after closeCase u m l = record { event = omega arith; suiteIndex = omega arith; caseIndex = omega arith; propertyIndex = omega arith }
-low-after (openList p) u m l = record { event = omega arith; suiteIndex = omega arith; caseIndex = omega arith; propertyIndex = omega arith }
-low-after (readProperty p) u m l = record { event = omega arith; suiteIndex = omega arith; caseIndex = omega arith; propertyIndex = omega arith }
+low-after (openList p e) u m l = record { event = omega arith; suiteIndex = omega arith; caseIndex = omega arith; propertyIndex = omega arith }
+low-after (readProperty p e name) u m l = record { event = omega arith; suiteIndex = omega arith; caseIndex = omega arith; propertyIndex = omega arith }
 low-after (pass k) u m l = low-weak (omega arith) l
 low-after closeStatus u m l = low-weak (omega arith) l
 low-after (openText p o) u m l = low-weak (omega arith) l

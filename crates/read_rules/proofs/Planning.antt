@@ -6,9 +6,11 @@ use mathlib.Core.Path.{_≡_, refl}
 use native.Mathlib.Omega.{arith}
 use borrow.Author.Tests.{lt-ltb, ne-eqb, leb-true}
 use lib.Dec.{leb, ltb, eqb}
+use Rattle.names.specs.Tags.{tagOf}
 use Rattle.table.specs.Event.{Start, Empty, End, tagKind}
-use Rattle.read_state.specs.Control.{Level, top, suite, case, status, Output, at, gathering, pass, openReport, openSuite, openStatus, closeText, stop, missing, broken, isStatus}
-use Rattle.read_rules.specs.Rules.{atTop, atStatus, child, tagOfOutput, inText, planEof}
+use Rattle.read_state.specs.Control.{Level, top, suite, case, status, Output, trace, out, err, at, gathering, listing, pass, openReport, openSuite}
+use Rattle.read_state.specs.Control.{openCase, openStatus, openText, closeText, openList, readProperty, stop, missing, broken, isStatus}
+use Rattle.read_rules.specs.Rules.{outputs, emptied, atTop, atSuite, atCase, atStatus, child, tagOfOutput, inText, inList, planEof}
 use Rattle.read_state.proofs.Turning.{opening-other}
 use Rattle.read_state.specs.inside.Coded.{modeAt, isTop, opening}
 use Rattle.read_state.specs.declared.Mode.{Mode as CodedMode}
@@ -28,11 +30,39 @@ unfolding atTop
 top-opens seen true t = refl
 top-opens seen false t = refl
 
-pub status-opens : (k : ℕ) (name : List ℕ) → k ≤ 1 → atStatus (tagKind k) name ≡ child name
-unfolding atStatus
-status-opens zero name h = refl
-status-opens (suc zero) name h = refl
-status-opens (suc (suc k)) name h = absurd (omega arith)
+pub suite-opens : (empty : Bool) (name : List ℕ)
+    → atSuite (cond empty Empty Start) name ≡ cond (eqb (tagOf name) 3) (openCase empty) (cond (eqb (tagOf name) 4) (openList suite empty) (cond empty (emptied suite name) (outputs suite name)))
+unfolding atSuite
+suite-opens true name = refl
+suite-opens false name = refl
+
+pub case-opens : (empty : Bool) (name : List ℕ) → atCase (cond empty Empty Start) name
+    ≡ cond (isStatus (tagOf name)) (openStatus (tagOf name) empty) (cond (eqb (tagOf name) 4) (openList case empty) (cond empty (emptied case name) (outputs case name)))
+unfolding atCase
+case-opens true name = refl
+case-opens false name = refl
+
+pub status-opens : (empty : Bool) (name : List ℕ)
+    → atStatus (cond empty Empty Start) name ≡ cond (eqb (tagOf name) 13) (cond empty (closeText status trace) (openText status trace)) (cond empty (emptied status name) (outputs status name))
+unfolding atStatus child
+status-opens true name = refl
+status-opens false name = refl
+
+pub list-opens : (l : Level) (empty : Bool) (name : List ℕ) → inList l (cond empty Empty Start) name ≡ cond (eqb (tagOf name) 5) (readProperty l empty name) (pass (listing l))
+unfolding inList
+list-opens l true name = refl
+list-opens l false name = refl
+
+-- an output, opened or closed at once
+pub child-out : (l : Level) (empty : Bool) (name : List ℕ) → tagOf name ≡ 14 → cond empty (closeText l out) (openText l out) ≡ cond empty (emptied l name) (outputs l name)
+unfolding emptied outputs
+child-out l true name h = rw h refl
+child-out l false name h = rw h refl
+
+pub child-err : (l : Level) (empty : Bool) (name : List ℕ) → tagOf name ≡ 15 → cond empty (closeText l err) (openText l err) ≡ cond empty (emptied l name) (outputs l name)
+unfolding emptied outputs
+child-err l true name h = rw h refl
+child-err l false name h = rw h refl
 
 -- a text is closed by an End of its name
 pub text-closes : (l : Level) (o : Output) (k t : ℕ) → inText l o (tagKind k) t ≡ cond (ltb 1 k && eqb t (tagOfOutput o)) (closeText l o) (pass (gathering l o))

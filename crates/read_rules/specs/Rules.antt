@@ -23,27 +23,34 @@ atTop seen Start t = cond (eqb t testsuites) (openReport false) (cond (eqb t tes
 atTop seen Empty t = cond (eqb t testsuites) (openReport true) (cond (eqb t testsuite && seen) (openSuite true) (pass (at top)))
 atTop seen End t = cond (eqb t testsuites) (cond seen stop missing) (pass (at top))
 
--- "Any End but the element's own is passed over, and so is any Empty but `testcase` in a suite and a status name in a case."
+-- an Empty child is its Start and End: an output is empty, and any other ends where it stands (rule R13)
+unfoldable pub emptied : Level → List ℕ → Act
+emptied l name =
+    cond (eqb (tagOf name) system-out) (closeText l out)
+    (cond (eqb (tagOf name) system-err) (closeText l err) (pass (at l)))
+
+-- by rules R10 and R13; any End but the element's own is passed over (rule R12)
 unfoldable pub atSuite : TagKind → List ℕ → Act
-atSuite Start name = cond (eqb (tagOf name) testcase) (openCase false) (cond (eqb (tagOf name) properties) (openList suite) (outputs suite name))
-atSuite Empty name = cond (eqb (tagOf name) testcase) (openCase true) (pass (at suite))
+atSuite Start name = cond (eqb (tagOf name) testcase) (openCase false) (cond (eqb (tagOf name) properties) (openList suite false) (outputs suite name))
+atSuite Empty name = cond (eqb (tagOf name) testcase) (openCase true) (cond (eqb (tagOf name) properties) (openList suite true) (emptied suite name))
 atSuite End name = cond (eqb (tagOf name) testsuite) closeSuite (pass (at suite))
 
 -- by rules R10, R12 and R13, as in a suite
 unfoldable pub atCase : TagKind → List ℕ → Act
 atCase Start name =
-    cond (isStatus (tagOf name)) (openStatus (tagOf name) false) (cond (eqb (tagOf name) properties) (openList case) (outputs case name))
-atCase Empty name = cond (isStatus (tagOf name)) (openStatus (tagOf name) true) (pass (at case))
+    cond (isStatus (tagOf name)) (openStatus (tagOf name) false) (cond (eqb (tagOf name) properties) (openList case false) (outputs case name))
+atCase Empty name =
+    cond (isStatus (tagOf name)) (openStatus (tagOf name) true) (cond (eqb (tagOf name) properties) (openList case true) (emptied case name))
 atCase End name = cond (eqb (tagOf name) testcase) closeCase (pass (at case))
 
--- a status element closes at an End of any of the seven status names; its children are a stack trace and the outputs
+-- a status element's children that are read: a stack trace and the outputs (rule S3); any other is skipped (rule S4)
 unfoldable pub child : List ℕ → Act
 child name = cond (eqb (tagOf name) stackTrace) (openText status trace) (outputs status name)
 
 -- rules S2 to S4
 unfoldable pub atStatus : TagKind → List ℕ → Act
 atStatus Start name = child name
-atStatus Empty name = child name
+atStatus Empty name = cond (eqb (tagOf name) stackTrace) (closeText status trace) (emptied status name)
 atStatus End name = cond (isStatus (tagOf name)) closeStatus (pass (at status))
 
 -- the tag whose next End ends the text (rule R14)
@@ -58,21 +65,22 @@ inText l o Start t = pass (gathering l o)
 inText l o Empty t = pass (gathering l o)
 inText l o End t = cond (eqb t (tagOfOutput o)) (closeText l o) (pass (gathering l o))
 
--- "Properties count Empty `property` only."
-unfoldable pub inList : Level → TagKind → ℕ → Act
-inList l Start t = pass (listing l)
-inList l Empty t = cond (eqb t property) (readProperty l) (pass (listing l))
-inList l End t = cond (eqb t properties) (pass (at l)) (pass (listing l))
+-- a `property` counts in either spelling, and a Start's content is skipped (rule R16); an Empty `properties` ends nothing (rule R15)
+unfoldable pub inList : Level → TagKind → List ℕ → Act
+inList l Start name = cond (eqb (tagOf name) property) (readProperty l false name) (pass (listing l))
+inList l Empty name = cond (eqb (tagOf name) property) (readProperty l true name) (pass (listing l))
+inList l End name = cond (eqb (tagOf name) properties) (pass (at l)) (pass (listing l))
 
--- "one reads on to the End of the same name at depth 0, each Start of that name adding one"
-abbrev pub shallower : Level → List ℕ → ℕ → Mode
-shallower l name zero = at l
-shallower l name (suc depth) = skipping l name depth
+-- an End of the skipped name less to come; behind the last reading stands where it stood
+abbrev pub shallower : Mode → List ℕ → ℕ → Mode
+shallower m name zero = m
+shallower m name (suc depth) = skipping m name depth
 
-unfoldable pub inSkip : Level → List ℕ → ℕ → TagKind → List ℕ → Act
-inSkip l skipped depth Start name = pass (skipping l skipped (cond (sameBytes name skipped) (suc depth) depth))
-inSkip l skipped depth Empty name = pass (skipping l skipped depth)
-inSkip l skipped depth End name = pass (cond (sameBytes name skipped) (shallower l skipped depth) (skipping l skipped depth))
+-- to the End of the same name that isn't taken by a Start of it in between (rule R11)
+unfoldable pub inSkip : Mode → List ℕ → ℕ → TagKind → List ℕ → Act
+inSkip m skipped depth Start name = pass (skipping m skipped (cond (sameBytes name skipped) (suc depth) depth))
+inSkip m skipped depth Empty name = pass (skipping m skipped depth)
+inSkip m skipped depth End name = pass (cond (sameBytes name skipped) (shallower m skipped depth) (skipping m skipped depth))
 
 unfoldable pub planAt : Mode → Bool → TagKind → List ℕ → Act
 planAt (at top) seen k name = atTop seen k (tagOf name)
@@ -80,8 +88,8 @@ planAt (at suite) seen k name = atSuite k name
 planAt (at case) seen k name = atCase k name
 planAt (at status) seen k name = atStatus k name
 planAt (gathering l o) seen k name = inText l o k (tagOf name)
-planAt (listing l) seen k name = inList l k (tagOf name)
-planAt (skipping l skipped depth) seen k name = inSkip l skipped depth k name
+planAt (listing l) seen k name = inList l k name
+planAt (skipping m skipped depth) seen k name = inSkip m skipped depth k name
 planAt finished seen k name = pass finished
 
 -- at report level by rules R8 and R9, in an element by rule R18, in a skip by rule R19
@@ -92,7 +100,7 @@ planEof (at case) seen closed = broken cause.EofInElement
 planEof (at status) seen closed = broken cause.EofInElement
 planEof (gathering l o) seen closed = broken cause.EofInElement
 planEof (listing l) seen closed = broken cause.EofInElement
-planEof (skipping l skipped depth) seen closed = broken cause.EofInSkip
+planEof (skipping m skipped depth) seen closed = broken cause.EofInSkip
 planEof finished seen closed = pass finished
 
 -- rule R19
@@ -100,5 +108,5 @@ unfoldable pub planFault : Mode → Act
 planFault (at l) = broken cause.XmlFault
 planFault (gathering l o) = broken cause.XmlFault
 planFault (listing l) = broken cause.XmlFault
-planFault (skipping l skipped depth) = broken cause.XmlFault
+planFault (skipping m skipped depth) = broken cause.XmlFault
 planFault finished = pass finished

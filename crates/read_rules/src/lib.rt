@@ -35,14 +35,25 @@ fn is_status(tag: usize) -> bool
     (6 <= tag) & (tag <= 12)
 }
 
-// The outputs of suite, case and status element; any other child is skipped.
-fn child(tag: usize) -> Act
-    ensures { λ r. ⌜ ((m : plan.Mode) (name : List ℕ) → tagOf name ≡ tag → actIn m name r ≡ rules.outputs (levelIn m) name) ⌝ }
+// An Empty output is closed where it stands (rules R13 and S3).
+fn text_of(output: Output, empty: bool) -> Act
+    ensures { λ r. ⌜ ((m : plan.Mode) (name : List ℕ) → actIn m name r ≡ cond empty (plan.closeText (levelIn m) (outputOf output)) (plan.openText (levelIn m) (outputOf output))) ⌝ }
+{
+    if empty {
+        Act::CloseText(output)
+    } else {
+        Act::OpenText(output)
+    }
+}
+
+// The outputs of suite, case and status element; any other child is skipped (rules R11 and S4), and an Empty one ends where it stands (rule R13).
+fn child(tag: usize, empty: bool) -> Act
+    ensures { λ r. ⌜ ((l : plan.Level) (name : List ℕ) → tagOf name ≡ tag → actIn (plan.at l) name r ≡ cond empty (rules.emptied l name) (rules.outputs l name)) ⌝ }
 {
     match tag {
-        SYSTEM_OUT => Act::OpenText(Output::Out),
-        SYSTEM_ERR => Act::OpenText(Output::Err),
-        _ => Act::Skip,
+        SYSTEM_OUT => text_of(Output::Out, empty),
+        SYSTEM_ERR => text_of(Output::Err, empty),
+        _ => { if empty { Act::Pass } else { Act::Skip } }
     }
 }
 
@@ -75,29 +86,30 @@ fn step_top(seen: bool, kind: u32, tag: usize) -> Act
     }
 }
 
-fn open_suite(tag: usize) -> Act
-    ensures { λ r. ⌜ ((name : List ℕ) → tagOf name ≡ tag → actIn (plan.at plan.suite) name r ≡ rules.atSuite Start name) ⌝ }
+// A list in either spelling replaces the one that was there (rule R13).
+fn list_of(empty: bool) -> Act
+    ensures { λ r. ⌜ ((m : plan.Mode) (name : List ℕ) → actIn m name r ≡ plan.openList (levelIn m) empty) ⌝ }
+{
+    Act::OpenList(empty)
+}
+
+fn open_suite(tag: usize, empty: bool) -> Act
+    ensures { λ r. ⌜ ((name : List ℕ) → tagOf name ≡ tag → actIn (plan.at plan.suite) name r ≡ rules.atSuite (cond empty Empty Start) name) ⌝ }
 {
     match tag {
-        TESTCASE => Act::Open(CASE, false),
-        PROPERTIES => Act::OpenList,
-        _ => child(tag),
+        TESTCASE => Act::Open(CASE, empty),
+        PROPERTIES => list_of(empty),
+        _ => child(tag, empty),
     }
 }
 
-// Any End but the element's own is passed over.
+// By rules R10 and R13; any End but the element's own is passed over (rule R12).
 fn step_suite(kind: u32, tag: usize) -> Act
     ensures { λ r. ⌜ ((name : List ℕ) → tagOf name ≡ tag → actIn (plan.at plan.suite) name r ≡ rules.atSuite (tagKind kind) name) ⌝ }
 {
     match kind {
-        START => open_suite(tag),
-        EMPTY => {
-            if tag == TESTCASE {
-                Act::Open(CASE, true)
-            } else {
-                Act::Pass
-            }
-        }
+        START => open_suite(tag, false),
+        EMPTY => open_suite(tag, true),
         _ => {
             if tag == TESTSUITE {
                 Act::Close
@@ -108,16 +120,16 @@ fn step_suite(kind: u32, tag: usize) -> Act
     }
 }
 
-fn open_case(tag: usize) -> Act
-    ensures { λ r. ⌜ ((name : List ℕ) → tagOf name ≡ tag → actIn (plan.at plan.case) name r ≡ rules.atCase Start name) ⌝ }
+fn open_case(tag: usize, empty: bool) -> Act
+    ensures { λ r. ⌜ ((name : List ℕ) → tagOf name ≡ tag → actIn (plan.at plan.case) name r ≡ rules.atCase (cond empty Empty Start) name) ⌝ }
 {
     if is_status(tag) {
-        return Act::Open(tag as u32, false);
+        return Act::Open(tag as u32, empty);
     }
     if tag == PROPERTIES {
-        return Act::OpenList;
+        return list_of(empty);
     }
-    child(tag)
+    child(tag, empty)
 }
 
 // By rules R10, R12 and R13, as in a suite.
@@ -125,14 +137,8 @@ fn step_case(kind: u32, tag: usize) -> Act
     ensures { λ r. ⌜ ((name : List ℕ) → tagOf name ≡ tag → actIn (plan.at plan.case) name r ≡ rules.atCase (tagKind kind) name) ⌝ }
 {
     match kind {
-        START => open_case(tag),
-        EMPTY => {
-            if is_status(tag) {
-                Act::Open(tag as u32, true)
-            } else {
-                Act::Pass
-            }
-        }
+        START => open_case(tag, false),
+        EMPTY => open_case(tag, true),
         _ => {
             if tag == TESTCASE {
                 Act::Close
@@ -143,18 +149,27 @@ fn step_case(kind: u32, tag: usize) -> Act
     }
 }
 
-// "A child `stackTrace`, `system-out` or `system-err`, Start or Empty alike, is read [..]; any other child, Empty too, is skipped."
+fn open_status(tag: usize, empty: bool) -> Act
+    ensures { λ r. ⌜ ((name : List ℕ) → tagOf name ≡ tag → actIn (plan.at plan.status) name r ≡ rules.atStatus (cond empty Empty Start) name) ⌝ }
+{
+    if tag == STACK_TRACE {
+        return text_of(Output::Trace, empty);
+    }
+    child(tag, empty)
+}
+
+// It ends at an End of any of the seven status names (rule S2); children by rules S3 and S4.
 fn step_status(kind: u32, tag: usize) -> Act
     ensures { λ r. ⌜ ((name : List ℕ) → tagOf name ≡ tag → actIn (plan.at plan.status) name r ≡ rules.atStatus (tagKind kind) name) ⌝ }
 {
-    if kind <= EMPTY {
-        if tag == STACK_TRACE {
-            return Act::OpenText(Output::Trace);
+    match kind {
+        START => open_status(tag, false),
+        EMPTY => open_status(tag, true),
+        _ => {
+            let ends = is_status(tag);
+            if ends { Act::Close } else { Act::Pass }
         }
-        return child(tag);
     }
-    let ends = is_status(tag);
-    if ends { Act::Close } else { Act::Pass }
 }
 
 // The tag whose next End ends the text (rule R14).
@@ -173,24 +188,28 @@ fn step_text(output: Output, kind: u32, tag: usize) -> Act
     ensures { λ r. ⌜ ((l : plan.Level) (name : List ℕ) → actIn (plan.gathering l (outputOf output)) name r ≡ rules.inText l (outputOf output) (tagKind kind) tag) ⌝ }
 {
     if (EMPTY < kind) & (tag == tag_of_output(output)) {
-        return Act::CloseText;
+        return Act::CloseText(output);
     }
     Act::Pass
 }
 
-// "Properties count Empty `property` only."
+// A `property` counts in either spelling (rule R16).
+fn open_property(tag: usize, empty: bool) -> Act
+    ensures { λ r. ⌜ ((l : plan.Level) (name : List ℕ) → tagOf name ≡ tag → actIn (plan.listing l) name r ≡ rules.inList l (cond empty Empty Start) name) ⌝ }
+{
+    if tag == PROPERTY {
+        return Act::ReadProperty(empty);
+    }
+    Act::Pass
+}
+
+// An Empty `properties` ends nothing (rule R15).
 fn step_list(kind: u32, tag: usize) -> Act
-    ensures { λ r. ⌜ ((l : plan.Level) (name : List ℕ) → actIn (plan.listing l) name r ≡ rules.inList l (tagKind kind) tag) ⌝ }
+    ensures { λ r. ⌜ ((l : plan.Level) (name : List ℕ) → tagOf name ≡ tag → actIn (plan.listing l) name r ≡ rules.inList l (tagKind kind) name) ⌝ }
 {
     match kind {
-        START => Act::Pass,
-        EMPTY => {
-            if tag == PROPERTY {
-                Act::ReadProperty
-            } else {
-                Act::Pass
-            }
-        }
+        START => open_property(tag, false),
+        EMPTY => open_property(tag, true),
         _ => {
             if tag == PROPERTIES {
                 Act::CloseList

@@ -12,6 +12,7 @@ use Rattle.read_state.specs.Control.{Level, Output, at, Control, control
 use Rattle.read_state.specs.Control.{closeCase, closeStatus, openText, closeText, openList, readProperty, stop, missing, broken, turn}
 use Rattle.read_state.specs.inside.Coded.{modeAt, levelIn, opening, closing, controlOf, actOf, isStep, turned}
 use Rattle.read_state.specs.declared.Act.{Act as CodedAct}
+use Rattle.read_state.specs.declared.Act.the-variants.{ReadProperty}
 use Rattle.read_state.specs.declared.Control.{Control as CodedControl}
 use Rattle.read_state.specs.declared.Mode.{Mode as CodedMode}
 use Rattle.read_state.specs.declared.Mode.the-variants.{At, Text, List as Listing}
@@ -27,6 +28,12 @@ closes m l o c e = e ∙ ap (λ (k : Level). turn (closing k) c) (sym (level-in 
 
 pub controls : {r : Control} {l k : Level} {s c : Bool} {t u : Tally} → r ≡ control (at l) s c t → l ≡ k → t ≡ u → r ≡ control (at k) s c u
 controls {r} {l} {k} {s} {c} {t} {u} e f g = e ∙ ap (λ (x : Level). control (at x) s c t) f ∙ ap (λ (x : Tally). control (at k) s c x) g
+
+-- a property leaves the list open; a Start's content is skipped whole
+pub property-turned : (e : Bool) (name : List ℕ) (c : CodedControl) → controlOf c ≡ turned (ReadProperty e) name c
+unfolding turn
+property-turned true name c = refl
+property-turned false name c = refl
 
 more : {n : ℕ} {t : Tally} → Few n t → Few (suc n) t
 more f = few-more f (omega arith)
@@ -47,8 +54,9 @@ few-turn closeCase c f = none
 few-turn closeStatus c f = more f
 few-turn (openText l o) c f = more f
 few-turn (closeText l o) c f = more f
-few-turn (openList l) c f = more f
-few-turn (readProperty l) c f = more f
+few-turn (openList l e) c f = more f
+few-turn (readProperty l true name) c f = more f
+few-turn (readProperty l false name) c f = more f
 few-turn stop c f = more f
 few-turn missing c f = more f
 few-turn (broken n) c f = more f

@@ -16,12 +16,12 @@ pub data Output : Type 0 where
   trace out err : Output
 
 -- where reading stands: inside an element, in a gathered text of an element, in its properties, in a skip of a name that
--- was opened `depth` times more, or at the end
+-- was opened `depth` times more, behind which reading stands where it stood before, or at the end
 pub data Mode : Type 0 where
   at : Level → Mode
   gathering : Level → Output → Mode
   listing : Level → Mode
-  skipping : Level → List ℕ → ℕ → Mode
+  skipping : Mode → List ℕ → ℕ → Mode
   finished : Mode
 
 -- whether a report exists, whether the table counts as closed, and the open case's status elements
@@ -42,9 +42,11 @@ pub data Act : Type 0 where
   closeCase : Act
   closeStatus : Act
   openText : Level → Output → Act
+  -- at its End; an Empty output is closed where it stands, with nothing gathered
   closeText : Level → Output → Act
-  openList : Level → Act
-  readProperty : Level → Act
+  openList : Level → Bool → Act
+  -- the tag's name is what the skip of a Start's content remembers
+  readProperty : Level → Bool → List ℕ → Act
   stop : Act
   -- no report, at Eof or at End `testsuites` (rule R9)
   missing : Act
@@ -57,7 +59,7 @@ isStatus t = leb 6 t && leb t 12
 
 -- of a child that isn't known (rules R11 and S4)
 unfoldable pub orSkip : Level → List ℕ → Act
-orSkip l name = pass (skipping l name 0)
+orSkip l name = pass (skipping (at l) name 0)
 
 -- where pieces of text are gathered (rule R20)
 unfoldable pub gathers : Mode → Bool
@@ -67,7 +69,7 @@ gathers (at case) = false
 gathers (at status) = true
 gathers (gathering l o) = true
 gathers (listing l) = false
-gathers (skipping l skipped depth) = false
+gathers (skipping m skipped depth) = false
 gathers finished = false
 
 abbrev pub control : Mode → Bool → Bool → Tally → Control
@@ -88,8 +90,8 @@ turn closeCase c = control (at suite) (c .seen) (c .closed) noStatus
 turn closeStatus c = control (at case) (c .seen) (c .closed) (c .tally)
 turn (openText l o) c = control (gathering l o) (c .seen) (c .closed) (c .tally)
 turn (closeText l o) c = control (at l) (c .seen) (c .closed) (c .tally)
-turn (openList l) c = control (listing l) (c .seen) (c .closed) (c .tally)
-turn (readProperty l) c = c
+turn (openList l e) c = control (cond e (at l) (listing l)) (c .seen) (c .closed) (c .tally)
+turn (readProperty l e name) c = cond e c (control (skipping (listing l) name 0) (c .seen) (c .closed) (c .tally))
 turn stop c = control finished (c .seen) (c .closed) (c .tally)
 turn missing c = c
 turn (broken n) c = c

@@ -44,17 +44,18 @@ pub struct Control {
     pub tally: Tally,
 }
 
-// What is done: an element is opened by its record's kind, and closed at once if its tag is Empty.
+// What is done: an element is opened by its record's kind. A bool says that the tag is Empty; an Empty output is closed where
+// it stands.
 pub enum Act {
     Pass,
     Skip,
     Open(u32, bool),
     Close,
     OpenText(Output),
-    CloseText,
-    OpenList,
+    CloseText(Output),
+    OpenList(bool),
     CloseList,
-    ReadProperty,
+    ReadProperty(bool),
     Stop,
     Missing,
     Broken(Cause),
@@ -150,7 +151,17 @@ fn going(control: Control, mode: Mode, output: Output) -> Control
     }
 }
 
-// The control that follows.
+// The control in a properties list, or behind an Empty one.
+fn listed(control: Control, empty: bool) -> Control
+    ensures { λ r. ⌜ controlOf r ≡ plan.turn (plan.openList (levelOf (control .level)) empty) (controlOf control) ⌝ }
+{
+    if empty {
+        return going(control, Mode::At, Output::Out);
+    }
+    going(control, Mode::List, Output::Out)
+}
+
+// The control that follows. A property's content is skipped whole, and the list goes on behind it.
 pub fn turn(act: Act, control: Control) -> Control
     requires { ⌜ Few 4294967294 (control .tally) ⌝ }
     ensures { λ r. ⌜ ((name : List ℕ) → controlOf r ≡ turned act name control) ⌝ }
@@ -159,12 +170,12 @@ pub fn turn(act: Act, control: Control) -> Control
         Act::Open(k, empty) => opened(control, k, empty),
         Act::Close => closed(control),
         Act::OpenText(output) => going(control, Mode::Text, output),
-        Act::CloseText => going(control, Mode::At, Output::Out),
-        Act::OpenList => going(control, Mode::List, Output::Out),
+        Act::CloseText(_) => going(control, Mode::At, Output::Out),
+        Act::OpenList(empty) => listed(control, empty),
         Act::CloseList => going(control, Mode::At, Output::Out),
         Act::Pass => control,
         Act::Skip => control,
-        Act::ReadProperty => control,
+        Act::ReadProperty(_) => control,
         Act::Stop => control,
         Act::Missing => control,
         Act::Broken(_) => control,

@@ -4,15 +4,16 @@ use mathlib.Core.Path.{_≡_, refl, sym, ap, subst, _∙_}
 use mathlib.Core.List.{List, []}
 use mathlib.Core.Bool.{Bool, true, false, cond}
 use native.Mathlib.Omega.{arith}
+use borrow.Author.Tests.{ne-eqb}
 use lib.Dec.{eqb}
 use Rattle.names.specs.Tags.{tagOf, properties, property}
 use Rattle.refusal.specs.Refusal.{accepted}
-use Rattle.table.specs.Event.{Attribute, TagKind, Start, Empty, End, Tag, Piece, eventOf, tagKind, pieceKind, pieceBytes}
+use Rattle.table.specs.Event.{Attribute, TagKind, Start, Empty, End, Piece, eventOf, tagKind, pieceKind, pieceBytes}
 use Rattle.read_element.specs.Outcome.{_>>=_, Rooms}
-use Rattle.read_state.specs.Control.{Level, top, suite, case, status, Output, Mode, at, gathering, listing, skipping, Control, orSkip}
+use Rattle.read_state.specs.Control.{Level, top, suite, case, status, Output, Mode, at, gathering, listing, skipping, finished, Control, orSkip}
 use Rattle.read_rules.specs.Rules.{planAt, planEof, planFault, inText, inList, tagOfOutput}
 use Rattle.read_state.specs.Control.{Act, pass, openReport, openSuite, openCase, openStatus, closeSuite, closeCase, closeStatus, openText, closeText, openList, readProperty, stop, missing, broken}
-use Rattle.read_state.specs.inside.Coded.{modeAt, levelIn, closing, actIn, controlOf, actOf, isStep}
+use Rattle.read_state.specs.inside.Coded.{levelOf, outputOf, modeAt, modeOf, levelIn, closing, actIn, controlOf, actOf, isStep}
 use Rattle.read_state.specs.declared.Control.{Control as CodedControl}
 use Rattle.read_state.specs.declared.Act.{Act as CodedAct}
 use Rattle.read_state.specs.declared.Act.the-variants.{Pass, Skip, Open, Close, OpenText, CloseText, OpenList, CloseList, ReadProperty, Stop, Missing, Broken}
@@ -21,8 +22,9 @@ use Rattle.read_state.specs.declared.Mode.the-variants.{At, Text, List as Listi
 use Rattle.read_path.specs.inside.Coded.{hasRoom}
 use Rattle.read_path.proofs.Lengths.{planned-room, eof-room, fault-room}
 use Rattle.read_content.specs.Content.{perform}
+use Rattle.read_content.specs.inside.Holds.{isList, apt}
 use Rattle.read_machine.specs.Machine.{Machine, act, step}
-use Rattle.read_step.specs.inside.Planned.{isPiece, planned, nameIn, IsSkipped, isSkip, isStop}
+use Rattle.read_step.specs.inside.Planned.{isPiece, planned, nameIn, isSkip, isStop, hasContent}
 use Rattle.read_step.proofs.Acting.{act-none}
 use Rattle.refusal.specs.declared.Cause.the-variants as cause
 
@@ -35,10 +37,10 @@ skip-is Pass e = absurd (other-act (sym e))
 skip-is (Open k x) e = absurd (other-act (sym e))
 skip-is Close e = absurd (other-act (sym e))
 skip-is (OpenText o) e = absurd (other-act (sym e))
-skip-is CloseText e = absurd (other-act (sym e))
-skip-is OpenList e = absurd (other-act (sym e))
+skip-is (CloseText o) e = absurd (other-act (sym e))
+skip-is (OpenList x) e = absurd (other-act (sym e))
 skip-is CloseList e = absurd (other-act (sym e))
-skip-is ReadProperty e = absurd (other-act (sym e))
+skip-is (ReadProperty x) e = absurd (other-act (sym e))
 skip-is Stop e = absurd (other-act (sym e))
 skip-is Missing e = absurd (other-act (sym e))
 skip-is (Broken why) e = absurd (other-act (sym e))
@@ -49,13 +51,28 @@ stop-is Pass e = absurd (other-act (sym e))
 stop-is (Open k x) e = absurd (other-act (sym e))
 stop-is Close e = absurd (other-act (sym e))
 stop-is (OpenText o) e = absurd (other-act (sym e))
-stop-is CloseText e = absurd (other-act (sym e))
-stop-is OpenList e = absurd (other-act (sym e))
+stop-is (CloseText o) e = absurd (other-act (sym e))
+stop-is (OpenList x) e = absurd (other-act (sym e))
 stop-is CloseList e = absurd (other-act (sym e))
-stop-is ReadProperty e = absurd (other-act (sym e))
+stop-is (ReadProperty x) e = absurd (other-act (sym e))
 stop-is Skip e = absurd (other-act (sym e))
 stop-is Missing e = absurd (other-act (sym e))
 stop-is (Broken why) e = absurd (other-act (sym e))
+
+pub content-is : (a : CodedAct) → hasContent a ≡ true → a ≡ ReadProperty false
+content-is Pass e = absurd (other-act (sym e))
+content-is Skip e = absurd (other-act (sym e))
+content-is (Open k x) e = absurd (other-act (sym e))
+content-is Close e = absurd (other-act (sym e))
+content-is (OpenText o) e = absurd (other-act (sym e))
+content-is (CloseText o) e = absurd (other-act (sym e))
+content-is (OpenList x) e = absurd (other-act (sym e))
+content-is CloseList e = absurd (other-act (sym e))
+content-is (ReadProperty true) e = absurd (other-act (sym e))
+content-is (ReadProperty false) e = refl
+content-is Stop e = absurd (other-act (sym e))
+content-is Missing e = absurd (other-act (sym e))
+content-is (Broken why) e = absurd (other-act (sym e))
 
 -- a Fault is refused in every mode that the code has
 pub fault-plans : (m : CodedMode) (l : Level) (o : Output) → planFault (modeAt m l o) ≡ broken cause.XmlFault
@@ -98,58 +115,83 @@ piece-event (suc (suc (suc (suc (suc (suc (suc (suc zero)))))))) bytes first xs 
 piece-event (suc (suc (suc (suc (suc (suc (suc (suc (suc zero))))))))) bytes first xs p h = refl
 piece-event (suc (suc (suc (suc (suc (suc (suc (suc (suc (suc k)))))))))) bytes first xs p h = absurd (omega arith)
 
--- tags
-pub tag-event : (kind : ℕ) (bytes : List ℕ) (first : ℕ) (xs : List Attribute) → isPiece kind ≡ false → kind ≤ 9 → (kind ≡ 7 → ⊥)
-    → (kind ≡ 8 → ⊥) → (j : ℕ) × (ys : List Attribute) × (eventOf kind bytes first xs ≡ Tag (tagKind kind) bytes j ys)
-unfolding eventOf
-tag-event zero bytes first xs p h a b = (first, xs, refl)
-tag-event (suc zero) bytes first xs p h a b = (first, xs, refl)
-tag-event (suc (suc zero)) bytes first xs p h a b = (0, [], refl)
-tag-event (suc (suc (suc zero))) bytes first xs p h a b = absurd (other-act p)
-tag-event (suc (suc (suc (suc zero)))) bytes first xs p h a b = absurd (other-act p)
-tag-event (suc (suc (suc (suc (suc zero))))) bytes first xs p h a b = absurd (other-act p)
-tag-event (suc (suc (suc (suc (suc (suc zero)))))) bytes first xs p h a b = absurd (other-act p)
-tag-event (suc (suc (suc (suc (suc (suc (suc zero))))))) bytes first xs p h a b = absurd (a refl)
-tag-event (suc (suc (suc (suc (suc (suc (suc (suc zero)))))))) bytes first xs p h a b = absurd (b refl)
-tag-event (suc (suc (suc (suc (suc (suc (suc (suc (suc zero))))))))) bytes first xs p h a b = absurd (other-act p)
-tag-event (suc (suc (suc (suc (suc (suc (suc (suc (suc (suc k)))))))))) bytes first xs p h a b = absurd (omega arith)
-
 -- ---- skips
-pub eof-no-skip : (m : CodedMode) (l : Level) (o : Output) (seen closed : Bool) (k : Level) (name : List ℕ) → orSkip k name ≡ planEof (modeAt m l o) seen closed → ⊥
-unfolding orSkip planEof
-eof-no-skip At top o true true k name e = let z : _≡_ {A = ℕ} 0 1 = cc in omega arith
-eof-no-skip At top o true false k name e = let z : _≡_ {A = ℕ} 0 1 = cc in omega arith
-eof-no-skip At top o false closed k name e = let z : _≡_ {A = ℕ} 0 1 = cc in omega arith
-eof-no-skip At suite o seen closed k name e = let z : _≡_ {A = ℕ} 0 1 = cc in omega arith
-eof-no-skip At case o seen closed k name e = let z : _≡_ {A = ℕ} 0 1 = cc in omega arith
-eof-no-skip At status o seen closed k name e = let z : _≡_ {A = ℕ} 0 1 = cc in omega arith
-eof-no-skip Text l o seen closed k name e = let z : _≡_ {A = ℕ} 0 1 = cc in omega arith
-eof-no-skip Listing l o seen closed k name e = let z : _≡_ {A = ℕ} 0 1 = cc in omega arith
+-- the acts behind which a skip begins
+unfoldable pub begins : Act → Bool
+begins (pass (skipping m name depth)) = true
+begins (pass (at l)) = false
+begins (pass (gathering l o)) = false
+begins (pass (listing l)) = false
+begins (pass finished) = false
+begins (readProperty l e name) = true
+begins stop = false
+begins (openReport e) = false
+begins (openSuite e) = false
+begins (openCase e) = false
+begins (openStatus k e) = false
+begins closeSuite = false
+begins closeCase = false
+begins closeStatus = false
+begins (openText l o) = false
+begins (closeText l o) = false
+begins (openList l e) = false
+begins missing = false
+begins (broken n) = false
 
-pub fault-no-skip : (m : CodedMode) (l : Level) (o : Output) (k : Level) (name : List ℕ) → orSkip k name ≡ planFault (modeAt m l o) → ⊥
-unfolding orSkip
-fault-no-skip m l o k name e = let q : pass (skipping k name 0) ≡ broken cause.XmlFault = e ∙ fault-plans m l o in let z : _≡_ {A = ℕ} 0 1 = cc in omega arith
+eof-begins : (m : CodedMode) (l : Level) (o : Output) (seen closed : Bool) → begins (planEof (modeAt m l o) seen closed) ≡ false
+unfolding begins planEof
+eof-begins At top o true true = refl
+eof-begins At top o true false = refl
+eof-begins At top o false closed = refl
+eof-begins At suite o seen closed = refl
+eof-begins At case o seen closed = refl
+eof-begins At status o seen closed = refl
+eof-begins Text l o seen closed = refl
+eof-begins Listing l o seen closed = refl
 
--- nothing is skipped in a gathered text or in properties
-pub skip-inside : (m : CodedMode) (l : Level) (o : Output) (seen : Bool) (k : TagKind) (i : Level) (name : List ℕ) → orSkip i name ≡ planAt (modeAt m l o) seen k name → m ≡ At
+fault-begins : (m : CodedMode) (l : Level) (o : Output) → begins (planFault (modeAt m l o)) ≡ false
+unfolding begins
+fault-begins m l o = ap begins (fault-plans m l o)
+
+-- they stand at a tag
+module _ (c : CodedControl) (kind : ℕ) (name : List ℕ) (a : Act) (q : a ≡ planned (controlOf c) kind name) (b : begins a ≡ true) where
+  pub no-eof : kind ≡ 7 → ⊥
+  no-eof e = other-act (sym b ∙ ap begins q ∙ ap (λ (k : ℕ). begins (planned (controlOf c) k name)) e ∙ eof-begins (c .mode) (levelOf (c .level)) (outputOf (c .output)) (c .seen) (c .closed))
+
+  no-fault : kind ≡ 8 → ⊥
+  no-fault e = other-act (sym b ∙ ap begins q ∙ ap (λ (k : ℕ). begins (planned (controlOf c) k name)) e ∙ fault-begins (c .mode) (levelOf (c .level)) (outputOf (c .output)))
+
+  pub tag-name : nameIn kind name ≡ name
+  tag-name = rw (ne-eqb kind 7 no-eof, ne-eqb kind 8 no-fault) refl
+
+  pub tag-plan : a ≡ planAt (modeOf c) (c .seen) (tagKind kind) name
+  tag-plan = q ∙ (rw (ne-eqb kind 7 no-eof, ne-eqb kind 8 no-fault) refl)
+
+-- nothing unknown is skipped in a gathered text or in properties
+pub skip-inside : (m : CodedMode) (l : Level) (o : Output) (seen : Bool) (k : TagKind) (i : Level) (name tag : List ℕ)
+    → orSkip i tag ≡ planAt (modeAt m l o) seen k name → at (levelIn (modeAt m l o)) ≡ modeAt m l o
 unfolding orSkip planAt inText inList
-skip-inside At l o seen k i name e = refl
-skip-inside Text l o seen Start i name e = let z : _≡_ {A = ℕ} 0 1 = cc in absurd (omega arith)
-skip-inside Text l o seen Empty i name e = let z : _≡_ {A = ℕ} 0 1 = cc in absurd (omega arith)
-skip-inside Text l o seen End i name e = absurd (go (eqb (tagOf name) (tagOfOutput o)) e)
+skip-inside At l o seen k i name tag e = refl
+skip-inside Text l o seen Start i name tag e = let z : _≡_ {A = ℕ} 0 1 = cc in absurd (omega arith)
+skip-inside Text l o seen Empty i name tag e = let z : _≡_ {A = ℕ} 0 1 = cc in absurd (omega arith)
+skip-inside Text l o seen End i name tag e = absurd (go (eqb (tagOf name) (tagOfOutput o)) e)
   where
-    go : (b : Bool) → pass (skipping i name 0) ≡ cond b (closeText l o) (pass (gathering l o)) → ⊥
+    go : (b : Bool) → pass (skipping (at i) tag 0) ≡ cond b (closeText l o) (pass (gathering l o)) → ⊥
     go true q = let z : _≡_ {A = ℕ} 0 1 = cc in omega arith
     go false q = let z : _≡_ {A = ℕ} 0 1 = cc in omega arith
-skip-inside Listing l o seen Start i name e = let z : _≡_ {A = ℕ} 0 1 = cc in absurd (omega arith)
-skip-inside Listing l o seen Empty i name e = absurd (go (eqb (tagOf name) property) e)
+skip-inside Listing l o seen Start i name tag e = absurd (go (eqb (tagOf name) property) e)
   where
-    go : (b : Bool) → pass (skipping i name 0) ≡ cond b (readProperty l) (pass (listing l)) → ⊥
+    go : (b : Bool) → pass (skipping (at i) tag 0) ≡ cond b (readProperty l false name) (pass (listing l)) → ⊥
     go true q = let z : _≡_ {A = ℕ} 0 1 = cc in omega arith
     go false q = let z : _≡_ {A = ℕ} 0 1 = cc in omega arith
-skip-inside Listing l o seen End i name e = absurd (go (eqb (tagOf name) properties) e)
+skip-inside Listing l o seen Empty i name tag e = absurd (go (eqb (tagOf name) property) e)
   where
-    go : (b : Bool) → pass (skipping i name 0) ≡ cond b (pass (at l)) (pass (listing l)) → ⊥
+    go : (b : Bool) → pass (skipping (at i) tag 0) ≡ cond b (readProperty l true name) (pass (listing l)) → ⊥
+    go true q = let z : _≡_ {A = ℕ} 0 1 = cc in omega arith
+    go false q = let z : _≡_ {A = ℕ} 0 1 = cc in omega arith
+skip-inside Listing l o seen End i name tag e = absurd (go (eqb (tagOf name) properties) e)
+  where
+    go : (b : Bool) → pass (skipping (at i) tag 0) ≡ cond b (pass (at l)) (pass (listing l)) → ⊥
     go true q = let z : _≡_ {A = ℕ} 0 1 = cc in omega arith
     go false q = let z : _≡_ {A = ℕ} 0 1 = cc in omega arith
 
@@ -166,8 +208,8 @@ stopping closeCase = false
 stopping closeStatus = false
 stopping (openText l o) = false
 stopping (closeText l o) = false
-stopping (openList l) = false
-stopping (readProperty l) = false
+stopping (openList l e) = false
+stopping (readProperty l e name) = false
 stopping missing = false
 stopping (broken n) = false
 
@@ -190,10 +232,10 @@ stops m name Close = go (levelIn m)
     go case = refl
     go status = refl
 stops m name (OpenText o) = refl
-stops m name CloseText = refl
-stops m name OpenList = refl
+stops m name (CloseText o) = refl
+stops m name (OpenList e) = refl
 stops m name CloseList = refl
-stops m name ReadProperty = refl
+stops m name (ReadProperty e) = refl
 stops m name Stop = refl
 stops m name Missing = refl
 stops m name (Broken why) = refl
@@ -224,25 +266,32 @@ planned-fits k kind name n = go (eqb kind 7) (eqb kind 8)
     go false true = fault-room (k .mode)
     go false false = planned-room (k .mode) (k .seen) (tagKind kind) name n
 
--- all acts but skipping and stopping go on with the control that `turn` gives
-pub is-step : (a : CodedAct) → isSkip a ≡ false → isStop a ≡ false → isStep a ≡ true
-is-step Pass e f = refl
-is-step Skip e f = absurd (other-act e)
-is-step (Open k x) e f = refl
-is-step Close e f = refl
-is-step (OpenText o) e f = refl
-is-step CloseText e f = refl
-is-step OpenList e f = refl
-is-step CloseList e f = refl
-is-step ReadProperty e f = refl
-is-step Stop e f = absurd (other-act f)
-is-step Missing e f = refl
-is-step (Broken why) e f = refl
+-- all acts but skipping, a Start `property` and stopping go on with the control that `turn` gives
+pub is-step : (a : CodedAct) → isSkip a ≡ false → isStop a ≡ false → hasContent a ≡ false → isStep a ≡ true
+is-step Pass e f g = refl
+is-step Skip e f g = absurd (other-act e)
+is-step (Open k x) e f g = refl
+is-step Close e f g = refl
+is-step (OpenText o) e f g = refl
+is-step (CloseText o) e f g = refl
+is-step (OpenList x) e f g = refl
+is-step CloseList e f g = refl
+is-step (ReadProperty true) e f g = refl
+is-step (ReadProperty false) e f g = absurd (other-act g)
+is-step Stop e f g = absurd (other-act f)
+is-step Missing e f g = refl
+is-step (Broken why) e f g = refl
 
 -- what the code's tests of an act that was planned tell
 module _ (c : CodedControl) (kind : ℕ) (name : List ℕ) (a : CodedAct) (q : actOf c (nameIn kind name) a ≡ planned (controlOf c) kind name) where
-  pub skips : isSkip a ≡ true → IsSkipped c kind name
+  pub skips : isSkip a ≡ true → actOf c (nameIn kind name) Skip ≡ planned (controlOf c) kind name
   skips e = subst (λ (x : CodedAct). actOf c (nameIn kind name) x ≡ planned (controlOf c) kind name) (skip-is a e) q
+
+  pub reads : hasContent a ≡ true → actOf c (nameIn kind name) (ReadProperty false) ≡ planned (controlOf c) kind name
+  reads e = subst (λ (x : CodedAct). actOf c (nameIn kind name) x ≡ planned (controlOf c) kind name) (content-is a e) q
 
   pub stops-there : isStop a ≡ true → stop ≡ planned (controlOf c) kind name
   stops-there e = subst (λ (x : CodedAct). actOf c (nameIn kind name) x ≡ planned (controlOf c) kind name) (stop-is a e) q
+
+  pub lists : hasContent a ≡ true → apt a (modeOf c) ≡ true → isList (modeOf c) ≡ true
+  lists e h = subst (λ (x : CodedAct). apt x (modeOf c) ≡ true) (content-is a e) h

@@ -10,26 +10,28 @@ use Rattle.area.specs.Area.{zeros}
 use Rattle.utf8.specs.Characters.{joined}
 use Rattle.refusal.specs.Refusal.{Outcome, accepted}
 use Rattle.table.specs.Table.{word, countOf, tableOf}
-use Rattle.table.specs.Event.{Attribute, Event, Piece, kindAt, bytesAt, attributesFrom, eventAt, resolveFrom, pieceKind, pieceBytes}
+use Rattle.table.specs.Event.{Attribute, Event, Piece, kindAt, bytesAt, attributesFrom, eventAt, resolveFrom, tagKind, pieceKind, pieceBytes}
 use Rattle.table.proofs.Resolving.{attributes-none, event-of-kind}
 use Rattle.table_events.specs.inside.Ranges.{firstAt, endAt}
 use Rattle.read_element.specs.Outcome.{Rooms}
-use Rattle.read_state.specs.Control.{Mode, finished, Act, stop}
+use Rattle.read_state.specs.Control.{Mode, at, skipping, finished, Act, readProperty, stop, orSkip}
 use Rattle.read_rules.specs.Rules.{planEof}
-use Rattle.read_state.specs.inside.Coded.{levelOf, outputOf, levelIn, modeOf, controlOf}
+use Rattle.read_state.specs.inside.Coded.{levelOf, outputOf, levelIn, modeOf, controlOf, actOf}
+use Rattle.read_state.specs.declared.Act.the-variants.{Skip, ReadProperty}
 use Rattle.read_place.specs.inside.Coded.{marksOf}
 use Rattle.read_path.specs.inside.Coded.{hasRoom}
 use Rattle.read_content.specs.Content.{Content}
 use Rattle.read_content.specs.inside.Holds.{Lists}
 use Rattle.read_machine.specs.Machine.{Machine, act, step, run}
-use Rattle.read_machine.proofs.Skipping.{moved, act-stops, Keeps, finished-runs}
-use Rattle.read_step.specs.inside.Planned.{isPiece, planned, IsSkipped}
-use Rattle.read_step.specs.inside.Standing.{machineOf, runOn, Stands, refusalAt, Acted, Ended, Stepped}
+use Rattle.read_machine.proofs.Skipping.{moved, act-passes, act-stops, Keeps, finished-runs}
+use Rattle.read_step.specs.inside.Planned.{isPiece, planned, nameIn}
+use Rattle.read_step.specs.inside.Standing.{machineOf, runOn, inSkip, runSkip, Stands, refusalAt, Acted, Ended, Stepped}
+use Rattle.read_step.specs.inside.Promises.{StepsSkip}
 use Rattle.read_step.specs.declared.State.{State}
 use Rattle.read_step.specs.declared.Step.{Step}
 use Rattle.read_step.specs.declared.Step.the-variants as way
 use Rattle.read_step.proofs.Running.{run-goes, run-goes-on, run-refuses, run-end}
-use Rattle.read_step.proofs.ByKind.{piece-event, eof-no-skip, eof-ends, planned-fits}
+use Rattle.read_step.proofs.ByKind.{piece-event, begins, no-eof, tag-name, tag-plan, skip-inside, eof-ends, planned-fits}
 use Rattle.read_step.proofs.Tables.{event, event-acts, first-end, end-end}
 
 -- the path of what is planned has room for an Attribute
@@ -121,6 +123,14 @@ module _ (rooms : Rooms) (events attributes source : List ℕ) (good : tableOf e
         ∙ ap (λ (n : ℕ). act rooms a n (attributesFrom attributes source (0 - n) n) s) (sym (fq ∙ first-end events i e))
         ∙ ap (λ (n : ℕ). act rooms a first (attributesFrom attributes source (n - first) first) s) (sym (eq ∙ end-end events i e))
 
+    -- an act that begins a skip stands at a tag inside the table
+    begins-here : begins a ≡ true → (leb (countOf events) i ≡ false) × (nameIn kind bytes ≡ bytesAt events source i)
+    begins-here b = go (leb (countOf events) i) refl
+      where
+        go : (t : Bool) → leb (countOf events) i ≡ t → (leb (countOf events) i ≡ false) × (nameIn kind bytes ≡ bytesAt events source i)
+        go true e = absurd (no-eof (st .control) kind bytes a aq b (kind-end e))
+        go false e = (e, tag-name (st .control) kind bytes a aq b ∙ bytes-here e)
+
     pub act-way : (words text scratch : List ℕ) → (a ≡ stop → ⊥) → (first end : ℕ) → first ≡ firstAt events i → end ≡ endAt events i → (r : Step) → Acted attributes source words
         text scratch st (act rooms a first (attributesFrom attributes source (end - first) first) s) r → Stepped rooms events attributes source words text scratch st rest r
     act-way words text scratch n first end fq eq r d = go (leb (countOf events) i) refl
@@ -174,15 +184,39 @@ module _ (rooms : Rooms) (events attributes source : List ℕ) (good : tableOf e
           ∙ act-stops rooms (firstAt events i) (attributesFrom attributes source (endAt events i - firstAt events i) (firstAt events i)) s))
 
   -- ---- skips
-  pub skip-way : IsSkipped (st .control) kind bytes → (i < countOf events) × IsSkipped (st .control) (kindAt events i) (bytesAt events source i) × (isPiece kind ≡ isPiece (kindAt events i))
-  skip-way q = go (leb (countOf events) i) refl
-    where
-      go : (b : Bool) → leb (countOf events) i ≡ b → (i < countOf events) × IsSkipped (st .control) (kindAt events i) (bytesAt events source i) × (isPiece kind ≡ isPiece (kindAt events i))
-      go true e =
-          absurd (eof-no-skip (st .control .mode) (levelOf (st .control .level)) (outputOf (st .control .output)) (st .control .seen)
-          (st .control .closed) (levelIn (modeOf (st .control))) [] (subst (λ (k : ℕ). IsSkipped (st .control) k bytes) (kind-end e) q))
-      go false e = (
-        leb-false (countOf events) i e,
-        subst (λ (b : List ℕ). IsSkipped (st .control) (kindAt events i) b) (bytes-here e) (subst (λ (k : ℕ). IsSkipped (st .control) k bytes) (kind-here e) q),
-        ap isPiece (kind-here e),
-      )
+  module _ (p : isPiece kind ≡ false) where
+    -- an unknown element
+    pub skip-way : actOf (st .control) (nameIn kind bytes) Skip ≡ planned (controlOf (st .control)) kind bytes → (i < countOf events) × (rest ≡ runSkip rooms events attributes source i s)
+    unfolding orSkip begins
+    skip-way q =
+        let m : Mode = modeOf (st .control) in
+        let x = begins-here p (orSkip (levelIn m) (nameIn kind bytes)) q refl in
+        let h : i < countOf events = leb-false (countOf events) i (x .0) in
+        let inside : at (levelIn m) ≡ m = skip-inside (st .control .mode) (levelOf (st .control .level)) (outputOf (st .control .output)) (st .control .seen)
+        (tagKind kind) (levelIn m) bytes (nameIn kind bytes) (tag-plan (st .control) kind bytes (orSkip (levelIn m) (nameIn kind bytes)) q refl) in (
+          h,
+          run-goes rooms events attributes source s i refl h (inSkip (bytesAt events source i) (i + 1) s)
+              (act-here p (orSkip (levelIn m) (nameIn kind bytes)) q (x .0) (firstAt events i) (endAt events i) refl refl
+              ∙ act-passes rooms (firstAt events i) (attributesFrom attributes source (endAt events i - firstAt events i) (firstAt events i)) s (skipping (at (levelIn m)) (nameIn kind bytes) 0)
+              ∙ ap (λ (o : Mode). accepted (moved (skipping o (nameIn kind bytes) 0) (i + 1) s)) inside
+              ∙ ap (λ (n : List ℕ). accepted (moved (skipping m n 0) (i + 1) s)) (x .1)),
+        )
+
+    pub skip-stepped : (words text scratch : List ℕ) (r : Step) → actOf (st .control) (nameIn kind bytes) Skip ≡ planned (controlOf (st .control)) kind bytes → StepsSkip st i events source r
+        → Stands attributes source words text scratch (st .content) s → Stepped rooms events attributes source words text scratch st rest r
+    skip-stepped words text scratch r q f t =
+        subst (λ (o : Outcome Machine). Stepped rooms events attributes source words text scratch st o r)
+        (sym (skip-way q .1)) (f rooms attributes words text scratch c st (omega arith) (omega arith) refl t)
+
+    -- a Start `property`
+    pub property-way : actOf (st .control) (nameIn kind bytes) (ReadProperty false) ≡ planned (controlOf (st .control)) kind bytes → (first end : ℕ) → first ≡ firstAt events i → end ≡ endAt events i
+        → (i < countOf events) × (step rooms (eventAt events attributes source i) s
+        ≡ act rooms (actOf (st .control) (bytesAt events source i) (ReadProperty false)) first (attributesFrom attributes source (end - first) first) s)
+    unfolding begins
+    property-way q first end fq eq =
+        let m : Mode = modeOf (st .control) in
+        let x = begins-here p (readProperty (levelIn m) false (nameIn kind bytes)) q refl in (
+          leb-false (countOf events) i (x .0),
+          act-here p (readProperty (levelIn m) false (nameIn kind bytes)) q (x .0) first end fq eq
+              ∙ ap (λ (n : List ℕ). act rooms (readProperty (levelIn m) false n) first (attributesFrom attributes source (end - first) first) s) (x .1),
+        )

@@ -6,3 +6,4 @@ pub mod Stepping
 pub mod Eventful
 pub mod Passing
 pub mod Beginning
+pub mod Properties

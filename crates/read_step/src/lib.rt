@@ -1,4 +1,4 @@
-// One step of reading: an event, or an unknown element whole.
+// One step of reading: an event, with what is skipped behind it.
 use names::tag_of;
 use read_actions::perform;
 use read_attribute::Fault;
@@ -40,12 +40,13 @@ ghost use Rattle.table.specs.Table.{countOf, tableOf};
 ghost use Rattle.read_state.specs.inside.Coded.{modeOf, controlOf, actOf, isStep};
 ghost use Rattle.tree_status.specs.Status.{Few};
 ghost use Rattle.read_place.specs.inside.Coded.{marksOf, Low};
+ghost use Rattle.read_state.specs.declared.Act.the-variants.{ReadProperty};
 ghost use Rattle.read_content.specs.Content as deed;
 ghost use Rattle.read_element.specs.inside.Refines.{tagged, areas};
 ghost use Rattle.read_content.specs.inside.Holds.{apt};
-ghost use Rattle.read_step.specs.inside.Planned.{isPiece, planned, nameIn, isSkip, isStop};
+ghost use Rattle.read_step.specs.inside.Planned.{isPiece, planned, nameIn, isSkip, isStop, hasContent};
 ghost use Rattle.read_step.specs.inside.Standing.{machineOf, Standing, Bounded, Lent, Spans, haltAt, beginning, after};
-ghost use Rattle.read_step.specs.inside.Promises.{given, lent, StepsPiece, StepsSkip, StepsAct, StepsEvent};
+ghost use Rattle.read_step.specs.inside.Promises.{given, lent, StepsPiece, StepsSkip, StepsAct, StepsProperty, StepsEvent};
 
 pub struct State {
     pub control: Control,
@@ -92,10 +93,10 @@ fn is_skip(act: Act) -> bool
         Act::Open(_, _) => false,
         Act::Close => false,
         Act::OpenText(_) => false,
-        Act::CloseText => false,
-        Act::OpenList => false,
+        Act::CloseText(_) => false,
+        Act::OpenList(_) => false,
         Act::CloseList => false,
-        Act::ReadProperty => false,
+        Act::ReadProperty(_) => false,
         Act::Stop => false,
         Act::Missing => false,
         Act::Broken(_) => false,
@@ -113,10 +114,30 @@ fn is_stop(act: Act) -> bool
         Act::Open(_, _) => false,
         Act::Close => false,
         Act::OpenText(_) => false,
-        Act::CloseText => false,
-        Act::OpenList => false,
+        Act::CloseText(_) => false,
+        Act::OpenList(_) => false,
         Act::CloseList => false,
-        Act::ReadProperty => false,
+        Act::ReadProperty(_) => false,
+        Act::Missing => false,
+        Act::Broken(_) => false,
+    }
+}
+
+// A Start `property`: its content is skipped.
+fn has_content(act: Act) -> bool
+    ensures { λ r. ⌜ r ≡ hasContent act ⌝ }
+{
+    match act {
+        Act::ReadProperty(empty) => !empty,
+        Act::Stop => false,
+        Act::Pass => false,
+        Act::Skip => false,
+        Act::Open(_, _) => false,
+        Act::Close => false,
+        Act::OpenText(_) => false,
+        Act::CloseText(_) => false,
+        Act::OpenList(_) => false,
+        Act::CloseList => false,
         Act::Missing => false,
         Act::Broken(_) => false,
     }
@@ -185,16 +206,16 @@ fn step_piece(st: State, kind: u32, bytes: &[u8], scratch: &mut [u8]) -> Step
     }
 }
 
-// An unknown element, passed over.
-fn step_skip(st: State, events: &[u32], source: &[u8]) -> Step
-    requires { ⌜ st .marks .event < countOf (now events) ⌝ }
+// The element that event `start` begins, passed over (rule R11).
+fn step_skip(st: State, start: usize, events: &[u32], source: &[u8]) -> Step
+    requires { ⌜ start < countOf (now events) ⌝ }
     requires { ⌜ countOf (now events) ≤ 65536 ⌝ }
-    ensures { λ r. ⌜ StepsSkip st (now (events .entry)) (now (source .entry)) r ⌝ }
+    ensures { λ r. ⌜ StepsSkip st start (now (events .entry)) (now (source .entry)) r ⌝ }
 {
     let control = st.control;
     let marks = st.marks;
     let content = st.content;
-    let skipped = skip_from(events, source, marks.event);
+    let skipped = skip_from(events, source, start);
     match skipped {
         Skipped::Next(i) => Step::Go(State {
             control,
@@ -265,14 +286,53 @@ fn step_act(
     }
 }
 
-// The kinds of pieces of text: Text, CData, Ref, Other, Indent.
+// A Start `property` of a list: its attributes are read, and its content is skipped (rule R16).
+fn step_property(
+    st: State,
+    range: Range,
+    events: &[u32],
+    attributes: &[u32],
+    source: &[u8],
+    records: &mut [u32],
+    text: &mut [u8],
+    scratch: &[u8],
+) -> Step
+    requires { ⌜ apt (ReadProperty true) (modeOf (st .control)) ≡ true ⌝ }
+    requires { ⌜ st .marks .event < countOf (now events) ⌝ }
+    requires { ⌜ countOf (now events) ≤ 65536 ⌝ }
+    requires { ⌜ Spans (length (now attributes)) (range .first) (range .end) ⌝ }
+    requires { ⌜ Lent (length (now records)) (length (now text)) (length (now scratch)) ⌝ }
+    requires { ⌜ Standing (now attributes) (now source) (now records) (now text) (now scratch) st ⌝ }
+    ensures { λ r. ⌜ StepsProperty st range (given (now (events .entry)) (now (attributes .entry)) (now (source .entry)))
+        (areas (now (records .entry)) (now (text .entry))) (areas (now (records .exit)) (now (text .exit))) (now (scratch .entry)) r ⌝ }
+{
+    let marks = st.marks;
+    let i = marks.event;
+    let read = step_act(
+        Act::ReadProperty(true),
+        st,
+        range,
+        attributes,
+        source,
+        records,
+        text,
+        scratch,
+    );
+    match read {
+        Step::Go(next) => step_skip(next, i, events, source),
+        Step::Stop => Step::Stop,
+        Step::Halt(halt) => Step::Halt(halt),
+    }
+}
+
+// The kinds of pieces of text: Text, CData, Ref, Other, Indent (rule T3).
 fn is_piece(kind: u32) -> bool
     ensures { λ r. ⌜ r ≡ isPiece kind ⌝ }
 {
     ((kind::TEXT <= kind) & (kind <= kind::OTHER)) | (kind == kind::INDENT)
 }
 
-// One event, or an unknown element whole.
+// One event, with what is skipped behind it.
 pub fn step_event(
     st: State,
     events: &[u32],
@@ -299,7 +359,7 @@ pub fn step_event(
     }
     let act = plan(control, kind, bytes);
     if is_skip(act) {
-        return step_skip(st, events, source);
+        return step_skip(st, i, events, source);
     }
     if is_stop(act) {
         return Step::Stop;
@@ -308,5 +368,17 @@ pub fn step_event(
         first: first_at(events, i),
         end: end_at(events, i),
     };
+    if has_content(act) {
+        return step_property(
+            st,
+            range,
+            events,
+            attributes,
+            source,
+            records,
+            text,
+            scratch,
+        );
+    }
     step_act(act, st, range, attributes, source, records, text, scratch)
 }

@@ -1,6 +1,6 @@
 -- The properties of a case are read back. Assumes nothing.
 use Prim.Native.Nat.{ℕ}
-use mathlib.Core.Bool.{true}
+use mathlib.Core.Bool.{true, false}
 use mathlib.Core.List.{List, [], _∷_, _++_, map}
 use mathlib.Core.Path.{_≡_, refl, ap, _∙_}
 use lib.ListN.{length}
@@ -28,11 +28,11 @@ use Rattle.round_case.proofs.Steps.{tag-reads}
 use Rattle.round_case.proofs.Opening.{Grows, grows, no-pairs}
 use Rattle.round_case.proofs.Rows.{adds-none, adds-joined}
 
-list-begins : planAt (at case) true Start (bytes "properties") ≡ openList case
+list-begins : planAt (at case) true Start (bytes "properties") ≡ openList case false
 unfolding planAt atCase tags codeFrom sameBytes
 list-begins = refl
 
-list-holds : planAt (listing case) true Empty (bytes "property") ≡ readProperty case
+list-holds : planAt (listing case) true Empty (bytes "property") ≡ readProperty case true (bytes "property")
 unfolding planAt inList tags codeFrom sameBytes
 list-holds = refl
 
@@ -51,7 +51,7 @@ module _ {tally : Tally} {i k : ℕ} where
   unfolding perform turn marksAfter
   list-opens {records = records} {texts = texts} e b =
       let c : Content = holding records texts [] [] in
-      amid-reads (b .amid) (λ m q. tag-reads {Q = λ x. x ≡ c} Start (bytes "properties") [] (at case) tally c m (openList case) list-begins
+      amid-reads (b .amid) (λ m q. tag-reads {Q = λ x. x ≡ c} Start (bytes "properties") [] (at case) tally c m (openList case false) list-begins
       (λ p j. record {
         after = holding (killKind kind.caseProperty (m .caseAt) records) texts [] [];
         answer = refl;
@@ -61,8 +61,8 @@ module _ {tally : Tally} {i k : ℕ} where
       (λ x f. record {
         spots = b .spots;
         amid = record {
-          marks = onward (marksAfter (openList case) (length records) m);
-          here = ap (λ (y : Content). machine (listing case) tally y (onward (marksAfter (openList case) (length records) m))) f;
+          marks = onward (marksAfter (openList case false) (length records) m);
+          here = ap (λ (y : Content). machine (listing case) tally y (onward (marksAfter (openList case false) (length records) m))) f;
           same = q;
         };
         suiteAt = b .suiteAt;
@@ -90,7 +90,7 @@ module _ {tally : Tally} {i k : ℕ} where
       let c : Content = holding records texts [] [] in
       let xs : List Attribute = textual (bytes "name") (p .key) ++ textual (bytes "value") (p .value) in
       let Q : Content → Type 0 = Grows kind.caseProperty (λ t x. PairShown kind.caseProperty t x p) [] records texts in
-      amid-reads (b .amid) (λ m q. tag-reads {Q = Q} Empty (bytes "property") xs (listing case) tally c m (readProperty case) list-holds
+      amid-reads (b .amid) (λ m q. tag-reads {Q = Q} Empty (bytes "property") xs (listing case) tally c m (readProperty case true (bytes "property")) list-holds
       (λ w j. grows w kind.caseProperty j xs records texts (property-opened w j records texts kind.caseProperty ofCase p h))
       (λ x g. record {
         rows = g .main ∷ [];
@@ -99,8 +99,8 @@ module _ {tally : Tally} {i k : ℕ} where
         stands = record {
           spots = b .spots;
           amid = record {
-            marks = onward (marksAfter (readProperty case) (length records) m);
-            here = ap (λ (y : Content). machine (listing case) tally y (onward (marksAfter (readProperty case) (length records) m)))
+            marks = onward (marksAfter (readProperty case true (bytes "property")) (length records) m);
+            here = ap (λ (y : Content). machine (listing case) tally y (onward (marksAfter (readProperty case true (bytes "property")) (length records) m)))
                 (g .whole ∙ ap (λ (rs : List (List ℕ)). holding (records ++ (g .main ∷ rs)) (texts ++ g .added) [] []) (no-pairs (g .pairs)));
             same = q;
           };

@@ -52,7 +52,7 @@ numbered-list n p ps = ap (λ (l : List Event). Tag Start (bytes "properties") 0
 one-property : (j i : ℕ) (p : Pair) → fitsRow (pairRow kind.suiteProperty p) ≡ true → (records : List (List ℕ)) (texts : List ℕ) (s : Machine) → Inside i records texts s
     → Reads (Tag Empty (bytes "property") j (pairAttributes p) ∷ []) s (Inside i) (Pairs (p ∷ [])) records texts
 one-property j i p f records texts s h =
-    let o = property-opened (placeOf (readProperty suite) s) j records texts kind.suiteProperty ofSuite p f in
+    let o = property-opened (placeOf (readProperty suite true (bytes "property")) s) j records texts kind.suiteProperty ofSuite p f in
     record {
       rows = o .main ∷ o .extras;
       added = o .added;

@@ -38,11 +38,11 @@ end-suite : planAt (at suite) true End (bytes "testsuite") ≡ closeSuite
 unfolding planAt atSuite tags codeFrom sameBytes
 end-suite = refl
 
-start-list : planAt (at suite) true Start (bytes "properties") ≡ openList suite
+start-list : planAt (at suite) true Start (bytes "properties") ≡ openList suite false
 unfolding planAt atSuite tags codeFrom sameBytes
 start-list = refl
 
-one-property : planAt (listing suite) true Empty (bytes "property") ≡ readProperty suite
+one-property : planAt (listing suite) true Empty (bytes "property") ≡ readProperty suite true (bytes "property")
 unfolding planAt inList tags codeFrom sameBytes
 one-property = refl
 
@@ -99,12 +99,12 @@ module _ (i : ℕ) (records : List (List ℕ)) (texts : List ℕ) (s : Machine) 
       (held-stands suite i records texts)
 
   pub property-read : {Shown : List ℕ → List ℕ → Type 0} (j : ℕ) (xs : List Attribute) → Held (listing suite) i (settled records texts) s
-      → (o : Opened kind.suiteProperty Shown [] records texts (readElement unlimited (placeOf (readProperty suite) s) kind.suiteProperty j xs records texts))
+      → (o : Opened kind.suiteProperty Shown [] records texts (readElement unlimited (placeOf (readProperty suite true (bytes "property")) s) kind.suiteProperty j xs records texts))
       → Goes (Tag Empty (bytes "property") j xs ∷ []) s (Held (listing suite) i (settled (records ++ (o .main ∷ o .extras)) (texts ++ o .added)))
   unfolding perform turn marksAfter
   property-read j xs h o =
-      tag-goes Empty (bytes "property") j xs (readProperty suite) h one-property
-      (adds (placeOf (readProperty suite) s) kind.suiteProperty j xs records texts (o .main ∷ o .extras) (o .added) (o .answer))
+      tag-goes Empty (bytes "property") j xs (readProperty suite true (bytes "property")) h one-property
+      (adds (placeOf (readProperty suite true (bytes "property")) s) kind.suiteProperty j xs records texts (o .main ∷ o .extras) (o .added) (o .answer))
       (record { mode = h .mode; seen = h .seen; closed = h .closed; content = refl; suiteAt = h .suiteAt })
 
 -- none of the suite's records is a property yet
@@ -112,6 +112,6 @@ pub list-starts : (before : List (List ℕ)) {rs : List (List ℕ)} (texts : Lis
     → Stands suite (length before) (before ++ rs) texts s → Goes (Tag Start (bytes "properties") 0 [] ∷ []) s (Held (listing suite) (length before) (settled (before ++ rs) texts))
 unfolding perform turn marksAfter
 list-starts before {rs} texts s k h =
-    tag-goes Start (bytes "properties") 0 [] (openList suite) (stands-held h) start-list
+    tag-goes Start (bytes "properties") 0 [] (openList suite false) (stands-held h) start-list
     (rw (h .suiteAt, kill-behind 4 before k) refl)
     (record { mode = refl; seen = h .seen; closed = h .closed; content = refl; suiteAt = h .suiteAt })

@@ -35,7 +35,7 @@ module _ (n m k : ℕ) where
   join-fits (at l) v c f = f
   join-fits (gathering l o) v c f = f
   join-fits (listing l) v c f = f
-  join-fits (skipping l name depth) v c f = f
+  join-fits (skipping m name depth) v c f = f
   join-fits finished v c f = f
 
   gather-suits : (p : Place) (mode : Mode) (b : PieceKind) (s : List ℕ) (c : Content) → taken c + pieceSize b s ≤ k
@@ -80,8 +80,8 @@ module _ (n m k : ℕ) where
   perform-suits p closeStatus j xs t s c = describing-suits p s c
   perform-suits p (openText l o) j xs t s c = comes λ f. f
   perform-suits p (closeText l o) j xs t s c = outputting-suits p l o s c
-  perform-suits p (openList l) j xs t s c = comes (same-fits (killKind (propertyKind l) (recordOf l s) (c .records)) c (length-kind (propertyKind l) (recordOf l s) (c .records)))
-  perform-suits p (readProperty l) j xs t s c = adding-suits p (propertyKind l) j xs c
+  perform-suits p (openList l e) j xs t s c = comes (same-fits (killKind (propertyKind l) (recordOf l s) (c .records)) c (length-kind (propertyKind l) (recordOf l s) (c .records)))
+  perform-suits p (readProperty l e name) j xs t s c = adding-suits p (propertyKind l) j xs c
   perform-suits p stop j xs t s c = comes λ f. f
   perform-suits p missing j xs t s c = stops
   perform-suits p (broken why) j xs t s c = stops

@@ -55,8 +55,8 @@ spends closeCase n = 0
 spends closeStatus n = 0
 spends (openText l o) n = 0
 spends (closeText l o) n = 0
-spends (openList l) n = 0
-spends (readProperty l) n = 1 + n
+spends (openList l e) n = 0
+spends (readProperty l e name) n = 1 + n
 spends stop n = 0
 spends missing n = 0
 spends (broken why) n = 0
@@ -68,14 +68,14 @@ join-records : (mode : Mode) (v : List ℕ) (c : Content) → joinPiece mode v c
 join-records (at l) v c = refl
 join-records (gathering l o) v c = refl
 join-records (listing l) v c = refl
-join-records (skipping l name depth) v c = refl
+join-records (skipping m name depth) v c = refl
 join-records finished v c = refl
 
 join-texts : (mode : Mode) (v : List ℕ) (c : Content) → joinPiece mode v c .texts ≡ c .texts
 join-texts (at l) v c = refl
 join-texts (gathering l o) v c = refl
 join-texts (listing l) v c = refl
-join-texts (skipping l name depth) v c = refl
+join-texts (skipping m name depth) v c = refl
 join-texts finished v c = refl
 
 cleaned-size : (v : List ℕ) → length (cleaned v) ≤ length v
@@ -154,10 +154,10 @@ module _ (n m k : ℕ) where
   perform-alike p closeStatus j xs t s c h l = read-less c xs (describing-alike p s c (omega (arith, l)))
   perform-alike p (openText v o) j xs t s c h l = gives (unchanged 0 (attributeBytes xs) c)
   perform-alike p (closeText v o) j xs t s c h l = read-less c xs (outputting-alike p v o s c (omega (arith, l)))
-  perform-alike p (openList v) j xs t s c h l =
+  perform-alike p (openList v e) j xs t s c h l =
       let z = length-kind (propertyKind v) (recordOf v s) (c .records) in
       gives {a = withRecords c (killKind (propertyKind v) (recordOf v s) (c .records))} (record { records = omega (arith, z); bytes = omega arith; opens = omega arith })
-  perform-alike p (readProperty v) j xs t s c h l = adding-alike p (propertyKind v) j xs c h l
+  perform-alike p (readProperty v e name) j xs t s c h l = adding-alike p (propertyKind v) j xs c h l
   perform-alike p stop j xs t s c h l = gives (unchanged 0 (attributeBytes xs) c)
   perform-alike p missing j xs t s c h l = halts
   perform-alike p (broken why) j xs t s c h l = halts
@@ -175,8 +175,8 @@ module _ (n : ℕ) where
   at-most closeStatus = omega arith
   at-most (openText l o) = omega arith
   at-most (closeText l o) = omega arith
-  at-most (openList l) = omega arith
-  at-most (readProperty l) = omega arith
+  at-most (openList l e) = omega arith
+  at-most (readProperty l e name) = omega arith
   at-most stop = omega arith
   at-most missing = omega arith
   at-most (broken why) = omega arith
@@ -200,7 +200,7 @@ module _ (n : ℕ) where
   ends (at status) seen name = both (isStatus (tagOf name)) (quiet refl) (quiet refl)
   ends (gathering l o) seen name = both (eqb (tagOf name) (tagOfOutput o)) (quiet refl) (quiet refl)
   ends (listing l) seen name = both (eqb (tagOf name) properties) (quiet refl) (quiet refl)
-  ends (skipping l skipped depth) seen name = quiet refl
+  ends (skipping m skipped depth) seen name = quiet refl
   ends finished seen name = quiet refl
 
   at-end : (mode : Mode) (seen closed : Bool) → Quiet (planEof mode seen closed)
@@ -211,7 +211,7 @@ module _ (n : ℕ) where
   at-end (at status) seen closed = quiet refl
   at-end (gathering l o) seen closed = quiet refl
   at-end (listing l) seen closed = quiet refl
-  at-end (skipping l skipped depth) seen closed = quiet refl
+  at-end (skipping m skipped depth) seen closed = quiet refl
   at-end finished seen closed = quiet refl
 
   at-fault : (mode : Mode) → Quiet (planFault mode)
@@ -219,7 +219,7 @@ module _ (n : ℕ) where
   at-fault (at l) = quiet refl
   at-fault (gathering l o) = quiet refl
   at-fault (listing l) = quiet refl
-  at-fault (skipping l skipped depth) = quiet refl
+  at-fault (skipping m skipped depth) = quiet refl
   at-fault finished = quiet refl
 
 tag-spends : (k : TagKind) (mode : Mode) (seen : Bool) (name : List ℕ) (j : ℕ) (xs : List Attribute) → spends (planAt mode seen k name) (length xs) ≤ eventRecords (Tag k name j xs)

@@ -58,7 +58,7 @@ pub join-size : (mode : Mode) (v : List ℕ) (c : Content) → taken (joinPiece 
 join-size (at l) v c = omega (arith, length-append (c .description) v)
 join-size (gathering l o) v c = omega (arith, length-append (c .gathered) v)
 join-size (listing l) v c = omega arith
-join-size (skipping l name depth) v c = omega arith
+join-size (skipping m name depth) v c = omega arith
 join-size finished v c = omega arith
 
 gather-opens : (p : Place) (mode : Mode) (k : PieceKind) (s : List ℕ) (c : Content) → Holds (Opens (taken c + pieceSize k s)) (gather unlimited p mode k s c)
@@ -109,8 +109,8 @@ perform-opens p closeCase j xs k m c = needed (ruled (k .tally)) p cause.StatusR
 perform-opens p closeStatus j xs k m c = describing-opens p m c
 perform-opens p (openText l o) j xs k m c = unchanged c
 perform-opens p (closeText l o) j xs k m c = outputting-opens p l o m c
-perform-opens p (openList l) j xs k m c = unchanged (withRecords c (killKind (propertyKind l) (recordOf l m) (c .records)))
-perform-opens p (readProperty l) j xs k m c = adding-opens p (propertyKind l) j xs c
+perform-opens p (openList l e) j xs k m c = unchanged (withRecords c (killKind (propertyKind l) (recordOf l m) (c .records)))
+perform-opens p (readProperty l e name) j xs k m c = adding-opens p (propertyKind l) j xs c
 perform-opens p stop j xs k m c = unchanged c
 perform-opens p missing j xs k m c = refuse
 perform-opens p (broken n) j xs k m c = refuse

@@ -58,7 +58,7 @@ enum-told-2 c = search needs
 
 close-text-requires : tie.Need-close-text-requires
 close-text-requires c κs =
-    let start = c .before .before .before .before .before .before .before .before .before .before in (
+    let start = c .before .before .before .before .before .before .before .before .before .before .before in (
       record-end (start .args .control .mode) (levelOf (start .args .control .level)) (outputOf (start .args .control .output)) (marksOf (start .args .marks)) (start .pre .1 .1 .1 .1 .1),
       (
         text-end (start .args .control .mode) (levelOf (start .args .control .level)) (outputOf (start .args .control .output)) (marksOf (start .args .marks)) (start .pre .1 .1 .1 .1 .1),
@@ -76,7 +76,7 @@ open-list-requires : tie.Need-open-list-requires
 open-list-requires c κs =
     let start = c .before .before .before .before .before .before .before .before .before in
     list-end (start .args .control .mode) (levelOf (start .args .control .level)) (outputOf (start .args .control .output))
-    (marksOf (start .args .marks)) (start .pre .1 .1 .1 .1 .1) (c .before .enum-told3 .given .1) (start .pre .0)
+    (marksOf (start .args .marks)) (start .pre .1 .1 .1 .1 .1) (c .before .enum-told2 .given .1) (start .pre .0)
 
 enum-told-4 : tie.Need-enum-told-4
 enum-told-4 c = search needs
@@ -85,7 +85,7 @@ read-property-requires : tie.Need-read-property-requires
 read-property-requires c κs =
     let start = c .before .before .before .before .before .before .before .before .before .before in (
       property-end (start .args .control .mode) (levelOf (start .args .control .level)) (outputOf (start .args .control .output))
-          (marksOf (start .args .marks)) (start .pre .1 .1 .1 .1 .1) (c .before .before .enum-told4 .given .1) (start .pre .0),
+          (marksOf (start .args .marks)) (start .pre .1 .1 .1 .1 .1) (c .before .before .enum-told3 .given .1) (start .pre .0),
       (
         start .pre .1 .0,
         (
@@ -124,9 +124,6 @@ enum-told-8 c = search needs
 
 enum-told-9 : tie.Need-enum-told-9
 enum-told-9 c = search needs
-
-enum-told-10 : tie.Need-enum-told-10
-enum-told-10 c = search needs
 
 same-length : tie.Need-same-length
 same-length c = search needs
@@ -168,13 +165,13 @@ same-length-6 c = search needs
 
 returns-3 : tie.Need-returns-3
 returns-3 c =
-    let start = c .before .before .before .before .before .before .before .before .before .before .before .before .before .before .before in
-    let enum-told2 = c .before .before .before .before .before .before .before .enum-told2 in
+    let start = c .before .before .before .before .before .before .before .before .before .before .before .before .before .before .before .before in
+    let act2 = c .before .before .before .before .before .before .before .before .act2 in
     let close-text = c .before .before .before .before .close-text in
     λ rooms p s name pa hd li sz. acted-close-text (levelOf (start .args .control .level)) (outputOf (start .args .control .output)) (start .args .control .seen)
     (start .args .control .closed) (start .args .control .tally) name (marksOf (start .args .marks)) p rooms (start .args .range .first)
     (attributesFrom (start .args .attributes .now) (start .args .source .now) (start .args .range .end - start .args .range .first) (start .args .range .first)) _ _ _ _ _ (start .args .content)
-    s _ (start .args .control .mode) (start .pre .0) li (enum-told2 .given .1) (λ x. close-text .ensures rooms p s (start .args .attributes .now) (start .args .source .now) pa hd x sz)
+    s _ (start .args .control .mode) (start .pre .0) li (act2 .given .1) (λ x. close-text .ensures rooms p s (start .args .attributes .now) (start .args .source .now) pa hd x sz)
 
 same-length-7 : tie.Need-same-length-7
 same-length-7 c = search needs
@@ -182,11 +179,11 @@ same-length-7 c = search needs
 returns-4 : tie.Need-returns-4
 returns-4 c =
     let start = c .before .before .before .before .before .before .before .before .before .before .before .before in
-    let enum-told3 = c .before .before .before .before .enum-told3 in
+    let enum-told2 = c .before .before .before .before .enum-told2 in
     λ rooms p s name pa hd li sz. acted-list (levelOf (start .args .control .level)) (outputOf (start .args .control .output)) (start .args .control .seen)
     (start .args .control .closed) (start .args .control .tally) name (marksOf (start .args .marks)) p rooms (start .args .range .first)
     (attributesFrom (start .args .attributes .now) (start .args .source .now) (start .args .range .end - start .args .range .first) (start .args .range .first)) _ _ _ _ _ (start .args .content)
-    s _ (start .args .control .mode) (start .pre .0) li (enum-told3 .given .1) hd (c .before .before .open-list .ensures .1) (ap To (c .before .before .open-list .ensures .0))
+    s _ (start .args .control .mode) (start .pre .0) li (enum-told2 .given .1) hd (c .before .before .open-list .ensures .1) (ap To (c .before .before .open-list .ensures .0))
 
 same-length-8 : tie.Need-same-length-8
 same-length-8 c = search needs
@@ -197,12 +194,12 @@ same-length-9 c = search needs
 returns-5 : tie.Need-returns-5
 returns-5 c =
     let start = c .before .before .before .before .before .before .before .before .before .before .before .before .before .before .before in
-    let enum-told4 = c .before .before .before .before .before .before .before .enum-told4 in
+    let enum-told3 = c .before .before .before .before .before .before .before .enum-told3 in
     let read-property = c .before .before .before .before .read-property in
     λ rooms p s name pa hd li sz. acted-property (levelOf (start .args .control .level)) (outputOf (start .args .control .output)) (start .args .control .seen)
     (start .args .control .closed) (start .args .control .tally) name (marksOf (start .args .marks)) p rooms (start .args .range .first)
     (attributesFrom (start .args .attributes .now) (start .args .source .now) (start .args .range .end - start .args .range .first) (start .args .range .first)) _ _ _ _ _ (start .args .content)
-    s _ (start .args .control .mode) (start .pre .0) li (enum-told4 .given .1) (λ x. read-property .ensures rooms p s (start .args .scratch .now) (marksOf (start .args .marks)) pa hd x sz)
+    s _ (start .args .control .mode) (start .pre .0) li (enum-told3 .given .1) (λ x. read-property .ensures rooms p s (start .args .scratch .now) (marksOf (start .args .marks)) pa hd x sz)
 
 returns-6 : tie.Need-returns-6
 returns-6 c =
@@ -210,7 +207,7 @@ returns-6 c =
     λ rooms p s name pa hd li sz. acted-missing (levelOf (start .args .control .level)) (outputOf (start .args .control .output)) (start .args .control .seen)
     (start .args .control .closed) (start .args .control .tally) name (marksOf (start .args .marks)) p rooms (start .args .range .first)
     (attributesFrom (start .args .attributes .now) (start .args .source .now) (start .args .range .end - start .args .range .first) (start .args .range .first))
-    _ _ _ _ _ (start .args .content) s _ (start .args .control .mode) (start .pre .0) pa (c .before .enum-told5 .given .1) (c .refused .ensures)
+    _ _ _ _ _ (start .args .content) s _ (start .args .control .mode) (start .pre .0) pa (c .before .enum-told4 .given .1) (c .refused .ensures)
 
 returns-7 : tie.Need-returns-7
 returns-7 c =
@@ -218,7 +215,7 @@ returns-7 c =
     λ rooms p s name pa hd li sz. acted-broken (levelOf (start .args .control .level)) (outputOf (start .args .control .output)) (start .args .control .seen)
     (start .args .control .closed) (start .args .control .tally) name (marksOf (start .args .marks)) p rooms (start .args .range .first)
     (attributesFrom (start .args .attributes .now) (start .args .source .now) (start .args .range .end - start .args .range .first) (start .args .range .first))
-    _ _ _ _ _ (start .args .content) s _ (start .args .control .mode) (start .pre .0) pa (c .before .before .act2 .given .1) (c .refused2 .ensures)
+    _ _ _ _ _ (start .args .content) s _ (start .args .control .mode) (start .pre .0) pa (c .before .before .act3 .given .1) (c .refused2 .ensures)
 
 returns-8 : tie.Need-returns-8
 returns-8 c =
@@ -226,7 +223,7 @@ returns-8 c =
     λ rooms p s name pa hd li sz. acted-pass (levelOf (start .args .control .level)) (outputOf (start .args .control .output)) (start .args .control .seen)
     (start .args .control .closed) (start .args .control .tally) name (marksOf (start .args .marks)) p rooms (start .args .range .first)
     (attributesFrom (start .args .attributes .now) (start .args .source .now) (start .args .range .end - start .args .range .first) (start .args .range .first))
-    _ _ _ _ _ (start .args .content) s _ (start .args .control .mode) (start .pre .0) li hd refl (c .enum-told6 .given .1)
+    _ _ _ _ _ (start .args .content) s _ (start .args .control .mode) (start .pre .0) li hd refl (c .enum-told5 .given .1)
 
 returns-9 : tie.Need-returns-9
 returns-9 c =
@@ -234,7 +231,7 @@ returns-9 c =
     λ rooms p s name pa hd li sz. acted-skip (levelOf (start .args .control .level)) (outputOf (start .args .control .output)) (start .args .control .seen)
     (start .args .control .closed) (start .args .control .tally) name (marksOf (start .args .marks)) p rooms (start .args .range .first)
     (attributesFrom (start .args .attributes .now) (start .args .source .now) (start .args .range .end - start .args .range .first) (start .args .range .first))
-    _ _ _ _ _ (start .args .content) s _ (start .args .control .mode) (start .pre .0) li hd refl (c .enum-told7 .given .1)
+    _ _ _ _ _ (start .args .content) s _ (start .args .control .mode) (start .pre .0) li hd refl (c .enum-told6 .given .1)
 
 returns-10 : tie.Need-returns-10
 returns-10 c =
@@ -242,7 +239,7 @@ returns-10 c =
     λ rooms p s name pa hd li sz. acted-text (levelOf (start .args .control .level)) (outputOf (start .args .control .output)) (start .args .control .seen)
     (start .args .control .closed) (start .args .control .tally) name (marksOf (start .args .marks)) p rooms (start .args .range .first)
     (attributesFrom (start .args .attributes .now) (start .args .source .now) (start .args .range .end - start .args .range .first) (start .args .range .first))
-    _ _ _ _ _ (start .args .content) s _ (start .args .control .mode) (start .pre .0) li hd refl (c .enum-told8 .given .1)
+    _ _ _ _ _ (start .args .content) s _ (start .args .control .mode) (start .pre .0) li hd refl (c .enum-told7 .given .1)
 
 returns-11 : tie.Need-returns-11
 returns-11 c =
@@ -250,7 +247,7 @@ returns-11 c =
     λ rooms p s name pa hd li sz. acted-end (levelOf (start .args .control .level)) (outputOf (start .args .control .output)) (start .args .control .seen)
     (start .args .control .closed) (start .args .control .tally) name (marksOf (start .args .marks)) p rooms (start .args .range .first)
     (attributesFrom (start .args .attributes .now) (start .args .source .now) (start .args .range .end - start .args .range .first) (start .args .range .first))
-    _ _ _ _ _ (start .args .content) s _ (start .args .control .mode) (start .pre .0) li hd refl (c .enum-told9 .given .1)
+    _ _ _ _ _ (start .args .content) s _ (start .args .control .mode) (start .pre .0) li hd refl (c .enum-told8 .given .1)
 
 returns-12 : tie.Need-returns-12
 returns-12 c =
@@ -258,7 +255,10 @@ returns-12 c =
     λ rooms p s name pa hd li sz. acted-stop (levelOf (start .args .control .level)) (outputOf (start .args .control .output)) (start .args .control .seen)
     (start .args .control .closed) (start .args .control .tally) name (marksOf (start .args .marks)) p rooms (start .args .range .first)
     (attributesFrom (start .args .attributes .now) (start .args .source .now) (start .args .range .end - start .args .range .first) (start .args .range .first))
-    _ _ _ _ _ (start .args .content) s _ (start .args .control .mode) (start .pre .0) li hd refl (c .enum-told10 .given .1)
+    _ _ _ _ _ (start .args .content) s _ (start .args .control .mode) (start .pre .0) li hd refl (c .enum-told9 .given .1)
+
+enum-known-act-3 : tie.Need-enum-known-act-3
+enum-known-act-3 c = search needs
 
 pub perform-spec : {M : Type 1} → statement M
 perform-spec =
@@ -268,21 +268,21 @@ perform-spec =
     open-element-requires
     enum-told
     close-requires
-    enum-told-2
-    close-text-requires
-    enum-told-3
-    open-list-requires
-    enum-told-4
-    read-property-requires
-    enum-told-5
-    refused-requires
     enum-known-act-2
+    close-text-requires
+    enum-told-2
+    open-list-requires
+    enum-told-3
+    read-property-requires
+    enum-told-4
+    refused-requires
+    enum-known-act-3
     refused-requires-2
+    enum-told-5
     enum-told-6
     enum-told-7
     enum-told-8
     enum-told-9
-    enum-told-10
     same-length
     same-length-2
     returns

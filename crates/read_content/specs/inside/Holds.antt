@@ -101,7 +101,7 @@ abbrev pub Lists : Mode → Marks → CodedContent → Content → Type 0
 Lists (at l) m c s = Opened l m c s × (s .gathered ≡ [])
 Lists (gathering l o) m c s = Opened l m c s
 Lists (listing l) m c s = Opened l m c s × ((s .gathered ≡ []) × Ends l c)
-Lists (skipping l name depth) m c s = ⊥
+Lists (skipping outer name depth) m c s = ⊥
 Lists finished m c s = ⊥
 
 -- some content is held so
@@ -123,28 +123,28 @@ opens k (at case) = isStatus k
 opens k (at status) = false
 opens k (gathering l o) = false
 opens k (listing l) = false
-opens k (skipping l name depth) = false
+opens k (skipping outer name depth) = false
 opens k finished = false
 
 abbrev pub isAt : Mode → Bool
 isAt (at l) = true
 isAt (gathering l o) = false
 isAt (listing l) = false
-isAt (skipping l name depth) = false
+isAt (skipping outer name depth) = false
 isAt finished = false
 
 abbrev pub isText : Mode → Bool
 isText (at l) = false
 isText (gathering l o) = true
 isText (listing l) = false
-isText (skipping l name depth) = false
+isText (skipping outer name depth) = false
 isText finished = false
 
 abbrev pub isList : Mode → Bool
 isList (at l) = false
 isList (gathering l o) = false
 isList (listing l) = true
-isList (skipping l name depth) = false
+isList (skipping outer name depth) = false
 isList finished = false
 
 -- suite and case have properties
@@ -155,7 +155,7 @@ hasList (at case) = true
 hasList (at status) = false
 hasList (gathering l o) = false
 hasList (listing l) = false
-hasList (skipping l name depth) = false
+hasList (skipping outer name depth) = false
 hasList finished = false
 
 abbrev pub apt : CodedAct → Mode → Bool
@@ -164,10 +164,10 @@ apt act.Skip m = true
 apt (act.Open k e) m = opens k m
 apt act.Close m = isAt m
 apt (act.OpenText o) m = isAt m
-apt act.CloseText m = isText m
-apt act.OpenList m = hasList m
+apt (act.CloseText o) m = isAt m || isText m
+apt (act.OpenList e) m = hasList m
 apt act.CloseList m = not (isText m)
-apt act.ReadProperty m = isList m
+apt (act.ReadProperty e) m = isList m
 apt act.Stop m = true
 apt act.Missing m = true
 apt (act.Broken why) m = true

@@ -25,7 +25,7 @@ returns : tie.Need-returns
 returns c =
     let args = c .before .before .before .before .before .args in
     let level-path = c .before .before .before .before .level-path in
-    λ mode. leads-two (level-path .ensures) (c .before .before .with .ensures) (c .before .before .before .element-of .ensures)
+    λ empty name mode. leads-two (level-path .ensures) (c .before .before .with .ensures) (c .before .before .before .element-of .ensures)
     (c .with2 .ensures) (c .before .element-of2 .ensures) (level-short (levelOf (args .level)) (marksOf (args .m)))
 
 pub property-path-spec : {M : Type 1} → statement M

@@ -21,10 +21,10 @@ withAttribute p (suc k) = longer p (attributeElement (suc k))
 
 -- the path of an act has room for an Attribute; only a property of a status element, which is never read, would have none
 abbrev pub hasRoom : Act → Bool
-hasRoom (readProperty top) = true
-hasRoom (readProperty suite) = true
-hasRoom (readProperty case) = true
-hasRoom (readProperty status) = false
+hasRoom (readProperty top e name) = true
+hasRoom (readProperty suite e name) = true
+hasRoom (readProperty case e name) = true
+hasRoom (readProperty status e name) = false
 hasRoom (pass m) = true
 hasRoom (openReport e) = true
 hasRoom (openSuite e) = true
@@ -35,7 +35,7 @@ hasRoom closeCase = true
 hasRoom closeStatus = true
 hasRoom (openText l o) = true
 hasRoom (closeText l o) = true
-hasRoom (openList l) = true
+hasRoom (openList l e) = true
 hasRoom stop = true
 hasRoom missing = true
 hasRoom (broken n) = true

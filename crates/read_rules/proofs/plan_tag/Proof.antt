@@ -31,7 +31,7 @@ returns-2 c = λ name h. rw (c .before .enum-told2 .given .1, h) (c .step-text .
 
 returns-3 : tie.Need-returns-3
 unfolding planAt
-returns-3 c = λ name h. rw (c .before .enum-told3 .given .1, h) (c .step-list .ensures (levelOf (c .before .before .before .args .control .level)) name)
+returns-3 c = λ name h. rw (c .before .enum-told3 .given .1) (c .step-list .ensures (levelOf (c .before .before .before .args .control .level)) name h)
 
 pub plan-tag-spec : {M : Type 1} → statement M
 plan-tag-spec =

@@ -1,35 +1,34 @@
-use native.Mathlib.Omega.{arith}
-use Rattle.read_rules.proofs.Planning.{kind-above, status-opens}
-use Rattle.read_state.specs.Control.{at, status}
-use Rattle.read_rules.specs.Rules.{atStatus, child}
-use borrow.Author.Tests.{ne-eqb}
+use Rattle.read_rules.proofs.Planning.{kind-end}
+use Rattle.read_rules.specs.Rules.{atStatus}
 use mathlib.Core.Path.{refl, sym, _∙_}
 use borrow.Author.Needs.{needs}
 use Rattle.read_rules.proofs.step_status.Statement.{statement}
 use Rattle.read_rules.proofs.step_status.Tie as tie
 
-returns : tie.Need-returns
-unfolding child
-returns c = λ name h. rw (status-opens (c .before .before .args .kind) name (omega arith), h ∙ c .if2 .taken) refl
+open-status-requires : tie.Need-open-status-requires
+open-status-requires c κs = search needs
 
-child-requires : tie.Need-child-requires
-child-requires c κs = search needs
-
-returns-2 : tie.Need-returns-2
-unfolding child
-returns-2 c = λ name h. rw (status-opens (c .before .before .before .args .kind) name (omega arith), h, ne-eqb _ 13 (c .before .if2 .left)) (c .child .ensures (at status) name h)
+open-status-requires-2 : tie.Need-open-status-requires-2
+open-status-requires-2 c κs = search needs
 
 is-status-requires : tie.Need-is-status-requires
 is-status-requires c κs = search needs
 
+returns : tie.Need-returns
+returns c = λ name h. rw (c .before .match .keys1) (c .open-status .ensures name h)
+
+returns-2 : tie.Need-returns-2
+returns-2 c = λ name h. rw (c .before .match .keys2) (c .open-status2 .ensures name h)
+
 returns-3 : tie.Need-returns-3
 unfolding atStatus
-returns-3 c = λ name h. rw (kind-above (c .before .before .before .args .kind) (omega arith), h, sym (c .before .is-status .ensures) ∙ c .if3 .taken) refl
+returns-3 c = λ name h. rw (kind-end _ (c .before .before .match .rest .0 .1) (c .before .before .match .rest .1), h, sym (c .before .is-status .ensures) ∙ c .if1 .taken) refl
 
 returns-4 : tie.Need-returns-4
 unfolding atStatus
-returns-4 c = λ name h. rw (kind-above (c .before .before .before .args .kind) (omega arith), h, sym (c .before .is-status .ensures) ∙ c .if3 .left) refl
+returns-4 c = λ name h. rw (kind-end _ (c .before .before .match .rest .0 .1) (c .before .before .match .rest .1), h, sym (c .before .is-status .ensures) ∙ c .if1 .left) refl
 
 pub step-status-spec : {M : Type 1} → statement M
 step-status-spec =
-    tie.close (tie.spec returns child-requires returns-2 is-status-requires returns-3 returns-4)
+    tie.close
+    (tie.spec open-status-requires open-status-requires-2 is-status-requires returns returns-2 returns-3 returns-4)

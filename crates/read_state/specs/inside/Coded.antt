@@ -39,20 +39,13 @@ modeOf c = modeAt (c .mode) (levelOf (c .level)) (outputOf (c .output))
 abbrev pub controlOf : CodedControl → Control
 controlOf c = control (modeOf c) (c .seen) (c .closed) (c .tally)
 
--- the element that is open, and its text that is gathered
+-- the element that is open
 abbrev pub levelIn : Mode → Level
 levelIn (at l) = l
 levelIn (gathering l o) = l
 levelIn (listing l) = l
-levelIn (skipping l skipped depth) = l
+levelIn (skipping m skipped depth) = levelIn m
 levelIn finished = top
-
-abbrev pub outputIn : Mode → Output
-outputIn (at l) = out
-outputIn (gathering l o) = o
-outputIn (listing l) = out
-outputIn (skipping l skipped depth) = out
-outputIn finished = out
 
 -- an element is opened by its record's kind
 abbrev pub opening : ℕ → Bool → Act
@@ -72,10 +65,10 @@ actIn m name Skip = orSkip (levelIn m) name
 actIn m name (Open k e) = opening k e
 actIn m name Close = closing (levelIn m)
 actIn m name (OpenText o) = openText (levelIn m) (outputOf o)
-actIn m name CloseText = closeText (levelIn m) (outputIn m)
-actIn m name OpenList = openList (levelIn m)
+actIn m name (CloseText o) = closeText (levelIn m) (outputOf o)
+actIn m name (OpenList e) = openList (levelIn m) e
 actIn m name CloseList = pass (at (levelIn m))
-actIn m name ReadProperty = readProperty (levelIn m)
+actIn m name (ReadProperty e) = readProperty (levelIn m) e name
 actIn m name Stop = stop
 actIn m name Missing = missing
 actIn m name (Broken why) = broken why
@@ -83,18 +76,18 @@ actIn m name (Broken why) = broken why
 abbrev pub actOf : CodedControl → List ℕ → CodedAct → Act
 actOf c name a = actIn (modeOf c) name a
 
--- the acts behind which reading goes on with the control that `turn` gives: a skip is read to its end, from where reading
--- goes on as before it, and behind the stop nothing is read
+-- the acts behind which reading goes on with the control that `turn` gives: a skip, that of a property's content too, is read
+-- to its end, from where reading goes on as before it, and behind the stop nothing is read
 abbrev pub isStep : CodedAct → Bool
 isStep Pass = true
 isStep Skip = false
 isStep (Open k e) = true
 isStep Close = true
 isStep (OpenText o) = true
-isStep CloseText = true
-isStep OpenList = true
+isStep (CloseText o) = true
+isStep (OpenList e) = true
 isStep CloseList = true
-isStep ReadProperty = true
+isStep (ReadProperty e) = e
 isStep Stop = false
 isStep Missing = true
 isStep (Broken why) = true
@@ -110,5 +103,5 @@ isTop (at case) = false
 isTop (at status) = false
 isTop (gathering l o) = false
 isTop (listing l) = false
-isTop (skipping l skipped depth) = false
+isTop (skipping m skipped depth) = false
 isTop finished = false

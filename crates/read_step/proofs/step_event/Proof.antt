@@ -5,8 +5,8 @@ use Rattle.read_element.specs.Outcome.{unlimited}
 use Rattle.read_state.specs.inside.Coded.{modeOf, actOf}
 use Rattle.read_content.proofs.Areas.{fits-scratch}
 use Rattle.read_step.specs.inside.Planned.{nameIn}
-use Rattle.read_step.proofs.ByKind.{stop-only, is-step, skips, stops-there}
-use Rattle.read_step.proofs.Eventful.{plan-fits, piece-way, act-way, stop-way, skip-way}
+use Rattle.read_step.proofs.ByKind.{stop-only, is-step, skips, reads, lists, stops-there}
+use Rattle.read_step.proofs.Eventful.{plan-fits, piece-way, act-way, stop-way, skip-way, skip-stepped, property-way}
 use Rattle.read_step.proofs.Tables.{sizes, spans-lent}
 use Rattle.read_step.proofs.step_event.Statement.{statement}
 use Rattle.read_step.proofs.step_event.Tie as tie
@@ -50,10 +50,12 @@ is-skip-requires c κs = search needs
 step-skip-requires : tie.Need-step-skip-requires
 step-skip-requires c κs =
     let start = c .before .before .before .before .before .before .before .before .before .before .before .before .before .before .before in
+    let is-piece = c .before .before .before .before .is-piece in
     let a = start .args in
     let k = c .before .before .before .before .before .before .kind-at in
     let b = c .before .before .before .before .before .bytes-at in
-    let w = skip-way unlimited (now (a .events)) (now (a .attributes)) (now (a .source)) (start .pre .0) (a .st) (start .pre .1 .1 .1 .content) (k .result) (now (b .result)) (k .ensures) (b .ensures)
+    let w = skip-way unlimited (now (a .events)) (now (a .attributes)) (now (a .source)) (start .pre .0) (a .st) (start .pre .1 .1 .1 .content)
+    (k .result) (now (b .result)) (k .ensures) (b .ensures) (sym (is-piece .ensures) ∙ c .before .before .before .if1 .left)
     (skips (a .st .control) (k .result) (now (b .result)) (c .before .before .plan .result) (c .before .before .plan .ensures .0) (sym (c .before .is-skip .ensures) ∙ c .if2 .taken)) in
     (w .0, sizes (now (a .events)) (now (a .attributes)) (now (a .source)) (start .pre .0) .event-limit)
 
@@ -66,9 +68,9 @@ returns-2 c =
     let a = start .args in
     let k = c .before .before .before .before .before .before .before .kind-at in
     let b = c .before .before .before .before .before .before .bytes-at in
-    let w = skip-way rooms (now (a .events)) (now (a .attributes)) (now (a .source)) (start .pre .0) (a .st) d (k .result) (now (b .result)) (k .ensures) (b .ensures) (skips (a .st .control)
-    (k .result) (now (b .result)) (c .before .before .before .plan .result) (c .before .before .before .plan .ensures .0) (sym (c .before .before .is-skip .ensures) ∙ c .before .if2 .taken)) in
-    c .step-skip .ensures rooms (now (a .attributes)) _ _ _ d (start .pre .0) (sym (w .2) ∙ sym (is-piece .ensures) ∙ if1 .left) (w .1) t
+    skip-stepped rooms (now (a .events)) (now (a .attributes)) (now (a .source)) (start .pre .0) (a .st) d (k .result) (now (b .result)) (k .ensures) (b .ensures)
+    (sym (is-piece .ensures) ∙ if1 .left) _ _ _ (c .step-skip .result) (skips (a .st .control) (k .result) (now (b .result)) (c .before .before .before .plan .result)
+    (c .before .before .before .plan .ensures .0) (sym (c .before .before .is-skip .ensures) ∙ c .before .if2 .taken)) (c .step-skip .ensures) t
 
 is-stop-requires : tie.Need-is-stop-requires
 is-stop-requires c κs = search needs
@@ -94,21 +96,22 @@ end-at-requires c κs = search needs
 
 step-act-requires : tie.Need-step-act-requires
 step-act-requires c κs =
-    let at-is-skip = c .before .before .before .before .before .before .before .before in
+    let at-is-skip = c .before .before .before .before .before .before .before .before .before .before in
     let start = at-is-skip .before .before .before .before .before .before .before .before .before .before .before .before .before .before in
-    let if2 = c .before .before .before .before .before .before .before .if2 in
-    let is-stop = c .before .before .before .before .before .before .is-stop in
-    let if3 = c .before .before .before .before .before .if3 in
-    let first-at = c .before .before .before .before .first-at in
+    let if2 = c .before .before .before .before .before .before .before .before .before .if2 in
+    let is-stop = c .before .before .before .before .before .before .before .before .is-stop in
+    let if3 = c .before .before .before .before .before .before .before .if3 in
+    let first-at = c .before .before .before .before .before .before .first-at in
+    let end-at = c .before .before .before .before .before .end-at in
+    let has-content = c .before .before .before .before .has-content in
     let a = start .args in
     let p = start .pre in
-    let x = c .before .before .before .before .before .before .before .before .before .plan in (
+    let x = c .before .before .before .before .before .before .before .before .before .before .before .plan in (
       x .ensures .1,
       (
-        is-step (x .result) (sym (at-is-skip .is-skip .ensures) ∙ if2 .left) (sym (is-stop .ensures) ∙ if3 .left),
+        is-step (x .result) (sym (at-is-skip .is-skip .ensures) ∙ if2 .left) (sym (is-stop .ensures) ∙ if3 .left) (sym (has-content .ensures) ∙ c .before .before .before .if4 .left),
         (
-          spans-lent (now (a .events)) (now (a .attributes)) (now (a .source)) (p .0) (a .st .marks .event) (first-at .result)
-              (c .before .before .before .end-at .result) (first-at .ensures) (c .before .before .before .end-at .ensures),
+          spans-lent (now (a .events)) (now (a .attributes)) (now (a .source)) (p .0) (a .st .marks .event) (first-at .result) (end-at .result) (first-at .ensures) (end-at .ensures),
           (p .1 .1 .0, p .1 .1 .1),
         ),
       ),
@@ -123,26 +126,85 @@ same-length-3 c = search needs
 same-length-4 : tie.Need-same-length-4
 same-length-4 c = search needs
 
-returns-4 : tie.Need-returns-4
-returns-4 c =
-    let at-is-piece = c .before .before .before .before .before .before .before .before .before .before .before .before .before .before .before .before in
+returns-5 : tie.Need-returns-5
+returns-5 c =
+    let at-is-piece = c .before .before .before .before .before .before .before .before .before .before .before .before .before .before .before .before .before .before in
     let start = at-is-piece .before .before .before .before .before .before .before .before .before .before .before in
-    let if1 = c .before .before .before .before .before .before .before .before .before .before .before .before .before .before .before .if1 in
-    let is-stop = c .before .before .before .before .before .before .before .before .before .before .before .is-stop in
-    let if3 = c .before .before .before .before .before .before .before .before .before .before .if3 in
+    let if1 = c .before .before .before .before .before .before .before .before .before .before .before .before .before .before .before .before .before .if1 in
+    let is-stop = c .before .before .before .before .before .before .before .before .before .before .before .before .before .is-stop in
+    let if3 = c .before .before .before .before .before .before .before .before .before .before .before .before .if3 in
     λ rooms d sized t.
     let a = start .args in
-    let k = c .before .before .before .before .before .before .before .before .before .before .before .before .before .before .before .before .before .before .kind-at in
-    let b = c .before .before .before .before .before .before .before .before .before .before .before .before .before .before .before .before .before .bytes-at in
-    let x = c .before .before .before .before .before .before .before .before .before .before .before .before .before .before .plan in
-    let f = c .before .before .before .before .before .before .before .before .before .first-at in
-    let e = c .before .before .before .before .before .before .before .before .end-at in
+    let k = c .before .before .before .before .before .before .before .before .before .before .before .before .before .before .before .before .before .before .before .before .kind-at in
+    let b = c .before .before .before .before .before .before .before .before .before .before .before .before .before .before .before .before .before .before .before .bytes-at in
+    let x = c .before .before .before .before .before .before .before .before .before .before .before .before .before .before .before .before .plan in
+    let f = c .before .before .before .before .before .before .before .before .before .before .before .first-at in
+    let e = c .before .before .before .before .before .before .before .before .before .before .end-at in
     let s = c .before .before .before .before .step-act in
     act-way rooms (now (a .events)) (now (a .attributes)) (now (a .source)) (start .pre .0) (a .st) d (k .result) (now (b .result)) (k .ensures) (b .ensures)
     (sym (at-is-piece .is-piece .ensures) ∙ if1 .left) (actOf (a .st .control) (nameIn (k .result) (now (b .result))) (x .result)) (x .ensures .0) _ _ _
     (stop-only (modeOf (a .st .control)) (nameIn (k .result) (now (b .result))) (x .result) (sym (is-stop .ensures) ∙ if3 .left)) (f .result) (e .result) (f .ensures) (e .ensures) (s .result)
     (s .ensures rooms d (nameIn (k .result) (now (b .result)))
     (plan-fits (a .st) d (k .result) (now (b .result)) (actOf (a .st .control) (nameIn (k .result) (now (b .result))) (x .result)) (x .ensures .0) (t .lists)) sized t)
+
+has-content-requires : tie.Need-has-content-requires
+has-content-requires c κs = search needs
+
+step-property-requires : tie.Need-step-property-requires
+step-property-requires c κs =
+    let at-is-piece = c .before .before .before .before .before .before .before .before .before .before .before .before .before in
+    let start = at-is-piece .before .before .before .before .before .before .before .before .before .before .before in
+    let if1 = c .before .before .before .before .before .before .before .before .before .before .before .before .if1 in
+    let has-content = c .before .before .before .before .has-content in
+    let a = start .args in
+    let p = start .pre in
+    let k = c .before .before .before .before .before .before .before .before .before .before .before .before .before .before .before .kind-at in
+    let b = c .before .before .before .before .before .before .before .before .before .before .before .before .before .before .bytes-at in
+    let x = c .before .before .before .before .before .before .before .before .before .before .before .plan in
+    let f = c .before .before .before .before .before .before .first-at in
+    let e = c .before .before .before .before .before .end-at in
+    let o = sym (has-content .ensures) ∙ c .before .before .before .if4 .taken in
+    let w = property-way unlimited (now (a .events)) (now (a .attributes)) (now (a .source)) (p .0) (a .st) (p .1 .1 .1 .content) (k .result) (now (b .result)) (k .ensures) (b .ensures)
+    (sym (at-is-piece .is-piece .ensures) ∙ if1 .left) (reads (a .st .control) (k .result) (now (b .result)) (x .result) (x .ensures .0) o) (f .result) (e .result) (f .ensures) (e .ensures) in (
+      lists (a .st .control) (k .result) (now (b .result)) (x .result) (x .ensures .0) o (x .ensures .1),
+      (
+        w .0,
+        (
+          sizes (now (a .events)) (now (a .attributes)) (now (a .source)) (p .0) .event-limit,
+          (spans-lent (now (a .events)) (now (a .attributes)) (now (a .source)) (p .0) (a .st .marks .event) (f .result) (e .result) (f .ensures) (e .ensures), (p .1 .1 .0, p .1 .1 .1)),
+        ),
+      ),
+    )
+
+returns-4 : tie.Need-returns-4
+returns-4 c =
+    let at-is-piece = c .before .before .before .before .before .before .before .before .before .before .before .before .before .before .before .before .before .before in
+    let start = at-is-piece .before .before .before .before .before .before .before .before .before .before .before in
+    let if1 = c .before .before .before .before .before .before .before .before .before .before .before .before .before .before .before .before .before .if1 in
+    let has-content = c .before .before .before .before .before .before .before .before .before .has-content in
+    let if4 = c .before .before .before .before .before .before .before .before .if4 in
+    let step-property = c .before .before .before .before .step-property in
+    λ rooms d sized t.
+    let a = start .args in
+    let p = start .pre in
+    let k = c .before .before .before .before .before .before .before .before .before .before .before .before .before .before .before .before .before .before .before .before .kind-at in
+    let b = c .before .before .before .before .before .before .before .before .before .before .before .before .before .before .before .before .before .before .before .bytes-at in
+    let x = c .before .before .before .before .before .before .before .before .before .before .before .before .before .before .before .before .plan in
+    let f = c .before .before .before .before .before .before .before .before .before .before .before .first-at in
+    let e = c .before .before .before .before .before .before .before .before .before .before .end-at in
+    let o = sym (has-content .ensures) ∙ if4 .taken in
+    let w = property-way rooms (now (a .events)) (now (a .attributes)) (now (a .source)) (p .0) (a .st) d (k .result) (now (b .result)) (k .ensures) (b .ensures)
+    (sym (at-is-piece .is-piece .ensures) ∙ if1 .left) (reads (a .st .control) (k .result) (now (b .result)) (x .result) (x .ensures .0) o) (f .result) (e .result) (f .ensures) (e .ensures) in
+    step-property .ensures rooms d (w .1) sized t
+
+same-length-5 : tie.Need-same-length-5
+same-length-5 c = search needs
+
+same-length-6 : tie.Need-same-length-6
+same-length-6 c = search needs
+
+same-length-7 : tie.Need-same-length-7
+same-length-7 c = search needs
 
 pub step-event-spec : {M : Type 1} → statement M
 step-event-spec =
@@ -162,8 +224,14 @@ step-event-spec =
     returns-3
     first-at-requires
     end-at-requires
-    step-act-requires
+    has-content-requires
+    step-property-requires
     same-length-2
     same-length-3
     same-length-4
-    returns-4)
+    returns-4
+    step-act-requires
+    same-length-5
+    same-length-6
+    same-length-7
+    returns-5)

@@ -2,7 +2,7 @@ use mathlib.Core.Path.{sym, ap, subst, _∙_}
 use borrow.Author.Needs.{needs}
 use denote.Ref.{now}
 use Rattle.table_events.specs.Skip.{skipAnswer}
-use Rattle.read_step.specs.inside.Standing.{machineOf, runOn, Stepped}
+use Rattle.read_step.specs.inside.Standing.{machineOf, runSkip, Stepped}
 use Rattle.read_step.specs.declared.Step.{Step}
 use Rattle.read_step.proofs.Passing.{skip-went, skip-halted}
 use Rattle.read_step.proofs.step_skip.Statement.{statement}
@@ -27,21 +27,21 @@ returns : tie.Need-returns
 returns c =
     let start = c .before .before .before .before .before .before .before .before .before .before in
     let skip-from = c .before .before .before .before .skip-from in
-    λ rooms attributes words text scratch d good p q t.
+    λ rooms attributes words text scratch d from before reached path t.
     let a = start .args in
-    skip-went rooms (now (a .events)) attributes (now (a .source)) good (a .st) d (start .pre .0) p q words text scratch _ _
-    (sym (skip-from .ensures attributes) ∙ ap skipAnswer (c .before .before .skipped .given .1)) (c .onward .ensures) t
+    skip-went rooms (now (a .events)) attributes (now (a .source)) (a .st) from d (a .start) (start .pre .0) before words text scratch
+    _ _ (sym (skip-from .ensures attributes) ∙ ap skipAnswer (c .before .before .skipped .given .1)) (c .onward .ensures) reached t
 
 returns-2 : tie.Need-returns-2
 returns-2 c =
     let start = c .before .before .before .before .before .before .before .before .before .before in
     let skip-from = c .before .before .before .before .skip-from in
-    λ rooms attributes words text scratch d good p q t.
+    λ rooms attributes words text scratch d from before reached path t.
     let a = start .args in
-    let h = c .before .before .skipped2 .given in
-    subst (λ (r : Step). Stepped rooms (now (a .events)) attributes (now (a .source)) words text scratch (a .st) (runOn rooms (now (a .events)) attributes (now (a .source)) (machineOf (a .st) d)) r)
-    (sym (c .halt-at .ensures))
-    (skip-halted rooms (now (a .events)) attributes (now (a .source)) good (a .st) d (start .pre .0) p q _ _ (sym (skip-from .ensures attributes) ∙ ap skipAnswer (h .1)) (start .pre .1))
+    subst (λ (r : Step). Stepped rooms (now (a .events)) attributes (now (a .source)) words text scratch from
+    (runSkip rooms (now (a .events)) attributes (now (a .source)) (a .start) (machineOf (a .st) d)) r) (sym (c .halt-at .ensures))
+    (skip-halted rooms (now (a .events)) attributes (now (a .source)) (a .st) from d (a .start) (start .pre .0) before _ _
+    (sym (skip-from .ensures attributes) ∙ ap skipAnswer (c .before .before .skipped2 .given .1)) (start .pre .1) path)
 
 pub step-skip-spec : {M : Type 1} → statement M
 step-skip-spec =

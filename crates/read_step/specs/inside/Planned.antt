@@ -1,14 +1,11 @@
 -- What is done at an event, by its kind. Definitions only.
 use Prim.Native.Nat.{ℕ}
-use mathlib.Core.Path.{_≡_}
 use mathlib.Core.List.{List, []}
-use mathlib.Core.Bool.{Bool, true, false, cond, _&&_, _||_}
+use mathlib.Core.Bool.{Bool, true, false, cond, not, _&&_, _||_}
 use lib.Dec.{leb, eqb}
 use Rattle.read_state.specs.Control.{Control, Act}
 use Rattle.read_rules.specs.Rules.{planAt, planEof, planFault}
 use Rattle.table.specs.Event.{tagKind}
-use Rattle.read_state.specs.inside.Coded.{controlOf, actOf}
-use Rattle.read_state.specs.declared.Control.{Control as CodedControl}
 use Rattle.read_state.specs.declared.Act.{Act as CodedAct}
 use Rattle.read_state.specs.declared.Act.the-variants.{Pass, Skip, Open, Close, OpenText, CloseText, OpenList, CloseList, ReadProperty, Stop, Missing, Broken}
 
@@ -26,20 +23,16 @@ planned k kind name =
 abbrev pub nameIn : ℕ → List ℕ → List ℕ
 nameIn kind name = cond (eqb kind 7) [] (cond (eqb kind 8) [] name)
 
--- an unknown Start, or a child of a status element
-abbrev pub IsSkipped : CodedControl → ℕ → List ℕ → Type 0
-IsSkipped k kind name = actOf k (nameIn kind name) Skip ≡ planned (controlOf k) kind name
-
 abbrev pub isSkip : CodedAct → Bool
 isSkip Pass = false
 isSkip Skip = true
 isSkip (Open k e) = false
 isSkip Close = false
 isSkip (OpenText o) = false
-isSkip CloseText = false
-isSkip OpenList = false
+isSkip (CloseText o) = false
+isSkip (OpenList e) = false
 isSkip CloseList = false
-isSkip ReadProperty = false
+isSkip (ReadProperty e) = false
 isSkip Stop = false
 isSkip Missing = false
 isSkip (Broken why) = false
@@ -50,10 +43,25 @@ isStop Skip = false
 isStop (Open k e) = false
 isStop Close = false
 isStop (OpenText o) = false
-isStop CloseText = false
-isStop OpenList = false
+isStop (CloseText o) = false
+isStop (OpenList e) = false
 isStop CloseList = false
-isStop ReadProperty = false
+isStop (ReadProperty e) = false
 isStop Stop = true
 isStop Missing = false
 isStop (Broken why) = false
+
+-- a Start `property`
+abbrev pub hasContent : CodedAct → Bool
+hasContent Pass = false
+hasContent Skip = false
+hasContent (Open k e) = false
+hasContent Close = false
+hasContent (OpenText o) = false
+hasContent (CloseText o) = false
+hasContent (OpenList e) = false
+hasContent CloseList = false
+hasContent (ReadProperty e) = not e
+hasContent Stop = false
+hasContent Missing = false
+hasContent (Broken why) = false

@@ -1,17 +1,18 @@
 -- What a step's calls do. Definitions only.
-use Prim.Native.Nat.{ℕ}
+use Prim.Native.Nat.{ℕ, _+_, _≤_}
 use mathlib.Core.Path.{_≡_}
 use mathlib.Core.List.{List}
 use mathlib.Core.Bool.{true, false}
 use lib.ListN.{length}
-use Rattle.refusal.specs.Refusal.{accepted}
-use Rattle.table.specs.Table.{tableOf}
-use Rattle.table.specs.Event.{Piece, kindAt, bytesAt, pieceKind, pieceBytes}
+use Rattle.table.specs.Event.{Piece, bytesAt, eventAt, pieceKind, pieceBytes}
 use Rattle.read_element.specs.Outcome.{Rooms}
 use Rattle.read_attribute.specs.declared.Range.{Range}
 use Rattle.read_each.specs.inside.Promises.{attributesIn}
-use Rattle.read_state.specs.inside.Coded.{actOf}
+use Rattle.read_state.specs.inside.Coded.{modeOf, actOf}
 use Rattle.read_state.specs.declared.Act.{Act as CodedAct}
+use Rattle.read_state.specs.declared.Act.the-variants.{ReadProperty}
+use Rattle.read_place.specs.inside.Coded.{marksOf}
+use Rattle.read_path.specs.Paths.{modePath}
 use Rattle.read_path.specs.inside.Coded.{hasRoom}
 use Rattle.read_content.specs.Content.{Content}
 use Rattle.read_element.specs.inside.Refines.{Table, Areas}
@@ -19,8 +20,7 @@ use Rattle.read_content.specs.inside.Holds.{Sized}
 use Rattle.read_machine.specs.Machine as machine
 use Rattle.read_step.specs.declared.State.{State}
 use Rattle.read_step.specs.declared.Step.{Step}
-use Rattle.read_step.specs.inside.Planned.{isPiece, IsSkipped}
-use Rattle.read_step.specs.inside.Standing.{machineOf, runOn, Stands, Acted, Stepped}
+use Rattle.read_step.specs.inside.Standing.{machineOf, runOn, runSkip, Stands, Acted, Stepped}
 
 -- a whole table, and the three areas
 abbrev pub given : (events attributes source : List ℕ) → Table
@@ -37,14 +37,15 @@ StepsPiece st kind bytes before after r =
     → Stands attributes source words text before (st .content) (machineOf st c)
     → Acted attributes source words text after st (machine.step rooms (Piece (pieceKind kind) (pieceBytes kind bytes)) (machineOf st c)) r
 
--- where an unknown element begins, reading goes on behind it, and the run comes to the same
-abbrev pub StepsSkip : State → (events source : List ℕ) → Step → Type 0
-StepsSkip st events source r =
-    (rooms : Rooms) (attributes words text scratch : List ℕ) (c : Content) → tableOf events attributes source ≡ accepted tt
-    → isPiece (kindAt events (st .marks .event)) ≡ false
-    → IsSkipped (st .control) (kindAt events (st .marks .event)) (bytesAt events source (st .marks .event))
+-- the element that event `start` begins is passed over: the run in its skip comes to the same from behind it; a refusal there is told from a
+-- state with the same path
+abbrev pub StepsSkip : State → (start : ℕ) (events source : List ℕ) → Step → Type 0
+StepsSkip st start events source r =
+    (rooms : Rooms) (attributes words text scratch : List ℕ) (c : Content) (from : State) → from .marks .event ≤ start
+    → st .marks .event ≤ start + 1
+    → modePath (modeOf (from .control)) (marksOf (from .marks)) ≡ modePath (modeOf (st .control)) (marksOf (st .marks))
     → Stands attributes source words text scratch (st .content) (machineOf st c)
-    → Stepped rooms events attributes source words text scratch st (runOn rooms events attributes source (machineOf st c)) r
+    → Stepped rooms events attributes source words text scratch from (runSkip rooms events attributes source start (machineOf st c)) r
 
 -- an action is done with the attributes of a range as the machine does it
 abbrev pub StepsAct : CodedAct → State → Range → Table → (before after : Areas) (scratch : List ℕ) → Step → Type 0
@@ -55,7 +56,18 @@ StepsAct act st range t before after scratch r =
     → Acted (t .attributes) (t .source) (after .records) (after .text) scratch st
     (machine.act rooms (actOf (st .control) name act) (range .first) (attributesIn t range) (machineOf st c)) r
 
--- one event, or an unknown element whole, is read, and the run comes to the same
+-- a Start `property` is read with its content, and the run comes to the same
+abbrev pub StepsProperty : State → Range → Table → (before after : Areas) (scratch : List ℕ) → Step → Type 0
+StepsProperty st range t before after scratch r =
+    (rooms : Rooms) (c : Content)
+    → machine.step rooms (eventAt (t .events) (t .attributes) (t .source) (st .marks .event)) (machineOf st c)
+    ≡ machine.act rooms (actOf (st .control) (bytesAt (t .events) (t .source) (st .marks .event)) (ReadProperty false)) (range .first) (attributesIn t range) (machineOf st c)
+    → Sized rooms (length (before .records)) (length (before .text)) (length scratch)
+    → Stands (t .attributes) (t .source) (before .records) (before .text) scratch (st .content) (machineOf st c)
+    → Stepped rooms (t .events) (t .attributes) (t .source) (after .records) (after .text) scratch st
+    (runOn rooms (t .events) (t .attributes) (t .source) (machineOf st c)) r
+
+-- one event, with what is skipped behind it, is read, and the run comes to the same
 abbrev pub StepsEvent : State → Table → (before after : Areas) → Step → Type 0
 StepsEvent st t before after r =
     (rooms : Rooms) (c : Content) → Sized rooms (length (before .records)) (length (before .text)) (length (before .scratch))

@@ -9,10 +9,10 @@ use Rattle.utf8.specs.Characters.{joined}
 use Rattle.refusal.specs.Refusal.{nowhere, Refused, Outcome, accepted, refused}
 use Rattle.refusal.specs.declared.Cause.{Cause}
 use Rattle.table.specs.Table.{countOf}
-use Rattle.table.specs.Event.{resolveFrom}
+use Rattle.table.specs.Event.{bytesAt, resolveFrom}
 use Rattle.read_element.specs.Outcome.{Rooms}
 use Rattle.read_attribute.specs.inside.Steps.{faultAt}
-use Rattle.read_state.specs.Control.{Act, turn}
+use Rattle.read_state.specs.Control.{skipping, control, Act, turn}
 use Rattle.tree_status.specs.Status.{Few}
 use Rattle.read_state.specs.inside.Coded.{modeOf, controlOf, actOf}
 use Rattle.read_state.specs.declared.Act.the-variants.{Broken}
@@ -21,7 +21,7 @@ use Rattle.read_state.specs.declared.Level.the-variants.{Top}
 use Rattle.read_state.specs.declared.Output.the-variants.{Out}
 use Rattle.read_path.specs.Paths.{pathOf}
 use Rattle.read_place.specs.Marks.{marksAfter, onward}
-use Rattle.read_place.specs.inside.Coded.{marksOf, Low}
+use Rattle.read_place.specs.inside.Coded.{marksOf, goTo, Low}
 use Rattle.read_content.specs.Content.{Content}
 use Rattle.read_content.specs.inside.Holds.{Holds, Lists, noContent}
 use Rattle.read_content.specs.declared.Content.{Content as CodedContent}
@@ -86,6 +86,19 @@ after a used s = record { control = turn a (s .control); content = s .content; m
 -- the run from the event on that the machine stands at
 abbrev pub runOn : Rooms → List ℕ → List ℕ → List ℕ → Machine → Outcome Machine
 runOn rooms events attributes source s = run rooms (resolveFrom events attributes source (countOf events - s .marks .event) (s .marks .event)) s
+
+-- the machine in a skip of that name, at that event
+abbrev pub inSkip : List ℕ → ℕ → Machine → Machine
+inSkip name i s =
+    record {
+      control = control (skipping (s .control .mode) name 0) (s .control .seen) (s .control .closed) (s .control .tally);
+      content = s .content;
+      marks = goTo i (s .marks);
+    }
+
+-- the run in the skip of the element that event i begins
+abbrev pub runSkip : Rooms → List ℕ → List ℕ → List ℕ → ℕ → Machine → Outcome Machine
+runSkip rooms events attributes source i s = run rooms (resolveFrom events attributes source (countOf events - (i + 1)) (i + 1)) (inSkip (bytesAt events source i) (i + 1) s)
 
 -- ---- refusals
 -- the refusal of a halt in a state; a skipped tag has a name

@@ -1,0 +1,6 @@
+pub mod Places
+pub mod Elements
+pub mod Numbers
+pub mod Bare
+pub mod Spelled
+pub mod Examples
