@@ -1,0 +1,4 @@
+pub mod Modes
+pub mod Markup
+pub mod Broken
+pub mod Rooms

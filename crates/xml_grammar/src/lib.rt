@@ -1,0 +1,1 @@
+// The grammar of XML documents that are taken in: definitions only.
