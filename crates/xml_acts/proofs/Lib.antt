@@ -1,0 +1,3 @@
+pub mod FurtherBytes
+pub mod Letters
+pub mod EndNames
