@@ -26,6 +26,7 @@ use Rattle.write_answer.specs.Answer as writing
 use Rattle.public_claims.specs.PublicListing.{refusedText, written, behindReading, publicListing}
 use Rattle.public_claims.specs.Demand3.{Table, Areas, answerTo, listing}
 use Rattle.call_claims.specs.Demand1.{readNumbers, isOneOf, Placed, Late, Ends, completes, readingOf, ReadZero, WriteZero, Demand1}
+use Rattle.call_claims.proofs.TokenCall.{tokenize-ends}
 use Rattle.call_claims.proofs.ReadCall.{numbered, read-zero, read-placed}
 use Rattle.call_claims.proofs.LateCalls.{Within, ends, ends-leaving, within-late, within-suite}
 use Rattle.call_claims.proofs.BuilderCalls.{unnamed-ends, new-ends, builder-calls}
@@ -136,6 +137,7 @@ pub demand-1 : Demand1
 demand-1 =
     record {
       numbered = numbered;
+      tokenize = tokenize-ends;
       read = λ t a. ends (answerTo t a) (read-placed t a) (read-zero t a);
       list = list-ends;
       write = write-ends;

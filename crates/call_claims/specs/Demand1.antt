@@ -5,6 +5,7 @@
 -- "Takes every table and area, does nothing undefined, and completes" is what a contract without a `requires` says: the checker proves the body of
 -- each entry point, and of all that it calls, safe and ending for every argument. What an entry point answers and leaves in each lent area is, by the
 -- same contract, equal to these definitions, and of them the claims speak:
+--   tokenizer::tokenize                tokens (crate xml_machine: Tokens)
 --   reader::read                       reading (crate read_machine: Reading)
 --   lister::list                       listed, outputOf (crate list_text: Listing)
 --   writer::write                      wrote, eventsLeft, attributesLeft, bytesLeft (crate write_answer: Answer)
@@ -15,9 +16,12 @@
 --   builder, builder_set: each call    its namesake (crate build_draft: Calls), with wordsLeft and textLeft (Draft)
 -- The answer is the outcome as a struct, with `refusalFrom` (crate refusal: Refusal) of what a refusal carries: answerOf (crate reader: Answer),
 -- listingFrom (lister), writingFrom (writer), explainedFrom (explain), countedFrom (tree_counts: Counts), builtFrom (build_draft: Draft).
+-- Tokenizing alone has no such struct: its refusal is a number, 18 and 19 among them, and a byte (result, crate xml_state: Turns).
 -- Two calls refuse nothing: `tree_layout::is_layout` says whether areas are a layout (crate tree_report: Layout), and `time_text::write_time` puts a
 -- text, or says that it doesn't fit. The calls from C (crate port_c) pass on to these, and the programs (crates list_printing, write_printing: Printed)
--- print what they come to, or `(refused)`. That the list is whole shows in the exports of port_c.
+-- print what they come to, or `(refused)`. No claim here speaks of two more calls on XML
+-- documents: `list_xml` tokenizes, reads and lists, with `(refused)` where one of these refuses, and `explain_xml` puts a tokenizer's refusal in words,
+-- or says that it doesn't fit. That the list is whole shows in the exports of port_c.
 --
 -- Inputs are unchanged: they are lent as `&`, through which nothing can be stored, or go in by value.
 --
@@ -32,10 +36,11 @@ use Prim.Native.Nat.{ℕ, _≤_}
 use mathlib.Core.Path.{_≡_}
 use mathlib.Core.List.{List, [], _∷_}
 use mathlib.Core.Bool.{Bool, true, false, _||_}
+use mathlib.Core.Logic.{_⊎_}
 use lib.Dec.{eqb}
 use lib.ListN.{length}
 use Rattle.area.specs.Area.{zeros}
-use Rattle.refusal.specs.Refusal.{number, Refused, Outcome, accepted, refused, late}
+use Rattle.refusal.specs.Refusal.{nowhere, number, Refused, Outcome, accepted, refused, late}
 use Rattle.refusal.specs.declared.Cause.{Cause}
 use Rattle.refusal.specs.declared.Refusal.{Refusal}
 use Rattle.timestamp.specs.declared.Moment.{Moment}
@@ -57,11 +62,12 @@ use Rattle.build_draft.specs.declared.NonSuccessKind.{NonSuccessKind}
 use Rattle.build_draft.specs.declared.FlakyOrRerun.{FlakyOrRerun}
 use Rattle.build_draft.specs.Draft.{Draft, wordsLeft, textLeft}
 use Rattle.build_draft.specs.Calls as call
+use Rattle.xml_machine.specs.Tokens as token
 
 -- ---- refusals
 -- the numbers of all refusals, and those that reading gives
 abbrev pub allNumbers : List ℕ
-allNumbers = 1 ∷ 2 ∷ 3 ∷ 4 ∷ 5 ∷ 6 ∷ 7 ∷ 8 ∷ 9 ∷ 10 ∷ 11 ∷ 12 ∷ 13 ∷ 14 ∷ 15 ∷ 16 ∷ 17 ∷ 20 ∷ 21 ∷ []
+allNumbers = 1 ∷ 2 ∷ 3 ∷ 4 ∷ 5 ∷ 6 ∷ 7 ∷ 8 ∷ 9 ∷ 10 ∷ 11 ∷ 12 ∷ 13 ∷ 14 ∷ 15 ∷ 16 ∷ 17 ∷ 18 ∷ 19 ∷ 20 ∷ 21 ∷ []
 
 abbrev pub readNumbers : List ℕ
 readNumbers = 1 ∷ 2 ∷ 3 ∷ 4 ∷ 5 ∷ 6 ∷ 7 ∷ 8 ∷ 9 ∷ 10 ∷ 11 ∷ 12 ∷ 13 ∷ 14 ∷ 20 ∷ 21 ∷ []
@@ -76,7 +82,7 @@ pub record Placed (numbers : List ℕ) (why : Refused) : Type 0 where
   pub short : length (why .path) ≤ 6
   pub ofTable : number (why .cause) ≡ 11 → why .path ≡ []
 
--- a refusal of any other call, with 15 to 17 or another number, names none: its path is empty, and 4294967295 stands for event and attribute
+-- a refusal of any other call but tokenizing, with 15 to 17 or another number, names none: its path is empty, and 4294967295 stands for event and attribute
 pub record Late (numbers : List ℕ) (why : Refused) : Type 0 where
   pub known : isOneOf (number (why .cause)) numbers ≡ true
   pub placeless : why ≡ late (why .cause)
@@ -86,9 +92,23 @@ pub data Ends {A : Type 0} (Given : Refused → Type 0) (Left : Type 0) : Outcom
   completes : {a : A} → Ends Given Left (accepted a)
   refuses : {why : Refused} → Given why → Left → Ends Given Left (refused why)
 
+-- a refusal of tokenizing is a number and a byte of the document, 4294967295 with 11 and 16
+pub record AtByte (numbers : List ℕ) (n byte : ℕ) : Type 0 where
+  pub known : isOneOf n numbers ≡ true
+  pub byteless : (n ≡ 11) ⊎ (n ≡ 16) → byte ≡ nowhere
+
+-- what tokenizing comes to, in the same way: a table, or a refusal
+pub data Tokenizes (Given : ℕ → ℕ → Type 0) (Left : Type 0) : token.Answer → Type 0 where
+  tabled : {events attributes : ℕ} → Tokenizes Given Left (token.done-with events attributes)
+  stops : {n byte : ℕ} → Given n byte → Left → Tokenizes Given Left (token.refused n byte)
+
 -- ---- areas behind a refusal, each zero throughout and as long as it was lent
 abbrev pub readingOf : Table → Areas → Read
 readingOf t a = reading (t .events) (t .attributes) (t .source) (a .words) (a .text) (a .scratch)
+
+pub record TokensZero (n m : ℕ) (r : token.Result) : Type 0 where
+  pub events : r .events ≡ zeros n
+  pub attributes : r .attributes ≡ zeros m
 
 pub record ReadZero (t : Table) (a : Areas) : Type 0 where
   pub words : readingOf t a .words ≡ zeros (a .words)
@@ -132,6 +152,10 @@ pub record BuilderCalls (d : Draft) : Type 0 where
 pub record Demand1 : Type 0 where
   -- Each cause has one of the numbers.
   pub numbered : (c : Cause) → isOneOf (number c) allNumbers ≡ true
+  -- Tokenizing: 11, 16, 18 and 19; both areas are zero then.
+  pub tokenize : (source : List ℕ) (events attributes : ℕ)
+      → Tokenizes (AtByte (11 ∷ 16 ∷ 18 ∷ 19 ∷ [])) (TokensZero events attributes (token.tokens source events attributes))
+      (token.tokens source events attributes .answer)
   -- Reading: 1 to 14, 20 and 21; records, text and scratch are zero then.
   pub read : (t : Table) (a : Areas) → Ends (Placed readNumbers) (ReadZero t a) (answerTo t a)
   -- Listing: 15 and 16; the output area is zero then.

@@ -1,5 +1,6 @@
 // The calls for programs in other languages; ports/c/kerzhoma.h declares them for C. A slice arrives as pointer and length.
 mod counts;
+mod documents;
 mod making;
 mod setting;
 mod tables;
