@@ -1,4 +1,4 @@
-/* Kerzhoma for C: JUnit test reports. Read from tables of XML events, listed for the public, written as tables again, or built from
+/* Kerzhoma for C: JUnit test reports. Read from XML documents or from tables of their events, listed for the public, written as tables again, or built from
  * nothing. Each call below is proved to answer and leave what its definition says, on every table, area and number.
  *
  *     rt staticlib port_c                                            makes target/staticlib/libport_c.a
@@ -87,6 +87,8 @@ enum kerzhoma_refused {
     KERZHOMA_REFUSED_LAYOUT = 15,    /* the areas hold no report; a builder's call that doesn't fit there; a code that is none */
     KERZHOMA_REFUSED_OUTPUT = 16,    /* an area for output is too short */
     KERZHOMA_REFUSED_COUNT = 17,     /* a count would pass 18446744073709551615 */
+    KERZHOMA_REFUSED_XML = 18,       /* the document isn't well-formed XML */
+    KERZHOMA_REFUSED_DOCTYPE = 19,   /* a document type declaration */
     KERZHOMA_REFUSED_STATUS = 20,    /* a case's status elements don't go together */
     KERZHOMA_REFUSED_NAME = 21       /* the name of a Ref in gathered text is unknown */
 };
@@ -134,6 +136,32 @@ enum kerzhoma_path_kind {
     KERZHOMA_PATH_SYSTEM_ERR = 15,
     KERZHOMA_PATH_ATTRIBUTE = 16 /* index: which, by docs/REFUSALS.md: 1 name, 2 classname, 3 uuid, 4 timestamp, 5 time, .. */
 };
+
+/* ---- XML documents ---- */
+
+/* Where a document was refused: `number` is 11, 16, 18 or 19; `byte` is its place for 18 and 19, the document's length where it only ends
+ * too early, and KERZHOMA_NONE for 11 and 16. `number` is 0 where it was tokenized, and `byte` then KERZHOMA_NONE. */
+typedef struct kerzhoma_tokenized {
+    uint32_t events;     /* how many events were put, five words each; 0 where the call refuses */
+    uint32_t attributes; /* how many attributes, five words each */
+    uint32_t number;
+    uint32_t byte;
+} kerzhoma_tokenized;
+
+/* Puts the table of an XML document (XML 1.0, UTF-8, without a document type declaration) at the front of two areas, and zeros behind it.
+ * The document is the table's source. An event for each byte and one more, and an attribute for each four bytes, certainly suffice. */
+kerzhoma_tokenized kerzhoma_tokenize(
+    const uint8_t *source, size_t source_length,
+    uint32_t *events, size_t events_length,
+    uint32_t *attributes, size_t attributes_length);
+
+/* Puts a line that says why and where a document wasn't tokenized at the front of `out`, and zeros behind it; a newline ends it:
+ * `refused 18 at byte 12, line 2, column 5: ..`. Returns its length, or 0 where it doesn't fit; then `out` is zero. 256 bytes are enough.
+ * The line holds no text of the document. */
+size_t kerzhoma_explain_xml(
+    const uint8_t *source, size_t source_length,
+    uint32_t number, uint32_t byte,
+    uint8_t *out, size_t out_length);
 
 /* ---- reading ---- */
 
@@ -189,6 +217,17 @@ size_t kerzhoma_public_listing(
     const uint32_t *events, size_t events_length,
     const uint32_t *attributes, size_t attributes_length,
     const uint8_t *source, size_t source_length,
+    uint32_t *records, size_t records_length,
+    uint8_t *text, size_t text_length,
+    uint8_t *scratch, size_t scratch_length,
+    uint8_t *out, size_t out_length);
+
+/* Tokenizing, reading and listing in one: the listing of an XML document, or `(refused)`, as kerzhoma_public_listing puts it. `events` and
+ * `attributes` are as kerzhoma_tokenize leaves them, and where that refuses the other areas are zero. */
+size_t kerzhoma_list_xml(
+    const uint8_t *source, size_t source_length,
+    uint32_t *events, size_t events_length,
+    uint32_t *attributes, size_t attributes_length,
     uint32_t *records, size_t records_length,
     uint8_t *text, size_t text_length,
     uint8_t *scratch, size_t scratch_length,

@@ -1,6 +1,7 @@
-//! Where a table comes from: files and standard input.
+//! Where a table or a document comes from: files and standard input.
 #![forbid(unsafe_code)]
 
+use crate::limits::SOURCE;
 use crate::table::Header;
 use crate::{TableBuf, TableError};
 use std::{error, ffi::OsStr, fmt, fs::File, io, io::Read, path::Path};
@@ -29,7 +30,7 @@ impl fmt::Display for InputError {
             InputError::Io(e) => write!(f, "{e}"),
             InputError::Table(e) => write!(f, "{e}"),
             InputError::Xml => {
-                f.write_str("this looks like an XML document; tables of its events are taken, made by an XML reader")
+                f.write_str("this looks like an XML document; one is taken where the name ends in .xml, or with --xml")
             }
         }
     }
@@ -58,17 +59,36 @@ impl From<TableError> for InputError {
 }
 
 /// Loads the table of a file, or of standard input where the path is `-`.
-///
-/// This is the one place that knows what files look like: another form than tables is told apart here.
 pub fn load_table(path: &Path) -> Result<Loaded, InputError> {
     if path.as_os_str() == OsStr::new("-") {
         return table_from(io::stdin().lock());
     }
+    table_from(open(path)?)
+}
+
+/// Whether the name ends in `.xml`, in any letter case: then the file is an XML document.
+pub fn is_named_xml(path: &Path) -> bool {
+    path.extension().is_some_and(|end| end.eq_ignore_ascii_case("xml"))
+}
+
+/// Loads an XML document, or standard input where the path is `-`: of a longer one a byte more than the limit, which is refused.
+pub fn load_document(path: &Path) -> Result<Vec<u8>, InputError> {
+    let mut document = Vec::new();
+    let most = SOURCE as u64 + 1;
+    if path.as_os_str() == OsStr::new("-") {
+        io::stdin().lock().take(most).read_to_end(&mut document)?;
+    } else {
+        open(path)?.take(most).read_to_end(&mut document)?;
+    }
+    Ok(document)
+}
+
+fn open(path: &Path) -> io::Result<File> {
     let file = File::open(path)?;
     if file.metadata()?.is_dir() {
-        return Err(io::Error::new(io::ErrorKind::IsADirectory, "it is a folder").into());
+        return Err(io::Error::new(io::ErrorKind::IsADirectory, "it is a folder"));
     }
-    table_from(file)
+    Ok(file)
 }
 
 // Reads no more than the table that the header tells of, and one byte behind it.

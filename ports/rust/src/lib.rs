@@ -1,9 +1,10 @@
-//! Reads JUnit test reports that come as tables of XML events, lists them publicly, builds them, and writes them again as tables.
+//! Reads JUnit test reports that come as XML documents or as tables of their events, lists them publicly, builds them, and writes them again as tables.
 //!
 //! The work is done by Kerzhoma's library, whose every function is proved; this crate gives it the shape of Rust. Its own code, that is
 //! what makes tables, walks trees and parses files, is tested, not proved.
 //!
-//! - A [`Table`] is events, attributes and source bytes: from a file ([`TableBuf::from_bytes`]) or made by a [`TableBuilder`].
+//! - A [`Table`] is events, attributes and source bytes: of an XML document ([`tokenize()`]), from a file ([`TableBuf::from_bytes`]) or made
+//!   by a [`TableBuilder`].
 //! - [`Areas`] are what reading works in, allocated once. [`read`] gives a [`Tree`] that borrows them, or a [`Refusal`].
 //! - [`list`] and [`public_listing`] give the listing without private text, [`write()`] the table of a report, [`explain`] a refusal in
 //!   words.
@@ -28,6 +29,7 @@
 mod areas;
 mod builder;
 mod calls;
+mod document;
 pub mod input;
 pub mod limits;
 mod refusal;
@@ -40,6 +42,7 @@ mod values;
 pub use areas::Areas;
 pub use builder::{CaseBuilder, ReportBuilder, RunBuilder, SuiteBuilder};
 pub use calls::{explain, list, list_into, public_listing, public_listing_into, read, write, write_into};
+pub use document::{explain_xml, list_xml, tokenize, tokenize_into, XmlRefusal};
 pub use refusal::{Cause, PathElement, Refusal};
 pub use table::{Table, TableBuf, TableBuilder, TableError, Tag};
 pub use tree::{Case, Cases, Extras, Properties, Property, Reruns, Run, Runs, Status, Suite, Suites, Tree};

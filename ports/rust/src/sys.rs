@@ -34,6 +34,15 @@ pub struct Writing {
 
 #[repr(C)]
 #[derive(Clone, Copy)]
+pub struct Tokenized {
+    pub events: u32,
+    pub attributes: u32,
+    pub number: u32,
+    pub byte: u32,
+}
+
+#[repr(C)]
+#[derive(Clone, Copy)]
 pub struct Counts {
     pub tests: u64,
     pub failures: u64,
@@ -93,12 +102,24 @@ pub struct Uuid {
 // The sizes that C gives the same structs on x86-64.
 const _: () = {
     assert!(size_of::<Refusal>() == 92 && size_of::<Listing>() == 104 && size_of::<Writing>() == 120);
+    assert!(size_of::<Tokenized>() == 16);
     assert!(size_of::<Counts>() == 48 && size_of::<Counted>() == 144);
     assert!(size_of::<Builder>() == 24 && size_of::<Built>() == 116);
     assert!(size_of::<Moment>() == 16 && size_of::<Uuid>() == 16);
 };
 
 extern "C" {
+    fn kerzhoma_tokenize(
+        source: *const u8, source_len: usize, events: *mut u32, events_len: usize, attributes: *mut u32, attributes_len: usize,
+    ) -> Tokenized;
+    fn kerzhoma_list_xml(
+        source: *const u8, source_len: usize, events: *mut u32, events_len: usize, attributes: *mut u32, attributes_len: usize,
+        records: *mut u32, records_len: usize, text: *mut u8, text_len: usize, scratch: *mut u8, scratch_len: usize, out: *mut u8,
+        out_len: usize,
+    ) -> usize;
+    fn kerzhoma_explain_xml(
+        source: *const u8, source_len: usize, number: u32, byte: u32, out: *mut u8, out_len: usize,
+    ) -> usize;
     fn kerzhoma_read(
         events: *const u32, events_len: usize, attributes: *const u32, attributes_len: usize, source: *const u8, source_len: usize,
         records: *mut u32, records_len: usize, text: *mut u8, text_len: usize, scratch: *mut u8, scratch_len: usize,
@@ -170,6 +191,47 @@ extern "C" {
         builder: Builder, records: *mut u32, records_len: usize, text: *mut u8, text_len: usize, family: u32,
     ) -> Built;
     fn kerzhoma_finish_report(builder: Builder, records: *mut u32, records_len: usize, text: *mut u8, text_len: usize) -> Built;
+}
+
+pub fn tokenize(source: &[u8], events: &mut [u32], attributes: &mut [u32]) -> Tokenized {
+    unsafe {
+        kerzhoma_tokenize(
+            source.as_ptr(),
+            source.len(),
+            events.as_mut_ptr(),
+            events.len(),
+            attributes.as_mut_ptr(),
+            attributes.len(),
+        )
+    }
+}
+
+pub fn list_xml(
+    source: &[u8], events: &mut [u32], attributes: &mut [u32], records: &mut [u32], text: &mut [u8], scratch: &mut [u8],
+    out: &mut [u8],
+) -> usize {
+    unsafe {
+        kerzhoma_list_xml(
+            source.as_ptr(),
+            source.len(),
+            events.as_mut_ptr(),
+            events.len(),
+            attributes.as_mut_ptr(),
+            attributes.len(),
+            records.as_mut_ptr(),
+            records.len(),
+            text.as_mut_ptr(),
+            text.len(),
+            scratch.as_mut_ptr(),
+            scratch.len(),
+            out.as_mut_ptr(),
+            out.len(),
+        )
+    }
+}
+
+pub fn explain_xml(source: &[u8], number: u32, byte: u32, out: &mut [u8]) -> usize {
+    unsafe { kerzhoma_explain_xml(source.as_ptr(), source.len(), number, byte, out.as_mut_ptr(), out.len()) }
 }
 
 pub fn read(

@@ -193,6 +193,57 @@ fn what_is_no_table() {
     assert!(ran.err.contains("it is a folder"), "{}", ran.err);
 }
 
+const DOCUMENT: &str = "<testsuites name=\"r\" tests=\"2\"><testsuite name=\"lab\" tests=\"2\"><testcase name=\"a\" time=\"0.5\"/>\
+    <testcase name=\"b\"><failure message=\"m\"/><rerunFailure/></testcase></testsuite></testsuites>";
+
+#[test]
+fn documents() {
+    for (name, option) in [("worked.xml", None), ("worked.XML", None), ("worked", Some("--xml"))] {
+        let path = room(name);
+        fs::write(&path, DOCUMENT).unwrap();
+        let file = path.to_str().unwrap();
+        let arguments: Vec<&str> = ["list"].into_iter().chain(option).chain([file]).collect();
+        let listed = run(&arguments, b"");
+        assert_eq!((listed.status, text(&listed), listed.err.as_str()), (0, WORKED, ""));
+        fs::remove_file(path).unwrap();
+    }
+    let listed = run(&["list", "--xml", "-"], DOCUMENT.as_bytes());
+    assert_eq!((listed.status, text(&listed)), (0, WORKED));
+    let checked = run(&["check", "-", "--xml"], DOCUMENT.as_bytes());
+    assert_eq!((checked.status, text(&checked), checked.err.as_str()), (0, "", ""));
+    // written, it is a table again
+    let written = run(&["write", "--xml", "-", "-o", "-"], DOCUMENT.as_bytes());
+    assert_eq!(text(&run(&["list", "-"], &written.out)), WORKED);
+}
+
+#[test]
+fn documents_that_are_refused() {
+    for (document, line) in [
+        ("", "refused 18 at byte 0, line 1, column 1: the document ends too early"),
+        ("<a>\n\u{e9}<</a>", "refused 18 at byte 7, line 2, column 3: from this byte on the document is not well-formed XML"),
+        ("<a>\n</b>", "refused 18 at byte 6, line 2, column 3: from this byte on the document is not well-formed XML"),
+        ("<!DOCTYPE a><a/>", "refused 19 at byte 0, line 1, column 1: a document type declaration is not taken"),
+    ] {
+        let explained = run(&["explain", "--xml", "-"], document.as_bytes());
+        assert_eq!((explained.status, text(&explained), explained.err.as_str()), (1, &*format!("{line}\n"), ""));
+        for (task, out) in [("list", "(refused)\n"), ("check", "")] {
+            let ran = run(&[task, "--xml", "-"], document.as_bytes());
+            assert_eq!((ran.status, text(&ran), ran.err), (1, out, format!("kerzhoma: {line}\n")));
+        }
+    }
+    // read, and refused there: numbers, and a name only from explain
+    let document = b"<testsuites><testsuite name=\"lab\"><testcase/></testsuite></testsuites>";
+    let explained = run(&["explain", "--xml", "-"], document);
+    let line = "refused 7 at testsuites/testsuite[0](\"lab\")/testcase[0]/@name: this attribute is missing (event 2)\n";
+    assert_eq!((explained.status, text(&explained)), (1, line));
+    // a byte more than the limit
+    let mut long = b"<a>".to_vec();
+    long.resize(16_777_217, b' ');
+    let explained = run(&["explain", "--xml", "-"], &long);
+    assert_eq!((explained.status, text(&explained)), (1, "refused 11: the document is longer than 16777216 bytes\n"));
+    assert_eq!(run(&["list", "--xml", "no such file.xml"], b"").status, 2);
+}
+
 #[test]
 fn usage() {
     let help = run(&["--help"], b"");

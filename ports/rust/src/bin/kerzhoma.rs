@@ -1,8 +1,8 @@
 //! The command line: lists, explains, writes and checks a report.
 #![forbid(unsafe_code)]
 
-use kerzhoma::input::load_table;
-use kerzhoma::{explain, list, read, write, Areas, TableBuf, Tree};
+use kerzhoma::input::{is_named_xml, load_document, load_table};
+use kerzhoma::{explain, explain_xml, list, read, tokenize, write, Areas, TableBuf, Tree};
 use std::ffi::{OsStr, OsString};
 use std::io::{self, ErrorKind, Write};
 use std::path::{Path, PathBuf};
@@ -17,10 +17,11 @@ kerzhoma: JUnit test reports, read by a proved library
     kerzhoma explain FILE          writes why the report is refused, or accepted
     kerzhoma write FILE -o FILE    writes the report again, as a table
 
-FILE is a table of XML events: three little-endian words, the numbers of events,
-attributes and source bytes, then the three. - is standard input or output.
-Bytes behind the table are ignored. At most 65536 events, 65536 attributes and
-16777216 source bytes are taken.
+FILE is an XML document if its name ends in .xml or --xml is given, else a table
+of XML events: three little-endian words, the numbers of events, attributes and
+source bytes, then the three; bytes behind it are ignored. - is standard input
+or output. At most 65536 events, 65536 attributes and 16777216 source bytes are
+taken.
 
 A listing has no private text. The line of explain may have some: it tells the
 names of the suite and case. What list, check and write say on standard error
@@ -34,6 +35,11 @@ const ACCEPTED: u8 = 0;
 const REFUSED: u8 = 1;
 const FAILED: u8 = 2;
 
+struct Input {
+    file: PathBuf,
+    xml: bool,
+}
+
 enum Task {
     List,
     Check,
@@ -44,28 +50,30 @@ enum Task {
 fn main() -> ExitCode {
     let arguments: Vec<OsString> = env::args_os().skip(1).collect();
     let status = match parse(&arguments) {
-        Ok(Some((task, file))) => run(&task, &file),
+        Ok(Some((task, input))) => run(&task, &input),
         Ok(None) => put(HELP.as_bytes(), ACCEPTED),
         Err(what) => {
             say(&what);
-            say("usage: kerzhoma list|check|explain FILE, kerzhoma write FILE -o FILE, kerzhoma --help");
+            say("usage: kerzhoma list|check|explain [--xml] FILE, kerzhoma write [--xml] FILE -o FILE, kerzhoma --help");
             FAILED
         }
     };
     ExitCode::from(status)
 }
 
-// The task and its file; none where help is asked for.
-fn parse(arguments: &[OsString]) -> Result<Option<(Task, PathBuf)>, String> {
+// The task and its input; none where help is asked for.
+fn parse(arguments: &[OsString]) -> Result<Option<(Task, Input)>, String> {
     if arguments.iter().take_while(|a| *a != "--").any(|a| a == "--help" || a == "-h") {
         return Ok(None);
     }
     let mut rest = arguments.iter();
     let task = rest.next().ok_or("there is no command")?;
-    let (mut file, mut output, mut options) = (None, None, true);
+    let (mut file, mut output, mut xml, mut options) = (None, None, false, true);
     while let Some(a) = rest.next() {
         if options && a == "--" {
             options = false;
+        } else if options && a == "--xml" {
+            xml = true;
         } else if options && a == "-o" {
             let to = rest.next().ok_or("-o needs a file")?;
             if output.replace(PathBuf::from(to)).is_some() {
@@ -86,7 +94,9 @@ fn parse(arguments: &[OsString]) -> Result<Option<(Task, PathBuf)>, String> {
         (Some("explain"), None) => Task::Explain,
         _ => return Err(format!("there is no command {}", task.display())),
     };
-    Ok(Some((task, file.ok_or("there is no file")?)))
+    let file = file.ok_or("there is no file")?;
+    let xml = xml || is_named_xml(&file);
+    Ok(Some((task, Input { file, xml })))
 }
 
 fn say(what: &str) {
@@ -106,18 +116,39 @@ fn put(bytes: &[u8], status: u8) -> u8 {
     }
 }
 
-fn run(task: &Task, file: &Path) -> u8 {
-    let loaded = match load_table(file) {
-        Ok(loaded) => loaded,
-        Err(e) => {
-            say(&format!("{}: {e}", shown(file)));
-            return FAILED;
-        }
-    };
-    if loaded.trailing {
-        say(&format!("{}: bytes behind the table are ignored", shown(file)));
+fn run(task: &Task, input: &Input) -> u8 {
+    let file = &input.file;
+    if input.xml {
+        return match load_document(file) {
+            Ok(document) => tokenized(task, &document),
+            Err(e) => failed(file, &e),
+        };
     }
-    done(task, &loaded.table)
+    match load_table(file) {
+        Ok(loaded) => {
+            if loaded.trailing {
+                say(&format!("{}: bytes behind the table are ignored", shown(file)));
+            }
+            done(task, &loaded.table)
+        }
+        Err(e) => failed(file, &e),
+    }
+}
+
+fn failed(file: &Path, why: &dyn std::fmt::Display) -> u8 {
+    say(&format!("{}: {why}", shown(file)));
+    FAILED
+}
+
+fn tokenized(task: &Task, document: &[u8]) -> u8 {
+    match (tokenize(document), task) {
+        (Ok(table), _) => done(task, &table),
+        (Err(refusal), Task::Explain) => put(explain_xml(&refusal, document).as_bytes(), REFUSED),
+        (Err(refusal), task) => {
+            say(explain_xml(&refusal, document).trim_end());
+            refused(task)
+        }
+    }
 }
 
 fn shown(file: &Path) -> String {
