@@ -228,7 +228,7 @@ fn documents_that_are_refused() {
         assert_eq!((explained.status, text(&explained), explained.err.as_str()), (1, &*format!("{line}\n"), ""));
         for (task, out) in [("list", "(refused)\n"), ("check", "")] {
             let ran = run(&[task, "--xml", "-"], document.as_bytes());
-            assert_eq!((ran.status, text(&ran), ran.err), (1, out, format!("kerzhoma: {line}\n")));
+            assert_eq!((ran.status, text(&ran), ran.err.clone()), (1, out, format!("kerzhoma: {line}\n")));
         }
     }
     // read, and refused there: numbers, and a name only from explain
