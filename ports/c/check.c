@@ -514,6 +514,76 @@ static void areas(void)
     free(out);
 }
 
+/* ---- documents ---- */
+
+static const char document[] =
+    "<testsuites name=\"r\" tests=\"2\"><testsuite name=\"lab\" tests=\"2\"><testcase name=\"a\" time=\"0.5\"/>"
+    "<testcase name=\"b\"><failure message=\"m\"/><rerunFailure/></testcase></testsuite></testsuites>";
+static const char worked[] =
+    "(report \"r\" 2 0 0 0 -\n(suite \"lab\" 2 0 0 0 -\n(case \"a\" - 0.500 success flaky 0)\n"
+    "(case \"b\" - - failure rerun 1\n(run failure -))))\n";
+
+/* the document's table in areas of so many words, each of its own size, so that valgrind sees a word too many */
+static kerzhoma_tokenized tokenize(const char *s, size_t n, size_t most_events, size_t most_attributes)
+{
+    uint8_t *source = room(n);
+    uint32_t *events = room(4 * most_events), *attributes = room(4 * most_attributes);
+    memcpy(source, s, n);
+    kerzhoma_tokenized t = kerzhoma_tokenize(source, n, events, most_events, attributes, most_attributes);
+    expect(t.number != 0 || (zero(events + 5 * t.events, 4 * most_events - 20 * (size_t)t.events)
+           && zero(attributes + 5 * t.attributes, 4 * most_attributes - 20 * (size_t)t.attributes)), "zeros behind the table");
+    expect(t.number == 0 || (t.events == 0 && t.attributes == 0 && zero(events, 4 * most_events) && zero(attributes, 4 * most_attributes)),
+           "zeros where a document is refused");
+    free(source);
+    free(events);
+    free(attributes);
+    return t;
+}
+
+static bool says(const char *s, kerzhoma_tokenized t, const char *line)
+{
+    uint8_t out[256];
+    size_t n = kerzhoma_explain_xml((const uint8_t *)s, strlen(s), t.number, t.byte, out, sizeof out);
+    return n == strlen(line) && memcmp(out, line, n) == 0 && zero(out + n, sizeof out - n);
+}
+
+static void documents(void)
+{
+    size_t n = sizeof document - 1;
+    kerzhoma_tokenized t = tokenize(document, n, 55, 40);
+    expect(t.number == 0 && t.byte == KERZHOMA_NONE && t.events == 10 && t.attributes == 8, "the worked document");
+    for (size_t m = 0; m < 50; m += 7)
+        expect(tokenize(document, n, m, 40).number == KERZHOMA_REFUSED_OUTPUT, "too few words for events");
+    expect(tokenize(document, n, 55, 39).number == KERZHOMA_REFUSED_OUTPUT, "too few words for attributes");
+    for (size_t cut = 0; cut < n; cut++) {
+        t = tokenize(document, cut, 55, 40);
+        expect(t.number == 18 && t.byte == cut, "a document that is cut off");
+    }
+    t = tokenize("<a>\n</b>", 8, 50, 5);
+    expect(t.number == 18 && t.byte == 6, "an end tag of another name");
+    expect(says("<a>\n</b>", t, "refused 18 at byte 6, line 2, column 3: from this byte on the document is not well-formed XML\n"), "its line");
+    t = tokenize("<!DOCTYPE a><a/>", 16, 50, 5);
+    expect(t.number == 19 && t.byte == 0, "a document type declaration");
+    expect(says("<!DOCTYPE a><a/>", t, "refused 19 at byte 0, line 1, column 1: a document type declaration is not taken\n"), "its line");
+    t = kerzhoma_tokenize(NULL, 0, NULL, 0, NULL, 0);
+    expect(t.number == 18 && t.byte == 0, "no document");
+    expect(kerzhoma_explain_xml(NULL, 0, 18, 0, NULL, 0) == 0, "no room for the line");
+
+    uint32_t *events = room(220), *attributes = room(160), *words = room(4096);
+    uint8_t *text = room(64), *scratch = room(64), *out = room(256);
+    size_t k = kerzhoma_list_xml((const uint8_t *)document, n, events, 55, attributes, 40, words, 1024, text, 64, scratch, 64, out, 256);
+    expect(k == sizeof worked - 1 && memcmp(out, worked, k) == 0 && zero(out + k, 256 - k), "the worked document's listing");
+    k = kerzhoma_list_xml((const uint8_t *)document, n - 1, events, 55, attributes, 40, words, 1024, text, 64, scratch, 64, out, 256);
+    expect(k == 10 && memcmp(out, "(refused)\n", 10) == 0 && zero(events, 220) && zero(attributes, 160) && zero(words, 4096)
+           && zero(text, 64) && zero(scratch, 64), "(refused), and zeros");
+    free(events);
+    free(attributes);
+    free(words);
+    free(text);
+    free(scratch);
+    free(out);
+}
+
 int main(int argc, char **argv)
 {
     if (argc == 2 && strcmp(argv[1], "tell") == 0)
@@ -526,6 +596,7 @@ int main(int argc, char **argv)
         built();
         refusing();
         areas();
+        documents();
     } else {
         fprintf(stderr, "usage: check | check tell | check rooms FILE..\n");
         return 2;
