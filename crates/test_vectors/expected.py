@@ -1,5 +1,5 @@
 #!/usr/bin/env python3
-"""What the program test_vectors must write, computed from the rules of document 01 (docs/01-scope.md), RFC 3629, RFC 3339, RFC 9562 and
+"""What the program test_vectors must write, computed from the rules (docs/RULES.md), RFC 3629, RFC 3339, RFC 9562 and
 XML 1.0 without any of this repository's code. From the repository's top:
     python3 crates/test_vectors/expected.py < crates/test_vectors/stdin | cmp - crates/test_vectors/stdout"""
 import re, sys
