@@ -6,7 +6,7 @@ use mathlib.Core.Bool.{Bool, true, false, cond, not, _&&_, _||_}
 use lib.ListN.{drop}
 use lib.Dec.{leb, ltb, eqb}
 use Rattle.area.specs.Area.{zeros}
-use Rattle.text.specs.Filter.{filtered}
+use Rattle.text_filter.specs.Filter.{filtered}
 use Rattle.timestamp.specs.Timestamp.{inRange}
 use Rattle.timestamp.specs.declared.Moment.{Moment}
 use Rattle.uuid.specs.declared.Words.{Words}

@@ -6,7 +6,7 @@ use lib.ListN.{length, set, take, drop}
 use lib.Dec.{leb, ltb, eqb}
 use Rattle.names.specs.Names.{sameBytes}
 use Rattle.utf8.specs.Utf8.{utf8}
-use Rattle.text.specs.Filter.{filtered}
+use Rattle.text_filter.specs.Filter.{filtered}
 use Rattle.text_lossy.specs.LossyText.{lossyText}
 use Rattle.refusal.specs.Refusal.{Outcome, accepted}
 use Rattle.refusal.specs.declared.Cause.the-variants as cause

@@ -8,7 +8,7 @@ use lib.Dec.{leb, ltb}
 use lib.ListN.{length, take, drop, length-append, length-drop}
 use lib.Seq.{length-take-le, take-add, take-at, drop-at}
 use borrow.Author.Tests.{lt-ltb, le-ltb, ltb-true, leb-true}
-use Rattle.text.specs.Filter.{filtered}
+use Rattle.text_filter.specs.Filter.{filtered}
 use Rattle.refusal.specs.Refusal.{Outcome, accepted, refused}
 use Rattle.refusal.specs.declared.Cause.{Cause}
 use Rattle.refusal.specs.declared.Cause.the-variants as cause

@@ -12,8 +12,8 @@ use Rattle.refusal.specs.Refusal.{Outcome, accepted}
 use Rattle.refusal.specs.declared.Cause.{Cause}
 use Rattle.refusal.specs.declared.Cause.the-variants as cause
 use Rattle.utf8.specs.Utf8.{utf8}
-use Rattle.text.specs.Filter.{filtered}
-use Rattle.text.proofs.Filtering.{utf8-filtered, unfiltered-filtered}
+use Rattle.text_filter.specs.Filter.{filtered}
+use Rattle.text_filter.proofs.Filtering.{utf8-filtered, unfiltered-filtered}
 use Rattle.tree_put.specs.Put.{putPair, putText}
 use Rattle.tree_report.specs.Report.{Pair, Report}
 use Rattle.tree_report.specs.Encode.{Row, written, pairRow, fitsRow}

@@ -9,7 +9,7 @@ use Rattle.refusal.specs.Refusal.{Outcome, accepted, refused}
 use Rattle.refusal.specs.declared.Cause.{Cause}
 use Rattle.refusal.specs.declared.Cause.the-variants as cause
 use Rattle.utf8.specs.Utf8.{utf8}
-use Rattle.text.specs.Filter.{filtered}
+use Rattle.text_filter.specs.Filter.{filtered}
 use Rattle.text_lossy.specs.LossyText.{lossyText}
 use Rattle.tree_put.specs.Put.{putText}
 use Rattle.build_draft.specs.Draft.{Draft, _>>=_, asks, roomFor, isRecord, onRecord, lastOf, withWords}

@@ -9,7 +9,7 @@ use borrow.Author.Tests.{leb-true, le-leb}
 use lib.Dec.{leb}
 use Rattle.timestamp.specs.declared.Moment.{Moment}
 use Rattle.utf8.specs.Utf8.{utf8}
-use Rattle.text.specs.Filter.{unfiltered}
+use Rattle.text_filter.specs.Filter.{unfiltered}
 use Rattle.tree_report.specs.Report.{Text, Duration}
 use Rattle.tree_report.specs.Encode.{Cell, written, lowWord, highWord, ofNumber, ofCount, Row, every, fitsCell, fitsMoment, fitsTime, fitsRow}
 use Rattle.tree_report.proofs.EncodeLists.{both, and-left, and-right}

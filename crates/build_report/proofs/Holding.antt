@@ -11,7 +11,7 @@ use Rattle.area.specs.Area.{zeros, laid}
 use Rattle.utf8.specs.Characters.{joined}
 use Rattle.utf8.specs.Utf8.{utf8}
 use Rattle.utf8.proofs.Rules.{utf8-append}
-use Rattle.text.specs.Filter.{dropped, unfiltered}
+use Rattle.text_filter.specs.Filter.{dropped, unfiltered}
 use Rattle.tree_report.proofs.EncodeLists.{both, and-left, and-right, Each, done, more, each-append}
 use Rattle.tree_placed.specs.inside.Placed.{Placed, recordOf, recordsIn, InTexts}
 use Rattle.tree_placed.specs.inside.Changed.{withKind, onRow, blankPlaced}

@@ -10,7 +10,7 @@ use Rattle.area.specs.Area.{zeros, laid}
 use Rattle.area.proofs.Laying.{laid-zeros}
 use Rattle.utf8.specs.Characters.{joined}
 use Rattle.utf8.specs.Utf8.{utf8}
-use Rattle.text.specs.Filter.{unfiltered}
+use Rattle.text_filter.specs.Filter.{unfiltered}
 use Rattle.tree_put.specs.Put.{putText}
 use Rattle.tree_report.specs.Report.{Text}
 use Rattle.tree_report.specs.Encode.{Row, written, every, fitsRow}

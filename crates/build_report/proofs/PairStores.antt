@@ -8,7 +8,7 @@ use borrow.Author.Tests.{lt-ltb, le-ltb}
 use lib.Dec.{ltb, lit≤}
 use lib.ListN.{length, set, take, drop, length-append, length-map, length-take, length-drop}
 use Rattle.utf8.specs.Utf8.{utf8}
-use Rattle.text.specs.Filter.{unfiltered}
+use Rattle.text_filter.specs.Filter.{unfiltered}
 use Rattle.tree_put.specs.Put.{putPair, putText}
 use Rattle.tree_report.specs.Report.{Text, Pair, Report}
 use Rattle.tree_report.specs.Encode.{written, isGiven, isSome, flagsOf, Row, pairRow, every, fitsRow, rowsOf}

@@ -7,8 +7,8 @@ use lib.ListN.{length}
 use Rattle.refusal.specs.Refusal.{accepted}
 use Rattle.refusal.specs.declared.Cause.the-variants as cause
 use Rattle.utf8.specs.Utf8.{utf8}
-use Rattle.text.specs.Filter.{filtered, unfiltered}
-use Rattle.text.proofs.Filtering.{unfiltered-filtered, utf8-filtered}
+use Rattle.text_filter.specs.Filter.{filtered, unfiltered}
+use Rattle.text_filter.proofs.Filtering.{unfiltered-filtered, utf8-filtered}
 use Rattle.text_lossy.specs.LossyText.{lossyText}
 use Rattle.text_lossy.proofs.Storing.{lossy-stored}
 use Rattle.tree_put.specs.Put.{putText}

@@ -9,7 +9,7 @@ use lib.Dec.{leb, ltb, eqb}
 use lib.ListN.{length, length-map}
 use Rattle.refusal.specs.Refusal.{nowhere}
 use Rattle.utf8.specs.Utf8.{utf8}
-use Rattle.text.specs.Filter.{unfiltered}
+use Rattle.text_filter.specs.Filter.{unfiltered}
 use Rattle.tree_report.specs.Report.{Report}
 use Rattle.tree_report.specs.Encode.{Row, written, every, fitsRow, rowsOf}
 use Rattle.tree_report.proofs.EncodeLists.{both, and-left, and-right}

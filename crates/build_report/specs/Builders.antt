@@ -15,7 +15,7 @@
 --                                                                call
 --   roomFor, bytesFor (crate build_draft: Draft)                 how many records and bytes of text the areas may hold
 --   hasText, isOutput, hasTimes (crate build_draft: Parts)       which kinds of records have a text, an output, a timestamp and a time
---   utf8, filtered (crates utf8, text: Utf8, Filter)             whether bytes are UTF-8; the text that is stored of them
+--   utf8, filtered (crates utf8, text_filter: Utf8, Filter)      whether bytes are UTF-8; the text that is stored of them
 --   lossyText (crate text_lossy: LossyText)                      the text that is stored of any bytes
 --   inRange (crate timestamp: Timestamp)                         which timestamps there are
 use Prim.Native.Nat.{ℕ, _+_}
@@ -30,7 +30,7 @@ use Rattle.refusal.specs.declared.Cause.{Cause}
 use Rattle.refusal.specs.declared.Cause.the-variants as cause
 use Rattle.names.specs.Names.{sameBytes}
 use Rattle.utf8.specs.Utf8.{utf8}
-use Rattle.text.specs.Filter.{filtered}
+use Rattle.text_filter.specs.Filter.{filtered}
 use Rattle.text_lossy.specs.LossyText.{lossyText}
 use Rattle.timestamp.specs.Timestamp.{inRange}
 use Rattle.timestamp.specs.declared.Moment.{Moment}

@@ -10,7 +10,7 @@ use Rattle.refusal.specs.declared.Cause.{Cause}
 use Rattle.area.specs.Area.{zeros, laid}
 use Rattle.utf8.specs.Characters.{joined}
 use Rattle.utf8.specs.Utf8.{utf8}
-use Rattle.text.specs.Filter.{unfiltered}
+use Rattle.text_filter.specs.Filter.{unfiltered}
 use Rattle.tree_report.specs.Report.{TestCase, TestSuite, Report}
 use Rattle.tree_report.specs.Layout.{layout}
 use Rattle.tree_report.specs.ReportOf.{reportOf}

@@ -7,7 +7,7 @@ use build_draft::Step;
 use build_draft::is_record;
 use build_draft::last_of;
 use refusal::Cause;
-use text::filter::store;
+use text_filter::store;
 use text_lossy::store_lossy;
 use tree_put::put_text;
 use tree_record::bit;

@@ -8,7 +8,7 @@ use lib.ListN.{length, set, length-set}
 use lib.Dec.{ltb, leb, eqb}
 use Rattle.area.specs.Area.{zeros}
 use Rattle.area.specs.Limits.{mostRecords}
-use Rattle.text.specs.Filter.{filtered}
+use Rattle.text_filter.specs.Filter.{filtered}
 use Rattle.refusal.specs.Refusal.{nowhere, Refused, Outcome, accepted, refused, late}
 use Rattle.refusal.specs.declared.Cause.the-variants as cause
 use Rattle.timestamp.specs.declared.Moment.{Moment}

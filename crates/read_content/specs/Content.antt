@@ -8,7 +8,7 @@ use Rattle.area.specs.Answer.{Answer, gives, refuses}
 use Rattle.utf8.specs.Utf8.{utf8}
 use Rattle.utf8.specs.Characters.{encode}
 use Rattle.trim.specs.Trim.{trimmed}
-use Rattle.text.specs.Filter.{filtered}
+use Rattle.text_filter.specs.Filter.{filtered}
 use Rattle.reference.specs.Reference.{refsOk, decoded, isNamed, charOf, unnamed}
 use Rattle.refusal.specs.Refusal.{Outcome, accepted}
 use Rattle.table.specs.Event.{Attribute, PieceKind, Text, CData, Ref, Other, Indent}

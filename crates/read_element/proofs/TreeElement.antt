@@ -12,10 +12,10 @@ use Rattle.area.specs.Answer.{Answer, gives, refuses}
 use Rattle.names.specs.Keys.{keyOf}
 use Rattle.utf8.specs.Utf8.{utf8}
 use Rattle.utf8.proofs.Rules.{utf8-append}
-use Rattle.text.specs.Filter.{unfiltered}
+use Rattle.text_filter.specs.Filter.{unfiltered}
 use Rattle.text.specs.Value.{valueText, checkedOf}
 use Rattle.text.proofs.Values.{utf8-value, unfiltered-value}
-use Rattle.text.proofs.Filtering.{unfiltered-append}
+use Rattle.text_filter.proofs.Filtering.{unfiltered-append}
 use Rattle.integer.specs.Integer.{integerOf}
 use Rattle.time.specs.Time.{timeOf}
 use Rattle.time.proofs.Times.{time-range}

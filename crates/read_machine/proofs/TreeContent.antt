@@ -12,7 +12,7 @@ use Rattle.utf8.specs.Utf8.{utf8}
 use Rattle.utf8.proofs.Rules.{utf8-append}
 use Rattle.trim.specs.Trim.{trimmed}
 use Rattle.trim.proofs.Ends.{utf8-trimmed}
-use Rattle.text.proofs.Filtering.{utf8-filtered, unfiltered-filtered}
+use Rattle.text_filter.proofs.Filtering.{utf8-filtered, unfiltered-filtered}
 use Rattle.text_pieces.proofs.Gathering.{utf8-reference}
 use Rattle.reference.specs.Reference.{refsOk, decoded, isNamed, charOf, unnamed}
 use Rattle.reference.proofs.Keeping.{utf8-decoded}

@@ -17,7 +17,7 @@ use Rattle.area.proofs.Laying.{laid-zeros, put-fits, full-over}
 use Rattle.area.proofs.Parts.{rest-part, rest-back}
 use Rattle.utf8.specs.Characters.{joined}
 use Rattle.trim.specs.Trim.{trimmed}
-use Rattle.text.specs.Filter.{filtered}
+use Rattle.text_filter.specs.Filter.{filtered}
 use Rattle.refusal.specs.Refusal.{nowhere, Outcome, accepted}
 use Rattle.refusal.specs.declared.Cause.the-variants.{TextFull}
 use Rattle.read_element.specs.Outcome.{_>>=_, Place, refusedAt, need, Rooms, fits}

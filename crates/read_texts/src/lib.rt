@@ -7,7 +7,7 @@ use read_place::Marks;
 use read_state::Level;
 use read_state::Output;
 use refusal::Cause;
-use text::filter::store;
+use text_filter::store;
 use tree_put::put_text;
 use tree_record::bit;
 use tree_record::kind;

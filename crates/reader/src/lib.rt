@@ -133,7 +133,16 @@ fn run_within(
     )
 }
 
-// Before reading (rule M11), and at a refusal (rule F13).
+// Before reading (rule M11). Of scratch reading looks only at what it put there itself.
+fn clear_tree(words: &mut [u32], bytes: &mut [u8])
+    ensures { λ _. ⌜ now (words .exit) ≡ zeros (length (now (words .entry))) ⌝ }
+    ensures { λ _. ⌜ now (bytes .exit) ≡ zeros (length (now (bytes .entry))) ⌝ }
+{
+    clear_words(words);
+    clear(bytes);
+}
+
+// At a refusal (rule F13).
 fn clear_all(records: &mut [u32], text: &mut [u8], scratch: &mut [u8])
     ensures { λ _. ⌜ now (records .exit) ≡ zeros (length (now (records .entry))) ⌝ }
     ensures { λ _. ⌜ now (text .exit) ≡ zeros (length (now (text .entry))) ⌝ }
@@ -191,10 +200,13 @@ pub fn read(
     ensures scratch { λ _. ⌜ now (scratch .exit) ≡ result.reading (now (events .entry)) (now (attributes .entry)) (now (source .entry))
         (length (now (records .entry))) (length (now (text .entry))) (length (now (scratch .entry))) .scratch ⌝ }
 {
-    clear_all(records, text, scratch);
+    clear_tree(records, text);
     let checked = check_table(events, attributes, source);
     match checked {
         Checked::Good => read_good(events, attributes, source, records, text, scratch),
-        Checked::Bad(event, attribute) => refusing(Cause::BadTable, Path::new(), event, attribute),
+        Checked::Bad(event, attribute) => {
+            clear(scratch);
+            refusing(Cause::BadTable, Path::new(), event, attribute)
+        }
     }
 }

@@ -8,7 +8,7 @@ use native.Mathlib.Omega.{arith}
 use borrow.Author.Tests.{lt-ltb, ltb-true, le-leb, leb-true, ne-eqb, eqb-true, not-true}
 use lib.Dec.{ltb, leb, eqb}
 use lib.ListN.{length, getD}
-use Rattle.utf8.proofs.Rules.{ascii}
+use Rattle.utf8.specs.inside.Ascii.{ascii}
 use Rattle.digits.specs.Digits.{isDigit, allDigits, isNumber}
 use Rattle.digits.proofs.Ascii.{digit-class}
 use Rattle.digits.proofs.Numbers.{number-parts}

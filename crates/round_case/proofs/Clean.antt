@@ -12,8 +12,8 @@ use Rattle.utf8.specs.Characters.{chars, joined}
 use Rattle.utf8.proofs.Splitting.{chars-append}
 use Rattle.trim.specs.Trim.{blank, noStart, noEnd, trimmed}
 use Rattle.reference.specs.Reference.{refsOk, decoded}
-use Rattle.text.specs.Filter.{filtered, unfiltered}
-use Rattle.text.proofs.Filtering.{filtered-same}
+use Rattle.text_filter.specs.Filter.{filtered, unfiltered}
+use Rattle.text_filter.proofs.Filtering.{filtered-same}
 use Rattle.text.proofs.Putting.{both-yes}
 use Rattle.table.specs.Event.{Text as TextPiece}
 use Rattle.tree_report.specs.Report.{Text}

@@ -15,9 +15,9 @@ use Rattle.names.specs.Names.{sameBytes}
 use Rattle.names.specs.Keys.{keyOf}
 use Rattle.utf8.specs.Utf8.{utf8}
 use Rattle.reference.specs.Reference.{refsOk}
-use Rattle.text.specs.Filter.{filtered, unfiltered}
+use Rattle.text_filter.specs.Filter.{filtered, unfiltered}
 use Rattle.text.specs.Value.{valueText, checkedOf}
-use Rattle.text.proofs.Filtering.{filtered-same}
+use Rattle.text_filter.proofs.Filtering.{filtered-same}
 use Rattle.text.proofs.Putting.{both-yes}
 use Rattle.tree_report.specs.Report.{Pair}
 use Rattle.tree_report.specs.Fields.{textAt}

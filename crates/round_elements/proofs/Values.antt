@@ -13,7 +13,7 @@ use Rattle.digits.specs.Digits.{decimal}
 use Rattle.integer.specs.Integer.{integerOf}
 use Rattle.integer.proofs.Integers.{integer-decimal}
 use Rattle.refusal.specs.Refusal.{accepted}
-use Rattle.text.specs.Filter.{unfiltered}
+use Rattle.text_filter.specs.Filter.{unfiltered}
 use Rattle.text.specs.Value.{valueText, checkedOf}
 use Rattle.time.specs.Time.{timeOf}
 use Rattle.time_text.specs.Written.{writtenTime}

@@ -8,7 +8,7 @@ use lib.ListN.{length, length-append}
 use lib.Dec.{eqb}
 use Rattle.names.specs.Tags.{tagOf, testsuites, testsuite, testcase, properties}
 use Rattle.table.specs.Event.{Attribute, TagKind, Start, Empty, End, PieceKind, Event, Tag, Piece, Eof, Fault}
-use Rattle.text.proofs.Filtering.{length-filtered}
+use Rattle.text_filter.proofs.Filtering.{length-filtered}
 use Rattle.trim.specs.Trim.{trimmed}
 use Rattle.trim.proofs.Ends.{trimmed-length}
 use Rattle.tree_put.specs.Put.{putText}

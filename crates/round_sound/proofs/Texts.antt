@@ -11,8 +11,8 @@ use lib.Seq.{take-append-le, drop-append-le}
 use Rattle.utf8.specs.Characters.{boundary}
 use Rattle.utf8.specs.Utf8.{utf8}
 use Rattle.utf8.proofs.Boundaries.{utf8-part}
-use Rattle.text.specs.Filter.{unfiltered}
-use Rattle.text.proofs.Filtering.{unfiltered-append}
+use Rattle.text_filter.specs.Filter.{unfiltered}
+use Rattle.text_filter.proofs.Filtering.{unfiltered-append}
 use Rattle.tree_report.specs.Encode.{written, fitsCell}
 use Rattle.tree_report.specs.Fields.{textAt}
 use Rattle.tree_report.specs.Layout.{filled, allZero, goodText, goodTextAt}

@@ -82,7 +82,7 @@ fn try_filter(hex: &[u8]) {
     let mut text = [0u8; 32];
     let n = bytes_of(hex, &mut text);
     let mut room = [0u8; 64];
-    let kept = kept_of(text::filter::store(&mut room, &text[..n]));
+    let kept = kept_of(text_filter::store(&mut room, &text[..n]));
     show_kept(kept, 13, &room);
 }
 

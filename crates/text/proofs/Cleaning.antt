@@ -10,9 +10,9 @@ use lib.Dec.{eqb}
 use Rattle.utf8.specs.Characters.{isScalar, encode}
 use Rattle.utf8.proofs.Forms.{form-0, form-1, form-2, form-3, form-4}
 use Rattle.reference.specs.Reference.{xmlChar}
-use Rattle.text.specs.Filter.{dropped, filtered}
+use Rattle.text_filter.specs.Filter.{dropped, filtered}
 use Rattle.text.specs.Decode.{cleaned}
-use Rattle.text.proofs.Filtering.{kept-high, filter-drop, filter-keep, filtered-append}
+use Rattle.text_filter.proofs.Filtering.{kept-high, filter-drop, filter-keep, filtered-append}
 
 -- an XML Char is no control character that is dropped
 pub kept-char : (c : ℕ) → xmlChar c ≡ true → dropped c ≡ false

@@ -6,13 +6,8 @@ use Rattle.utf8.specs.Utf8.{need, low, high}
 use Rattle.utf8.specs.Characters.{encode}
 use Rattle.names.specs.Names.{sameBytes, codeFrom}
 use Rattle.reference.specs.Reference.{entities, entityChars, isEntity, entityChar, isCharRef, refAt}
-use Rattle.text.specs.Filter.{filtered}
 use Rattle.text.specs.Value.{valueText, checkedOf, valueOf, valueLaid}
 use Rattle.refusal.specs.declared.Cause.the-variants as cause
-
--- what the filter drops ends beside tab, newline, return and space
-edges : filtered (0x00 ∷ 0x08 ∷ 0x09 ∷ 0x0A ∷ 0x0B ∷ 0x0C ∷ 0x0D ∷ 0x0E ∷ 0x1F ∷ 0x20 ∷ 0x7F ∷ []) ≡ 0x09 ∷ 0x0A ∷ 0x0D ∷ 0x20 ∷ 0x7F ∷ []
-edges = refl
 
 -- U+0001 is dropped, and &lt; decoded
 decoded-filtered : valueText (0x01 ∷ 0x26 ∷ 0x6C ∷ 0x74 ∷ 0x3B ∷ []) ≡ 0x3C ∷ []

@@ -20,22 +20,30 @@ use Rattle.text.specs.declared.decode.Piece.{Piece}
 use Rattle.text.proofs.Cleaning.{cleaned-append, cleaned-nil}
 
 -- the first piece, and the rest
-piece-on : (s : List ℕ) → 0 < length s → decoded s 0 ≡ pieceOf s ++ decoded (drop (pieceWidth s) s) 0
-piece-on [] h = absurd (not-suc-le-zero h)
-piece-on (b ∷ s) h = go (eqb b 0x26)
+piece-on : (s : List ℕ) → decoded s 0 ≡ pieceOf s ++ decoded (drop (pieceWidth s) s) 0
+piece-on [] = refl
+piece-on (b ∷ s) = go (eqb b 0x26)
   where
     go : (t : Bool) → cond t (encode (codeOf (refAt s)) ++ decoded s (bytesOf (refAt s))) (b ∷ decoded s 0)
         ≡ cond t (encode (codeOf (refAt s))) (b ∷ []) ++ decoded (drop (cond t (suc (bytesOf (refAt s))) 1) (b ∷ s)) 0
     go true = ap (λ (l : List ℕ). encode (codeOf (refAt s)) ++ l) (decoded-drop s (bytesOf (refAt s)))
     go false = refl
 
-width-in : (s : List ℕ) → 0 < length s → (0 < pieceWidth s) × (pieceWidth s ≤ length s)
-width-in [] h = absurd (not-suc-le-zero h)
-width-in (b ∷ s) h = go (eqb b 0x26) (ref-fits s)
+width-some : (s : List ℕ) → 0 < length s → 0 < pieceWidth s
+width-some [] h = absurd (not-suc-le-zero h)
+width-some (b ∷ s) h = go (eqb b 0x26)
   where
-    go : (t : Bool) → bytesOf (refAt s) ≤ length s → (0 < cond t (suc (bytesOf (refAt s))) 1) × (cond t (suc (bytesOf (refAt s))) 1 ≤ suc (length s))
-    go true f = (omega arith, omega arith)
-    go false f = (omega arith, omega arith)
+    go : (t : Bool) → 0 < cond t (suc (bytesOf (refAt s))) 1
+    go true = omega arith
+    go false = omega arith
+
+width-in : (s : List ℕ) → pieceWidth s ≤ length s
+width-in [] = omega arith
+width-in (b ∷ s) = go (eqb b 0x26) (ref-fits s)
+  where
+    go : (t : Bool) → bytesOf (refAt s) ≤ length s → cond t (suc (bytesOf (refAt s))) 1 ≤ suc (length s)
+    go true f = omega arith
+    go false f = omega arith
 
 -- no piece at the end
 pub piece-none : (s : List ℕ) (clean : Bool) → length s ≡ 0 → (p : Piece) → p .n ≡ 0 → p .width ≡ 0 → Pieced (cleaned clean (pieceOf s)) (pieceWidth s) p
@@ -81,32 +89,38 @@ pub pieced-on : {f g : List ℕ} {v w : ℕ} {p : Piece} → Pieced f v p → f 
 pieced-on k e m = record { fits = k .fits; front = k .front ∙ e; takes = k .takes ∙ m }
 
 -- a piece p was made of the part of s that begins at i
-module _ (clean : Bool) (s : List ℕ) (i : ℕ) (h : i < length s) (p : Piece)
+module _ (clean : Bool) (s : List ℕ) (i : ℕ) (h : i ≤ length s) (p : Piece)
     (k : Pieced (cleaned clean (pieceOf (take (length s - i) (drop i s)))) (pieceWidth (take (length s - i) (drop i s))) p) where
   here : Pieced (cleaned clean (pieceOf (drop i s))) (pieceWidth (drop i s)) p
   here = rw (rest-part s i) at k
 
-  some : 0 < length (drop i s)
-  some = rw (length-drop i s) (omega arith)
+  -- a piece ends in the value, also at its end
+  pub fits-at : i + p .width ≤ length s
+  fits-at = rw (here .takes) (let f : pieceWidth (drop i s) ≤ length (drop i s) = width-in (drop i s) in omega (arith, simp length-drop at f))
 
+  pub next-at : cleaned clean (decoded (drop i s) 0) ≡ take (p .n) (p .bytes) ++ cleaned clean (decoded (drop (i + p .width) s) 0)
+  next-at =
+      ap (cleaned clean) (piece-on (drop i s) ∙ ap (λ (l : List ℕ). pieceOf (drop i s) ++ decoded l 0) (drop-drop (pieceWidth (drop i s)) i s))
+      ∙ cleaned-append clean (pieceOf (drop i s)) (decoded (drop (i + pieceWidth (drop i s)) s) 0)
+      ∙ rw (here .front, here .takes) refl
+
+module _ (clean : Bool) (s : List ℕ) (i : ℕ) (h : i < length s) (p : Piece)
+    (k : Pieced (cleaned clean (pieceOf (take (length s - i) (drop i s)))) (pieceWidth (take (length s - i) (drop i s))) p) where
   -- a piece has as many bytes as it says
   pub piece-length : length (take (p .n) (p .bytes)) ≡ p .n
   piece-length = length-take-le (p .n) (p .bytes) (k .fits)
 
   -- a piece takes some byte of the value, so that the loop ends
   pub piece-moves : 0 < p .width
-  piece-moves = rw (here .takes) (width-in (drop i s) some .0)
+  piece-moves = rw (here clean s i (omega arith) p k .takes) (width-some (drop i s) (rw (length-drop i s) (omega arith)))
 
   -- a piece ends in the value: the bound for the next turn
   pub piece-fits : i + p .width ≤ length s
-  piece-fits = rw (here .takes) (let f : pieceWidth (drop i s) ≤ length (drop i s) = width-in (drop i s) some .1 in omega (arith, simp length-drop at f))
+  piece-fits = fits-at clean s i (omega arith) p k
 
   -- what the value stands for from here on: the piece, and what it stands for behind it
   pub piece-next : cleaned clean (decoded (drop i s) 0) ≡ take (p .n) (p .bytes) ++ cleaned clean (decoded (drop (i + p .width) s) 0)
-  piece-next =
-      ap (cleaned clean) (piece-on (drop i s) some ∙ ap (λ (l : List ℕ). pieceOf (drop i s) ++ decoded l 0) (drop-drop (pieceWidth (drop i s)) i s))
-      ∙ cleaned-append clean (pieceOf (drop i s)) (decoded (drop (i + pieceWidth (drop i s)) s) 0)
-      ∙ rw (here .front, here .takes) refl
+  piece-next = next-at clean s i (omega arith) p k
 
 -- behind the end a value stands for nothing more
 pub piece-end : (clean : Bool) (s : List ℕ) (i : ℕ) → length s ≤ i → cleaned clean (decoded (drop i s) 0) ≡ []

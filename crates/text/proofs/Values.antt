@@ -11,9 +11,9 @@ use Rattle.utf8.specs.Utf8.{utf8}
 use Rattle.reference.specs.Reference.{refsOk, decoded, noAmpersand}
 use Rattle.reference.proofs.Decoding.{plain-refs, plain-decoded, decoded-length}
 use Rattle.reference.proofs.Keeping.{utf8-decoded}
-use Rattle.text.specs.Filter.{filtered, unfiltered}
+use Rattle.text_filter.specs.Filter.{filtered, unfiltered}
 use Rattle.text.specs.Value.{valueText, checkedOf, valueOf}
-use Rattle.text.proofs.Filtering.{utf8-filtered, unfiltered-filtered, filtered-same, length-filtered}
+use Rattle.text_filter.proofs.Filtering.{utf8-filtered, unfiltered-filtered, filtered-same, length-filtered}
 use Rattle.text.proofs.Putting.{both-yes}
 use Rattle.refusal.specs.declared.Cause.the-variants as cause
 

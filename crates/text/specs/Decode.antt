@@ -10,7 +10,7 @@ use Rattle.area.specs.Area.{placing, laid}
 use Rattle.utf8.specs.Utf8.{utf8}
 use Rattle.utf8.specs.Characters.{encode}
 use Rattle.reference.specs.Reference.{refAt, codeOf, bytesOf, refsOk, decoded}
-use Rattle.text.specs.Filter.{filtered}
+use Rattle.text_filter.specs.Filter.{filtered}
 use Rattle.text.specs.declared.decode.Piece.{Piece}
 use Rattle.refusal.specs.declared.Cause.the-variants as cause
 use Rattle.refusal.specs.declared.Cause.{Cause}

@@ -1,4 +1,4 @@
-pub mod Filter
 pub mod Kept
 pub mod Decode
 pub mod Value
+pub mod inside

@@ -5,7 +5,7 @@ use mathlib.Core.Bool.{true, cond}
 use Rattle.area.specs.Answer.{Answer, gives, refuses}
 use Rattle.utf8.specs.Utf8.{utf8}
 use Rattle.reference.specs.Reference.{refsOk, decoded}
-use Rattle.text.specs.Filter.{filtered}
+use Rattle.text_filter.specs.Filter.{filtered}
 use Rattle.text.specs.Decode.{decodedOf, decodedLaid}
 use Rattle.text.specs.declared.value.Checked.{Checked}
 use Rattle.text.specs.declared.value.Checked.the-variants.{Good, NotUtf8, BadReference}

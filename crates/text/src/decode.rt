@@ -1,5 +1,4 @@
 // What a value with references stands for, one piece after the other: a byte, or the character of a reference.
-use crate::filter::is_dropped;
 use crate::kept::Kept;
 use crate::kept::kept_of;
 use crate::value::Checked;
@@ -8,6 +7,7 @@ use area::Stored;
 use area::copy_into;
 use reference::Ref;
 use reference::ref_at;
+use text_filter::is_dropped;
 use utf8_chars::encode_of;
 ghost use mathlib.Core.Path.{_≡_};
 ghost use mathlib.Core.List.{[], _∷_, _++_};
@@ -17,6 +17,7 @@ ghost use Rattle.area.specs.Area.{storedAnswer, placing, laid};
 ghost use Rattle.reference.specs.Reference.{decoded};
 ghost use Rattle.text.specs.Kept.{keptAnswer};
 ghost use Rattle.text.specs.Decode.{cleaned, pieceOf, pieceWidth, Pieced, decodedOf, decodedLaid};
+ghost use Rattle.text.specs.inside.Plain.{plain, run};
 ghost use Rattle.refusal.specs.declared.Cause.the-variants as cause;
 ghost use Rattle.refusal.specs.declared.Cause.{Cause};
 
@@ -86,6 +87,31 @@ fn put_piece(out: &mut [u8], k: usize, p: Piece) -> Stored
     copy_into(&mut out[k..], &bytes[..n])
 }
 
+// How many bytes at the front of s are put as they are.
+fn run_of(s: &[u8], clean: bool) -> usize
+    ensures { λ r. ⌜ r ≡ run clean (now (s .entry)) ⌝ }
+{
+    let mut i = 0;
+    while i < s.len() {
+        let b = s[i];
+        if (b == 0x26) | (clean & is_dropped(b)) {
+            return i;
+        }
+        i += 1;
+    }
+    i
+}
+
+// Puts them into out from k on.
+fn put_run(out: &mut [u8], k: usize, s: &[u8], clean: bool) -> Stored
+    requires { ⌜ k ≤ length (now out) ⌝ }
+    ensures { λ r. ⌜ storedAnswer cause.OutputFull r ≡ placing cause.OutputFull (length (now (out .entry)) - k) (take (run clean (now (s .entry))) (now (s .entry))) ⌝ }
+    ensures { λ r. ⌜ now (out .exit) ≡ take k (now (out .entry)) ++ laid (drop k (now (out .entry))) (take (run clean (now (s .entry))) (now (s .entry))) ⌝ }
+{
+    let n = run_of(s, clean);
+    copy_into(&mut out[k..], &s[..n])
+}
+
 // Puts what s stands for at the front of out, filtered where `clean` asks for it; only what is put needs room (rule M7).
 pub fn write_decoded(out: &mut [u8], s: &[u8], clean: bool) -> Stored
     ensures { λ r. ⌜ storedAnswer cause.TextFull r ≡ placing cause.TextFull (length (now (out .entry))) (cleaned clean (decoded (now (s .entry)) 0)) ⌝ }
@@ -94,6 +120,12 @@ pub fn write_decoded(out: &mut [u8], s: &[u8], clean: bool) -> Stored
     let mut i = 0;
     let mut k = 0;
     while i < s.len() {
+        let run = put_run(out, k, &s[i..], clean);
+        let Stored::Put(m) = run else {
+            return Stored::Full;
+        };
+        k += m;
+        i += m;
         let p = piece_of(&s[i..], clean);
         let put = put_piece(out, k, p);
         let Stored::Put(n) = put else {
@@ -105,11 +137,29 @@ pub fn write_decoded(out: &mut [u8], s: &[u8], clean: bool) -> Stored
     Stored::Put(k)
 }
 
-// 2 and 10 come before a refusal for want of room (rule M7): the whole value is checked before any of it is put.
+// Whether every byte is plain. No way out of the loop before its end, so that many bytes are tested at a time.
+fn is_plain(s: &[u8]) -> bool
+    ensures { λ r. ⌜ r ≡ plain (now (s .entry)) ⌝ }
+{
+    let mut odd = false;
+    let mut i = 0;
+    while i < s.len() {
+        let b = s[i];
+        odd = odd | ((b == 0x26) | ((b < 0x20) | (0x7f < b)));
+        i += 1;
+    }
+    !odd
+}
+
+// 2 and 10 come before a refusal for want of room (rule M7): the whole value is checked before any of it is put. A plain value is
+// put as it is.
 pub fn put_decoded(out: &mut [u8], s: &[u8], clean: bool) -> Kept
     ensures { λ r. ⌜ ((short : Cause) → keptAnswer short r ≡ decodedOf short clean (length (now (out .entry))) (now (s .entry))) ⌝ }
     ensures { λ r. ⌜ now (out .exit) ≡ decodedLaid clean (now (out .entry)) (now (s .entry)) ⌝ }
 {
+    if is_plain(s) {
+        return kept_of(copy_into(out, s));
+    }
     let checked = check_value(s);
     match checked {
         Checked::Good => kept_of(write_decoded(out, s, clean)),

@@ -1,5 +1,4 @@
-// Texts on their way into a lent area: the filter, attribute values.
+// Attribute values on their way into a lent area.
 pub mod decode;
-pub mod filter;
 pub mod kept;
 pub mod value;

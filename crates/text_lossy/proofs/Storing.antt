@@ -10,8 +10,8 @@ use Rattle.utf8_lossy.specs.Lossy.{partText, lossy, Parted}
 use Rattle.utf8_lossy.specs.declared.Part.{Part}
 use Rattle.utf8_lossy.proofs.Parts.{parted-whole, parted-bad}
 use Rattle.utf8_lossy.proofs.Replacing.{utf8-lossy, lossy-same, length-lossy}
-use Rattle.text.specs.Filter.{filtered, unfiltered}
-use Rattle.text.proofs.Filtering.{utf8-filtered, unfiltered-filtered, length-filtered}
+use Rattle.text_filter.specs.Filter.{filtered, unfiltered}
+use Rattle.text_filter.proofs.Filtering.{utf8-filtered, unfiltered-filtered, length-filtered}
 use Rattle.text_lossy.specs.LossyText.{lossyText}
 
 -- what the filter leaves of a part

@@ -2,7 +2,7 @@
 -- the filter is applied (rule B6). Definitions only.
 use Prim.Native.Nat.{ℕ}
 use mathlib.Core.List.{List}
-use Rattle.text.specs.Filter.{filtered}
+use Rattle.text_filter.specs.Filter.{filtered}
 use Rattle.utf8_lossy.specs.Lossy.{lossy}
 
 -- rule B6

@@ -1,13 +1,13 @@
 // Texts that go in lossily: read as UTF-8 with U+FFFD for what is none, filtered and stored in one go, with no other memory.
 use area::Stored;
-use text::filter::store;
+use text_filter::store;
 use utf8_lossy::Part;
 use utf8_lossy::part_of;
 use utf8_lossy::put_part;
 ghost use mathlib.Core.Path.{_≡_};
 ghost use lib.ListN.{length};
 ghost use Rattle.area.specs.Area.{storedAnswer, placing, laid};
-ghost use Rattle.text.specs.Filter.{filtered};
+ghost use Rattle.text_filter.specs.Filter.{filtered};
 ghost use Rattle.utf8_lossy.specs.Lossy.{partText, Parted};
 ghost use Rattle.text_lossy.specs.LossyText.{lossyText};
 ghost use Rattle.refusal.specs.declared.Cause.the-variants as cause;

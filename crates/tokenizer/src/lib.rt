@@ -16,6 +16,7 @@ use xml_ends::finish;
 use xml_ends::refused;
 use xml_moves::move_at;
 use xml_put::act_on;
+use xml_skip::ahead;
 use xml_state::Step;
 use xml_state::Tokenized;
 
@@ -36,18 +37,21 @@ fn run_with(
     let mut at = 0;
     while at < source.len() {
         let i = at;
-        at += 1;
         let b = source[i];
         let m = move_at(st.mode, b, classes, nexts, acts);
-        if m.act == b'.' {
-            st.mode = m.mode;
-        } else {
-            match act_on(st, m, b, i as u32, source, events, attributes) {
-                Step::Go(s) => {
-                    st = s;
+        at = ahead(m, source, i, st.mode, classes, nexts, acts);
+        if at == i {
+            at = i + 1;
+            if m.act == b'.' {
+                st.mode = m.mode;
+            } else {
+                match act_on(st, m, b, i as u32, source, events, attributes) {
+                    Step::Go(s) => {
+                        st = s;
+                    }
+                    Step::Full => return Tokenized::Refused(16, NOWHERE),
+                    Step::Bad => return refused(st, i as u32, source, events.len()),
                 }
-                Step::Full => return Tokenized::Refused(16, NOWHERE),
-                Step::Bad => return refused(st, i as u32, source, events.len()),
             }
         }
     }

@@ -9,7 +9,7 @@ use lib.ListN.{length, take, drop}
 use Rattle.area.specs.Area.{firstAt}
 use Rattle.area.proofs.Parts.{rest-part}
 use Rattle.utf8.specs.Utf8.{utf8}
-use Rattle.text.specs.Filter.{unfiltered}
+use Rattle.text_filter.specs.Filter.{unfiltered}
 use Rattle.tree_report.specs.Layout.{filled, allZero, goodText}
 
 -- the texts up to the first zero byte are the area's front

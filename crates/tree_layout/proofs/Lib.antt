@@ -1,4 +1,3 @@
-pub mod Clean
 pub mod Filling
 pub mod Walking
 pub mod Whole

@@ -10,7 +10,7 @@ use Rattle.area.proofs.Laying.{laid-zeros}
 use Rattle.area.specs.Area.{zeros, laid}
 use Rattle.utf8.specs.Characters.{joined}
 use Rattle.utf8.specs.Utf8.{utf8}
-use Rattle.text.specs.Filter.{unfiltered}
+use Rattle.text_filter.specs.Filter.{unfiltered}
 use Rattle.tree_report.specs.Encode.{Row, every, fitsRow, pairRow, isFlakyAlone, runRow, statusRows, caseRows, suiteRows, rowsOf}
 use Rattle.tree_report.specs.Fields.{kindOf, live}
 use Rattle.tree_report.specs.Layout.{usedWords, usedText, allZero, filled, goodText, allGood, bitsFor, nothing, goodOrder, recordsOf, layout}

@@ -13,7 +13,7 @@ use Rattle.utf8.specs.Utf8.{utf8}
 use Rattle.tree_report.specs.Encode.{Cell, absent, written, valued, constant, storedIn, cellsOf, cellsIn, Row, recordAt, recordsAt, every, fitsCell, fitsMoment}
 use Rattle.tree_report.specs.Encode.{fitsTime, fitsRow, pairRow, isFlakyAlone, runRow, statusRows, caseRows, suiteRows, rowsOf, encode, wordsOf, textOf, fits}
 use Rattle.tree_report.specs.Fields.{kindOf, live}
-use Rattle.text.specs.Filter.{unfiltered}
+use Rattle.text_filter.specs.Filter.{unfiltered}
 use Rattle.tree_report.specs.Layout.{usedWords, usedText, allZero, filled, goodText, allGood, bitsFor, nothing, goodOrder, recordsOf, layout}
 use Rattle.tree_report.specs.Report.{Pair, flaky, TestCaseStatus, success, nonSuccess, skipped, TestCase, TestSuite, Report}
 use Rattle.tree_report.specs.ReportOf.{only, reportFrom, reportOf}

@@ -14,7 +14,7 @@ use Rattle.utf8.proofs.Rules.{utf8-append}
 use Rattle.utf8.specs.Characters.{boundary}
 use Rattle.utf8.specs.Utf8.{utf8}
 use Rattle.tree_report.specs.Encode.{Cell, written, stored, storedIn}
-use Rattle.text.specs.Filter.{dropped, unfiltered}
+use Rattle.text_filter.specs.Filter.{dropped, unfiltered}
 use Rattle.tree_report.specs.Layout.{allZero, filled, goodText}
 use Rattle.tree_report.specs.Report.{Text}
 use Rattle.tree_report.proofs.EncodeLists.{Each, done, more, both, and-left, and-right, stored-append}

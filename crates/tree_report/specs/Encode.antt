@@ -9,7 +9,7 @@ use Rattle.area.specs.Area.{zeros, laid}
 use Rattle.area.specs.Limits.{mostRecords, mostBytes}
 use Rattle.utf8.specs.Characters.{joined}
 use Rattle.utf8.specs.Utf8.{utf8}
-use Rattle.text.specs.Filter.{unfiltered}
+use Rattle.text_filter.specs.Filter.{unfiltered}
 use Rattle.timestamp.specs.Timestamp.{inRange}
 use Rattle.timestamp.specs.declared.Moment.{Moment}
 use Rattle.uuid.specs.declared.Words.{Words}

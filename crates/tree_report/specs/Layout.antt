@@ -6,7 +6,7 @@ use lib.ListN.{length, getD, take, drop}
 use lib.Dec.{leb, eqb}
 use Rattle.utf8.specs.Utf8.{utf8}
 use Rattle.utf8.specs.Characters.{boundary}
-use Rattle.text.specs.Filter.{unfiltered}
+use Rattle.text_filter.specs.Filter.{unfiltered}
 use Rattle.timestamp.specs.Timestamp.{inRange}
 use Rattle.area.specs.Limits.{mostWords, mostBytes}
 use Rattle.tree_record.specs.Words as word

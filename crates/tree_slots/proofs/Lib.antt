@@ -1,3 +1,3 @@
-pub mod Passing
+pub mod Zeros
 pub mod Ends
 pub mod Presence

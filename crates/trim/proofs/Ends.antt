@@ -83,7 +83,7 @@ module _ (c : List ℕ) (black : blank c ≡ false) where
   some-end [] = refl
   some-end (x ∷ cs) = refl
 
-  end-black : (cs : List (List ℕ)) → noEnd (cs ++ (c ∷ [])) ≡ cs ++ (c ∷ [])
+  pub end-black : (cs : List (List ℕ)) → noEnd (cs ++ (c ∷ [])) ≡ cs ++ (c ∷ [])
   end-black [] = rw black
   end-black (x ∷ cs) = rw (end-black cs, some-end cs, and-false (blank x)) refl
 

@@ -1,3 +1,4 @@
 pub mod Trimming
 pub mod Ends
+mod Backward
 pub mod Examples

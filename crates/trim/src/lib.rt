@@ -61,8 +61,8 @@ fn start_of(s: &[u8]) -> usize
     i
 }
 
-// The place behind the last character that is not white.
-fn end_of(s: &[u8]) -> usize
+// The place behind the last character that is not white, going forward, character by character.
+fn end_forward(s: &[u8]) -> usize
     ensures { λ r. ⌜ (r ≤ length (now (s .entry))) × (joined (noEnd (chars (now (s .entry)))) ≡ take r (now (s .entry))) ⌝ }
 {
     let mut to = 0;
@@ -76,6 +76,24 @@ fn end_of(s: &[u8]) -> usize
         }
     }
     to
+}
+
+// The same, going back over the ASCII that stands at the end.
+fn end_of(s: &[u8]) -> usize
+    ensures { λ r. ⌜ (r ≤ length (now (s .entry))) × (joined (noEnd (chars (now (s .entry)))) ≡ take r (now (s .entry))) ⌝ }
+{
+    let mut n = s.len();
+    while 0 < n {
+        let b = s[n - 1];
+        if 0x80 <= b {
+            return end_forward(s);
+        }
+        if !is_white(b as u32) {
+            return n;
+        }
+        n -= 1;
+    }
+    n
 }
 
 // By rule X10.

@@ -1,4 +1,5 @@
 pub mod Runs
+mod Ascii
 pub mod Scalars
 pub mod Forms
 pub mod Rules

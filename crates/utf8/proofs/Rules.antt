@@ -11,6 +11,7 @@ use lib.Dec.{leb, ltb, lit≤}
 use lib.ListN.{length, take, drop, length-drop, take-append-drop}
 use Rattle.utf8.specs.Grammar.{In, Tail, Char, one, two, three-e0, three-e1, three-ed, three-ee, four-f0, four-f1, four-f4, Text, none, some}
 use Rattle.utf8.specs.Utf8.{need, low, high, within, runs, ok, utf8, width}
+use Rattle.utf8.specs.inside.Ascii.{ascii}
 use Rattle.utf8.proofs.Runs.{need-ascii, ok-zero, ok-runs}
 
 -- UTF-8 in front of anything
@@ -166,11 +167,6 @@ char-size (four-f4 h p q t) = (lit≤ tt, lit≤ tt)
 text-utf8 : {s : List ℕ} → Text s → utf8 s ≡ true
 text-utf8 none = refl
 text-utf8 (some {s = s} c t) = char-on c s ∙ text-utf8 t
-
--- bytes below 80 in front of anything
-abbrev pub ascii : List ℕ → Bool
-ascii [] = true
-ascii (b ∷ s) = ltb b 0x80 && ascii s
 
 -- ASCII in front changes nothing about a text's being UTF-8
 pub ascii-append : (a s : List ℕ) → ascii a ≡ true → utf8 (a ++ s) ≡ utf8 s

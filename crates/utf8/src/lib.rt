@@ -1,6 +1,7 @@
 // UTF-8, by RFC 3629.
 ghost use mathlib.Core.Path.{_≡_};
 ghost use Rattle.utf8.specs.Utf8.{need, low, high, utf8};
+ghost use Rattle.utf8.specs.inside.Ascii.{ascii};
 
 // How many bytes follow the lead byte b.
 pub fn need_of(b: u8) -> usize
@@ -50,8 +51,21 @@ pub fn high_of(b: u8) -> u8
     0xbf
 }
 
-// By rule X2, in one loop over the bytes: k bytes of a character are still to come, the next from lo to hi.
-pub fn is_utf8(s: &[u8]) -> bool
+// Whether every byte is a character by itself. No exit before the end: so the compiler takes many bytes at a time.
+fn is_ascii(s: &[u8]) -> bool
+    ensures { λ r. ⌜ r ≡ ascii (now (s .entry)) ⌝ }
+{
+    let mut odd = false;
+    let mut i = 0;
+    while i < s.len() {
+        odd = odd | (0x80 <= s[i]);
+        i += 1;
+    }
+    !odd
+}
+
+// In one loop over the bytes: k bytes of a character are still to come, the next from lo to hi.
+fn is_run(s: &[u8]) -> bool
     ensures { λ r. ⌜ r ≡ utf8 (now (s .entry)) ⌝ }
 {
     let mut i = 0;
@@ -78,4 +92,14 @@ pub fn is_utf8(s: &[u8]) -> bool
         }
     }
     k == 0
+}
+
+// By rule X2. Most texts are ASCII.
+pub fn is_utf8(s: &[u8]) -> bool
+    ensures { λ r. ⌜ r ≡ utf8 (now (s .entry)) ⌝ }
+{
+    if is_ascii(s) {
+        return true;
+    }
+    is_run(s)
 }

@@ -13,9 +13,9 @@ use Rattle.utf8.specs.Characters.{encode}
 use Rattle.reference.specs.Reference.{entities, entityChars, entityChar, isCharRef, number, isNamed, charOf, refsOk, decoded}
 use Rattle.reference.proofs.Letters.{five-entity, five-char}
 use Rattle.reference.proofs.Decoding.{refs-name, decoded-name, decoded-length}
-use Rattle.text.specs.Filter.{filtered, unfiltered}
+use Rattle.text_filter.specs.Filter.{filtered, unfiltered}
 use Rattle.text.specs.Value.{valueText, checkedOf, valueOf}
-use Rattle.text.proofs.Filtering.{filtered-same}
+use Rattle.text_filter.proofs.Filtering.{filtered-same}
 use Rattle.text.proofs.Putting.{both-yes}
 use Rattle.write_escape.specs.Escape.{written, escaped}
 use Rattle.write_escape.proofs.Keeping.{by-case, utf8-escaped}

@@ -11,7 +11,8 @@ use Rattle.names.specs.Bytes.{bytes}
 use Rattle.escape.proofs.Spelling.{spelled-length}
 use Rattle.utf8.specs.Utf8.{need, low, high, within, ok, utf8}
 use Rattle.utf8.proofs.Runs.{low-least, ok-zero}
-use Rattle.utf8.proofs.Rules.{ascii, ascii-on, ascii-append}
+use Rattle.utf8.specs.inside.Ascii.{ascii}
+use Rattle.utf8.proofs.Rules.{ascii-on, ascii-append}
 use Rattle.write_escape.specs.Escape.{written, escaped, isMarkup, noMarkup}
 use Rattle.write_escape.proofs.Escaping.{written-plain}
 

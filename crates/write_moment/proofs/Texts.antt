@@ -7,7 +7,8 @@ use borrow.Author.Tests.{lt-ltb}
 use lib.Dec.{ltb}
 use lib.ListN.{length}
 use Rattle.utf8.specs.Utf8.{utf8}
-use Rattle.utf8.proofs.Rules.{ascii, ascii-utf8}
+use Rattle.utf8.specs.inside.Ascii.{ascii}
+use Rattle.utf8.proofs.Rules.{ascii-utf8}
 use Rattle.timestamp.specs.declared.Moment.{Moment}
 use Rattle.write_moment.specs.Written.{dateText, clockText, offsetText, timestampText, sign}
 

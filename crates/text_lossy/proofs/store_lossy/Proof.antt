@@ -4,8 +4,8 @@ use native.Mathlib.Omega.{arith}
 use borrow.Author.Needs.{needs}
 use lib.ListN.{length, drop}
 use Rattle.area.proofs.Laying.{Laying, laying-start, laying-on, laying-done, length-laid}
-use Rattle.text.specs.Filter.{filtered}
-use Rattle.text.proofs.Filtering.{filtered-append}
+use Rattle.text_filter.specs.Filter.{filtered}
+use Rattle.text_filter.proofs.Filtering.{filtered-append}
 use Rattle.utf8_lossy.proofs.Putting.{part-moves, part-fits, part-full, part-put, put-room}
 use Rattle.utf8_lossy.proofs.Replacing.{lossy-end}
 use Rattle.text_lossy.specs.LossyText.{lossyText}

@@ -1,11 +1,12 @@
-use Rattle.xml_agree.proofs.Whole.{agrees}
-use Rattle.xml_records.proofs.Loop.{at-start, mode-here, over, stay-on, go-on, full-out, bad-out, whole}
-use Rattle.xml_records.specs.inside.Loop.{At}
-use lib.ListN.{length}
-use native.Mathlib.Omega.{arith}
-use mathlib.Core.Path.{_∙_}
-use Prim.Native.Nat.{_-_}
 use borrow.Author.Needs.{needs}
+use Prim.Native.Nat.{_-_}
+use mathlib.Core.Path.{_∙_}
+use native.Mathlib.Omega.{arith}
+use lib.ListN.{length}
+use Rattle.xml_skip.proofs.Passing.{passed}
+use Rattle.xml_records.specs.inside.Loop.{At}
+use Rattle.xml_records.proofs.Loop.{at-start, mode-here, over, stay-on, go-on, full-out, bad-out, whole}
+use Rattle.xml_agree.proofs.Whole.{agrees}
 use Rattle.tokenizer.proofs.run_with.Statement.{statement}
 use Rattle.tokenizer.proofs.run_with.Tie as tie
 
@@ -19,54 +20,66 @@ begin-requires : tie.Need-begin-requires Inv-loop μ-loop
 begin-requires c κs = search needs
 
 loop-holds : tie.Need-loop-holds Inv-loop μ-loop
-loop-holds c =
-    let start = c .before .before .before .before .before .before .before in
+loop-holds c = let start = c .before .before .before .before .before .before .before in
     rw (c .begin .ensures) (at-start (start .args .source .now) (start .args .events .now) (start .args .attributes .now) (start .pre .0) (start .pre .1 .0 .0) (start .pre .1 .0 .1))
-
-add-at : tie.Need-add-at Inv-loop μ-loop
-add-at c = omega (arith, c .before .loop .inv .short)
 
 shared-slice-read-b : tie.Need-shared-slice-read-b Inv-loop μ-loop
 shared-slice-read-b c = search needs
 
 move-at-requires : tie.Need-move-at-requires Inv-loop μ-loop
 move-at-requires c κs =
-    let pre = c .before .before .before .before .before .before .before .before .before .before .pre in
-    (mode-here (c .before .before .loop .inv), pre .1 .1)
+    let pre-step = c .before .before .before .before .before .before .before .before .before .before .pre in
+    (mode-here (c .before .before .loop .inv), pre-step .1 .1)
+
+ahead-requires : tie.Need-ahead-requires Inv-loop μ-loop
+ahead-requires c κs =
+    let pre = c .before .before .before .before .before .before .before .before .before .before .before .pre in
+    (c .before .before .loop-test .taken, (c .move-at .ensures, (mode-here (c .before .before .before .loop .inv), pre .1 .1)))
+
+add-at : tie.Need-add-at Inv-loop μ-loop
+add-at c =
+    let loop = c .before .before .before .before .before .loop in
+    let loop-test = c .before .before .before .before .loop-test in
+    omega (arith, loop .inv .short, loop-test .taken)
 
 loop-less : tie.Need-loop-less Inv-loop μ-loop
-loop-less c = omega arith
+loop-less c =
+    let loop-test = c .before .before .before .before .before .before .loop-test in
+    omega (arith, loop-test .taken)
 
 loop-again : tie.Need-loop-again Inv-loop μ-loop
 loop-again c =
-    let loop = c .before .before .before .before .before .loop in
-    let loop-test = c .before .before .before .before .loop-test in
-    stay-on (loop .inv) (agrees (loop-test .taken) (loop .inv .stands .rep)) (loop-test .taken) _ (c .before .before .move-at .ensures) (c .if1 .taken)
+    let loop-test = c .before .before .before .before .before .before .loop-test in
+    let move-at = c .before .before .before .before .move-at in
+    let inv = c .before .before .before .before .before .before .before .loop .inv in
+    stay-on inv (agrees (loop-test .taken) (inv .stands .rep)) (loop-test .taken) _ (move-at .ensures) (c .if2 .taken)
 
 cast-act-on : tie.Need-cast-act-on Inv-loop μ-loop
 cast-act-on c =
-    let loop = c .before .before .before .before .before .loop in
+    let loop = c .before .before .before .before .before .before .before .loop in
     omega (arith, loop .inv .short)
 
 act-on-requires : tie.Need-act-on-requires Inv-loop μ-loop
 act-on-requires c κs =
-    let loop = c .before .before .before .before .before .before .before .loop in
+    let loop = c .before .before .before .before .before .before .before .before .before .loop in
     omega (arith, loop .inv .short)
 
 enum-known-s : tie.Need-enum-known-s Inv-loop μ-loop
 enum-known-s c = search needs
 
 loop-less-2 : tie.Need-loop-less-2 Inv-loop μ-loop
-loop-less-2 c = omega arith
+loop-less-2 c =
+    let loop-test = c .before .before .before .before .before .before .before .before .before .before .before .before .before .before .before .before .loop-test in
+    omega (arith, loop-test .taken)
 
 loop-again-2 : tie.Need-loop-again-2 Inv-loop μ-loop
 loop-again-2 c =
-    let loop = c .before .before .before .before .before .before .before .before .before .before .before .before .before .before .before .loop in
-    let loop-test = c .before .before .before .before .before .before .before .before .before .before .before .before .before .before .loop-test in
-    let move-at = c .before .before .before .before .before .before .before .before .before .before .before .before .move-at in
-    let if1 = c .before .before .before .before .before .before .before .before .before .before .if1 in
+    let loop-test = c .before .before .before .before .before .before .before .before .before .before .before .before .before .before .before .before .loop-test in
+    let move-at = c .before .before .before .before .before .before .before .before .before .before .before .before .before .before .move-at in
+    let if2 = c .before .before .before .before .before .before .before .before .before .before .if2 in
+    let inv = c .before .before .before .before .before .before .before .before .before .before .before .before .before .before .before .before .before .loop .inv in
     let act-on = c .before .before .before .before .before .before .before .act-on in
-    go-on (loop .inv) (agrees (loop-test .taken) (loop .inv .stands .rep)) (loop-test .taken) _ (move-at .ensures) (if1 .left)
+    go-on inv (agrees (loop-test .taken) (inv .stands .rep)) (loop-test .taken) _ (move-at .ensures) (if2 .left)
     _ _ _ (act-on .ensures) (act-on .kept .1 .1 .1 .1 .1 .0) (act-on .kept .1 .1 .1 .1 .1 .1 .0) _ (c .before .s .given .1)
 
 enum-told : tie.Need-enum-told Inv-loop μ-loop
@@ -74,60 +87,70 @@ enum-told c = search needs
 
 same-length : tie.Need-same-length Inv-loop μ-loop
 same-length c =
-    let loop = c .before .before .before .before .before .before .before .before .before .before .before .before .before .before .loop in
-    let act-on = c .before .before .before .before .before .before .act-on in
-    act-on .kept .1 .1 .1 .1 .1 .0 ∙ loop .inv .long
+    let loop = c .before .before .before .before .before .before .before .before .before .before .before .before .before .before .before .before .loop in
+    let act-on-step = c .before .before .before .before .before .before .act-on in
+    act-on-step .kept .1 .1 .1 .1 .1 .0 ∙ loop .inv .long
 
 same-length-2 : tie.Need-same-length-2 Inv-loop μ-loop
 same-length-2 c =
-    let loop = c .before .before .before .before .before .before .before .before .before .before .before .before .before .before .loop in
-    let act-on = c .before .before .before .before .before .before .act-on in
-    act-on .kept .1 .1 .1 .1 .1 .1 .0 ∙ loop .inv .broad
+    let loop = c .before .before .before .before .before .before .before .before .before .before .before .before .before .before .before .before .loop in
+    let act-on-step = c .before .before .before .before .before .before .act-on in
+    act-on-step .kept .1 .1 .1 .1 .1 .1 .0 ∙ loop .inv .broad
 
 returns : tie.Need-returns Inv-loop μ-loop
 returns c =
-    let loop = c .before .before .before .before .before .before .before .before .before .before .before .before .before .before .loop in
-    let loop-test = c .before .before .before .before .before .before .before .before .before .before .before .before .before .loop-test in
-    let move-at = c .before .before .before .before .before .before .before .before .before .before .before .move-at in
-    let if1 = c .before .before .before .before .before .before .before .before .before .if1 in
+    let loop-test = c .before .before .before .before .before .before .before .before .before .before .before .before .before .before .before .loop-test in
+    let move-at = c .before .before .before .before .before .before .before .before .before .before .before .before .before .move-at in
+    let if2 = c .before .before .before .before .before .before .before .before .before .if2 in
+    let inv = c .before .before .before .before .before .before .before .before .before .before .before .before .before .before .before .before .loop .inv in
     let act-on = c .before .before .before .before .before .before .act-on in
-    whole _ _ _ _ (loop .inv .short) (full-out (loop .inv) (agrees (loop-test .taken) (loop .inv .stands .rep)) (loop-test .taken) _ (move-at .ensures)
-    (if1 .left) _ _ _ (act-on .ensures) (act-on .kept .1 .1 .1 .1 .1 .0) (act-on .kept .1 .1 .1 .1 .1 .1 .0) (c .enum-told .given .1))
+    whole _ _ _ _ (inv .short) (full-out inv (agrees (loop-test .taken) (inv .stands .rep)) (loop-test .taken) _ (move-at .ensures)
+    (if2 .left) _ _ _ (act-on .ensures) (act-on .kept .1 .1 .1 .1 .1 .0) (act-on .kept .1 .1 .1 .1 .1 .1 .0) (c .enum-told .given .1))
 
 enum-told-2 : tie.Need-enum-told-2 Inv-loop μ-loop
 enum-told-2 c = search needs
 
 cast-refused : tie.Need-cast-refused Inv-loop μ-loop
 cast-refused c =
-    let loop = c .before .before .before .before .before .before .before .before .before .before .before .before .before .before .loop in
+    let loop = c .before .before .before .before .before .before .before .before .before .before .before .before .before .before .before .before .loop in
     omega (arith, loop .inv .short)
 
 refused-requires : tie.Need-refused-requires Inv-loop μ-loop
 refused-requires c κs =
-    let loop = c .before .before .before .before .before .before .before .before .before .before .before .before .before .before .loop in
+    let loop = c .before .before .before .before .before .before .before .before .before .before .before .before .before .before .before .before .loop in
     omega (arith, loop .inv .short)
 
 same-length-3 : tie.Need-same-length-3 Inv-loop μ-loop
 same-length-3 c =
-    let loop = c .before .before .before .before .before .before .before .before .before .before .before .before .before .before .before .loop in
-    let act-on = c .before .before .before .before .before .before .before .act-on in
-    act-on .kept .1 .1 .1 .1 .1 .0 ∙ loop .inv .long
+    let loop = c .before .before .before .before .before .before .before .before .before .before .before .before .before .before .before .before .before .loop in
+    let act-on-step = c .before .before .before .before .before .before .before .act-on in
+    act-on-step .kept .1 .1 .1 .1 .1 .0 ∙ loop .inv .long
 
 same-length-4 : tie.Need-same-length-4 Inv-loop μ-loop
 same-length-4 c =
-    let loop = c .before .before .before .before .before .before .before .before .before .before .before .before .before .before .before .loop in
-    let act-on = c .before .before .before .before .before .before .before .act-on in
-    act-on .kept .1 .1 .1 .1 .1 .1 .0 ∙ loop .inv .broad
+    let loop = c .before .before .before .before .before .before .before .before .before .before .before .before .before .before .before .before .before .loop in
+    let act-on-step = c .before .before .before .before .before .before .before .act-on in
+    act-on-step .kept .1 .1 .1 .1 .1 .1 .0 ∙ loop .inv .broad
 
 returns-2 : tie.Need-returns-2 Inv-loop μ-loop
 returns-2 c =
-    let loop = c .before .before .before .before .before .before .before .before .before .before .before .before .before .before .before .loop in
-    let loop-test = c .before .before .before .before .before .before .before .before .before .before .before .before .before .before .loop-test in
-    let move-at = c .before .before .before .before .before .before .before .before .before .before .before .before .move-at in
-    let if1 = c .before .before .before .before .before .before .before .before .before .before .if1 in
+    let loop-test = c .before .before .before .before .before .before .before .before .before .before .before .before .before .before .before .before .loop-test in
+    let move-at = c .before .before .before .before .before .before .before .before .before .before .before .before .before .before .move-at in
+    let if2 = c .before .before .before .before .before .before .before .before .before .before .if2 in
+    let inv = c .before .before .before .before .before .before .before .before .before .before .before .before .before .before .before .before .before .loop .inv in
     let act-on = c .before .before .before .before .before .before .before .act-on in
-    whole _ _ _ _ (loop .inv .short) (bad-out (loop .inv) (agrees (loop-test .taken) (loop .inv .stands .rep)) (loop-test .taken) _ (move-at .ensures) (if1 .left)
+    whole _ _ _ _ (inv .short) (bad-out inv (agrees (loop-test .taken) (inv .stands .rep)) (loop-test .taken) _ (move-at .ensures) (if2 .left)
     _ _ _ (act-on .ensures) (act-on .kept .1 .1 .1 .1 .1 .0) (act-on .kept .1 .1 .1 .1 .1 .1 .0) (c .before .enum-told2 .given .1) _ (c .refused .ensures))
+
+loop-less-3 : tie.Need-loop-less-3 Inv-loop μ-loop
+loop-less-3 c =
+    let loop-test = c .before .before .before .before .loop-test in
+    omega (arith, c .before .ahead .ensures .0, c .if1 .left, loop-test .taken)
+
+loop-again-3 : tie.Need-loop-again-3 Inv-loop μ-loop
+loop-again-3 c =
+    let loop = c .before .before .before .before .before .loop in
+    passed (c .before .ahead .ensures .1) (loop .inv)
 
 cast-finish : tie.Need-cast-finish Inv-loop μ-loop
 cast-finish c = omega (arith, c .before .loop .inv .short, c .before .loop .inv .within)
@@ -159,9 +182,10 @@ run-with-spec =
     μ-loop
     begin-requires
     loop-holds
-    add-at
     shared-slice-read-b
     move-at-requires
+    ahead-requires
+    add-at
     loop-less
     loop-again
     cast-act-on
@@ -179,6 +203,8 @@ run-with-spec =
     same-length-3
     same-length-4
     returns-2
+    loop-less-3
+    loop-again-3
     cast-finish
     finish-requires
     same-length-5

@@ -1,81 +1,64 @@
-use Prim.Native.Nat.{_≤_, _-_}
-use mathlib.Core.Bool.{true, false}
-use mathlib.Core.Path.{_≡_, refl, _∙_}
+use Prim.Native.Nat.{_≤_}
+use mathlib.Core.Path.{_≡_, _∙_}
 use native.Mathlib.Omega.{arith}
+use borrow.Author.Needs.{needs}
 use borrow.Author.Tests.{not-true, not-false}
-use lib.ListN.{length, drop}
-use Rattle.utf8.specs.Characters.{chars}
-use Rattle.trim.proofs.Trimming.{endFrom, rest-some, turn-fits, turn-end, end-end}
+use lib.ListN.{length, take}
+use Rattle.utf8.specs.Characters.{chars, joined}
+use Rattle.trim.specs.Trim.{noEnd}
+use Rattle.trim.proofs.Backward.{back-start, back-white, back-black, back-done}
 use Rattle.trim.proofs.end_of.Statement.{statement}
 use Rattle.trim.proofs.end_of.Tie as tie
 
 abbrev Inv-loop : tie.InvT-loop
-Inv-loop s to₀ j₀ to j = (to ≤ j) × (j ≤ length s) × (endFrom 0 0 (chars s) ≡ endFrom to j (chars (drop j s)))
+Inv-loop s n₀ n = (n ≤ length s) × (joined (noEnd (chars s)) ≡ joined (noEnd (chars (take n s))))
 
 abbrev μ-loop : tie.MeasureT-loop
-μ-loop s to₀ j₀ to j = length s - j
+μ-loop s n₀ n = n
 
 loop-holds : tie.Need-loop-holds Inv-loop μ-loop
-loop-holds c = (omega arith, omega arith, refl)
+loop-holds c = (omega arith, back-start (c .before .args .s .now))
 
-sub-first-of : tie.Need-sub-first-of Inv-loop μ-loop
-sub-first-of c = omega arith
+sub-b : tie.Need-sub-b Inv-loop μ-loop
+sub-b c = omega arith
 
-part-first-of-start : tie.Need-part-first-of-start Inv-loop μ-loop
-part-first-of-start c = omega arith
+shared-slice-read-b : tie.Need-shared-slice-read-b Inv-loop μ-loop
+shared-slice-read-b c = omega arith
 
-part-first-of-end : tie.Need-part-first-of-end Inv-loop μ-loop
-part-first-of-end c = omega arith
+end-forward-requires : tie.Need-end-forward-requires Inv-loop μ-loop
+end-forward-requires c κs = search needs
 
-first-of-requires : tie.Need-first-of-requires Inv-loop μ-loop
-first-of-requires c κs =
-    let args = c .before .before .before .before .args in
-    rest-some (args .s .now) (c .before .before .loop .j) (c .before .loop-test .taken)
+returns : tie.Need-returns Inv-loop μ-loop
+returns c = c .end-forward .ensures
 
-add-j : tie.Need-add-j Inv-loop μ-loop
-add-j c =
-    let args = c .before .before .before .before .before .args in
-    let l = c .before .before .before .loop in
-    let h = turn-fits (args .s .now) (l .j) _ _ (c .before .before .loop-test .taken) (c .first-of .ensures) in omega arith
+cast-is-white : tie.Need-cast-is-white Inv-loop μ-loop
+cast-is-white c = omega arith
+
+is-white-requires : tie.Need-is-white-requires Inv-loop μ-loop
+is-white-requires c κs = search needs
+
+returns-2 : tie.Need-returns-2 Inv-loop μ-loop
+returns-2 c =
+    let l = c .before .before .before .before .before .loop in
+    let t = c .before .before .before .before .loop-test in
+    let w = c .before .is-white in
+    (omega arith, l .inv .1 ∙ back-black _ (l .n) (t .taken) (l .inv .0) (omega (arith, c .before .before .if1 .left)) (w .result) (w .ensures) (not-true _ (c .if2 .taken)))
+
+sub-n : tie.Need-sub-n Inv-loop μ-loop
+sub-n c = omega arith
 
 loop-less : tie.Need-loop-less Inv-loop μ-loop
-loop-less c =
-    let args = c .before .before .before .before .before .before .before .args in
-    let loop-test = c .before .before .before .before .loop-test in
-    let l = c .before .before .before .before .before .loop in
-    let h = turn-fits (args .s .now) (l .j) _ _ (loop-test .taken) (c .before .before .first-of .ensures) in omega arith
+loop-less c = omega arith
 
 loop-again : tie.Need-loop-again Inv-loop μ-loop
 loop-again c =
-    let args = c .before .before .before .before .before .before .before .args in
-    let loop-test = c .before .before .before .before .loop-test in
     let l = c .before .before .before .before .before .loop in
-    let h = turn-fits (args .s .now) (l .j) _ _ (loop-test .taken) (c .before .before .first-of .ensures) in (
-      omega arith,
-      h .1,
-      l .inv .2 ∙ turn-end (args .s .now) (l .j) _ _ (loop-test .taken) (c .before .before .first-of .ensures) (l .to) false (not-true _ (c .if1 .taken)),
-    )
+    let t = c .before .before .before .before .loop-test in
+    let w = c .before .is-white in
+    (omega arith, l .inv .1 ∙ back-white _ (l .n) (t .taken) (l .inv .0) (omega (arith, c .before .before .if1 .left)) (w .result) (w .ensures) (not-false _ (c .if2 .left)))
 
-loop-less-2 : tie.Need-loop-less-2 Inv-loop μ-loop
-loop-less-2 c =
-    let args = c .before .before .before .before .before .before .before .args in
-    let loop-test = c .before .before .before .before .loop-test in
-    let l = c .before .before .before .before .before .loop in
-    let h = turn-fits (args .s .now) (l .j) _ _ (loop-test .taken) (c .before .before .first-of .ensures) in omega arith
-
-loop-again-2 : tie.Need-loop-again-2 Inv-loop μ-loop
-loop-again-2 c =
-    let args = c .before .before .before .before .before .before .before .args in
-    let loop-test = c .before .before .before .before .loop-test in
-    let l = c .before .before .before .before .before .loop in
-    let h = turn-fits (args .s .now) (l .j) _ _ (loop-test .taken) (c .before .before .first-of .ensures) in (
-      omega arith,
-      h .1,
-      l .inv .2 ∙ turn-end (args .s .now) (l .j) _ _ (loop-test .taken) (c .before .before .first-of .ensures) (l .to) true (not-false _ (c .if1 .left)),
-    )
-
-returns : tie.Need-returns Inv-loop μ-loop
-returns c = let l = c .before .loop in (omega arith, end-end _ (l .j) (c .loop-test .left) (l .to) (l .inv .2))
+returns-3 : tie.Need-returns-3 Inv-loop μ-loop
+returns-3 c = let l = c .before .loop in (omega arith, back-done _ (l .n) (c .loop-test .left) (l .inv .1))
 
 pub end-of-spec : {M : Type 1} → statement M
 end-of-spec =
@@ -84,13 +67,14 @@ end-of-spec =
     Inv-loop
     μ-loop
     loop-holds
-    sub-first-of
-    part-first-of-start
-    part-first-of-end
-    first-of-requires
-    add-j
+    sub-b
+    shared-slice-read-b
+    end-forward-requires
+    returns
+    cast-is-white
+    is-white-requires
+    returns-2
+    sub-n
     loop-less
     loop-again
-    loop-less-2
-    loop-again-2
-    returns)
+    returns-3)

@@ -11,7 +11,7 @@ use lib.ListN.{length, getD, drop, drop-of-length-le}
 use Rattle.area.proofs.Lists.{drop-next}
 use Rattle.utf8.specs.Utf8.{need, low, high, within, ok, utf8}
 use Rattle.utf8.proofs.Runs.{low-least, need-ascii, ok-zero}
-use Rattle.text.specs.Filter.{dropped, filtered, unfiltered}
+use Rattle.text_filter.specs.Filter.{dropped, filtered, unfiltered}
 
 -- a byte from 0x20 on is kept
 pub kept-high : (b : ℕ) → 0x20 ≤ b → dropped b ≡ false

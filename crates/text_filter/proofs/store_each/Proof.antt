@@ -5,10 +5,10 @@ use borrow.Author.Tests.{not-true, not-false}
 use borrow.Author.Needs.{needs}
 use lib.ListN.{length, drop}
 use Rattle.area.proofs.Laying.{Laying, laying-start, laying-on, laying-put, laying-done, laying-full}
-use Rattle.text.specs.Filter.{filtered}
-use Rattle.text.proofs.Filtering.{filter-drop-at, filter-keep-at, filter-end}
-use Rattle.text.proofs.filter.store.Statement.{statement}
-use Rattle.text.proofs.filter.store.Tie as tie
+use Rattle.text_filter.specs.Filter.{filtered}
+use Rattle.text_filter.proofs.Filtering.{filter-drop-at, filter-keep-at, filter-end}
+use Rattle.text_filter.proofs.store_each.Statement.{statement}
+use Rattle.text_filter.proofs.store_each.Tie as tie
 use Rattle.refusal.specs.declared.Cause.the-variants as cause
 
 abbrev Inv-loop : tie.InvT-loop
@@ -71,8 +71,8 @@ same-length-2 c = c .before .loop .inv .1 .same
 returns-2 : tie.Need-returns-2 Inv-loop μ-loop
 returns-2 c = let l = c .before .loop in laying-done cause.TextFull (laying-on (l .inv .1) (filter-end _ (l .i) (c .loop-test .left)))
 
-pub store-spec : {M : Type 1} → statement M
-store-spec =
+pub store-each-spec : {M : Type 1} → statement M
+store-each-spec =
     tie.close
     (tie.spec
     Inv-loop

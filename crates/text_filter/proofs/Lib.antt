@@ -1,0 +1,3 @@
+pub mod Filtering
+mod Unchanged
+mod Examples
