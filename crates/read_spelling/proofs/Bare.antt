@@ -9,7 +9,7 @@ use Rattle.refusal.specs.declared.Cause.the-variants as cause
 use Rattle.table.specs.Event.{Attribute, Event, Tag, Piece, Eof, Fault}
 use Rattle.tree_status.specs.declared.Tally.{Tally}
 use Rattle.tree_status.specs.Status.{ruled}
-use Rattle.read_element.specs.Outcome.{_>>=_, Place, unlimited}
+use Rattle.read_element.specs.Outcome.{_>>=_, Place, Rooms}
 use Rattle.read_element.proofs.TreeOutcome.{Holds, accept, refuse, bind, needed, either}
 use Rattle.read_state.specs.Control.{Level, top, suite, case, status, Output, Mode, at, gathering, listing, skipping, finished, control, Act, gathers, turn}
 use Rattle.read_place.specs.Marks.{Marks}
@@ -73,60 +73,13 @@ Kept c d = (d .description ≡ c .description) × (d .gathered ≡ c .gathered)
 kept : (c d : Content) → Kept c d → Nothing c → Nothing d
 kept c d k n = (k .0 ∙ n .0, k .1 ∙ n .1)
 
-adding-keeps : (p : Place) (kind j : ℕ) (xs : List Attribute) (c : Content) → Holds (Kept c) (adding unlimited p kind j xs c)
-unfolding adding
-adding-keeps p kind j xs c = bind (any _) λ g u. accept (refl, refl)
-
-keeping-keeps : (p : Place) (b : Bool) (i o k : ℕ) (v : List ℕ) (c : Content) → Holds (λ (d : Content). d .description ≡ c .description) (keeping unlimited p b i o k v c)
-unfolding keeping
-keeping-keeps p b i o k v c = needed _ p cause.TextFull λ z. accept refl
-
-outputting-ends : (p : Place) (l : Level) (o : Output) (m : Marks) (c : Content) → Holds (λ (d : Content). (d .description ≡ c .description) × (d .gathered ≡ [])) (outputting unlimited p l o m c)
-unfolding outputting
-outputting-ends p l o m c = bind (keeping-keeps p _ _ _ _ _ c) λ d e. accept (e, refl)
-
-describing-ends : (p : Place) (m : Marks) (c : Content) → Holds Nothing (describing unlimited p m c)
-unfolding describing
-describing-ends p m c = either (isEmpty (trimmed (c .description))) (λ e. accept (refl, refl)) (λ e. bind (any _) λ d u. accept (refl, refl))
-
 abbrev machine : Mode → Bool → Bool → Tally → Marks → Content → Machine
 machine m seen closed t k c = record { control = control m seen closed t; content = c; marks = k }
 
 abbrev pub BareMachine : Machine → Type 0
 BareMachine s = Bare (s .control .mode) (s .content)
 
-acted : {m : Mode} {seen : Bool} {a : Act} (closed : Bool) (t : Tally) (k : Marks) (c : Content) (j : ℕ) (xs : List Attribute)
-    → Planned seen m a → Bare m c → Holds BareMachine (act unlimited a j xs (machine m seen closed t k c))
-unfolding act perform turn _>>=_
-acted over t k c j xs stays b = accept b
-acted over t k c j xs skips b = accept b
-acted over t k c j xs skips-on b = accept b
-acted over t k c j xs returns b = accept b
-acted over t k c j xs (listed {l = l}) b = accept (inside l c b)
-acted over t k c j xs reports b = bind (adding-keeps _ _ j xs _) λ d q. accept (kept c d q b)
-acted over t k c j xs (suites {e = true} z) b = bind (adding-keeps _ _ j xs _) λ d q. accept (kept c d q b)
-acted over t k c j xs (suites {e = false} z) b = bind (adding-keeps _ _ j xs _) λ d q. accept (kept c d q b)
-acted over t k c j xs (stops z) b = accept tt
-acted over t k c j xs misses b = refuse
-acted over t k c j xs breaks b = refuse
-acted over t k c j xs (cases {e = true}) b = bind (adding-keeps _ _ j xs _) λ d q. accept (kept c d q b)
-acted over t k c j xs (cases {e = false}) b = bind (adding-keeps _ _ j xs _) λ d q. accept (kept c d q b)
-acted over t k c j xs suite-ends b = accept b
-acted over t k c j xs (suite-list {e = true}) b = accept b
-acted over t k c j xs (suite-list {e = false}) b = accept b
-acted over t k c j xs (statuses {e = true} z) b = bind (adding-keeps _ _ j xs _) λ d q. accept (kept c d q b)
-acted over t k c j xs (statuses {e = false} z) b = bind (adding-keeps _ _ j xs _) λ d q. accept (kept c d q b .1)
-acted over t k c j xs case-ends b = bind {Q = Nothing} (needed (ruled t) _ cause.StatusRule λ z. accept b) λ d q. accept q
-acted over t k c j xs (case-list {e = true}) b = accept b
-acted over t k c j xs (case-list {e = false}) b = accept b
-acted over t k c j xs status-ends b = bind (describing-ends _ k c) λ d q. accept q
-acted over t k c j xs (texts {l = l} g) b = accept (opened l c b)
-acted over t k c j xs (texts-empty {l = l} {o = o} g) b = bind (outputting-ends _ l o k c) λ d q. accept (closed l c d (q .0) (q .1) (opened l c b))
-acted over t k c j xs (text-ends {l = l} {o = o}) b = bind (outputting-ends _ l o k c) λ d q. accept (closed l c d (q .0) (q .1) b)
-acted over t k c j xs (properties-read {e = true}) b = bind (adding-keeps _ _ j xs _) λ d q. accept (kept c d q b)
-acted over t k c j xs (properties-read {e = false}) b = bind (adding-keeps _ _ j xs _) λ d q. accept (kept c d q b)
-
--- ---- steps
+-- ---- pieces
 false-true : _≡_ {A = Bool} false true → ⊥
 false-true e = subst (λ (b : Bool). cond b ⊥ (Unit {0})) e tt
 
@@ -144,13 +97,62 @@ joins (listing l) v c g b = b
 joins (skipping m name depth) v c g b = b
 joins finished v c g b = b
 
-pub stepped : (e : Event) (s : Machine) → BareMachine s → Holds BareMachine (step unlimited e s)
-unfolding step gather
-stepped (Tag k tag j xs) s b =
-    acted (s .control .closed) (s .control .tally) (s .marks) (s .content) j xs (tag-plan (s .control .mode) (s .control .seen) k tag) b
-stepped (Piece k bytes) s b =
-    bind {Q = Bare (s .control .mode)}
-    (either (gathers (s .control .mode)) (λ g. bind (any _) λ v u. needed _ _ cause.ScratchFull λ z. accept (joins (s .control .mode) v (s .content) g b)) (λ z. accept b))
-    λ c q. accept q
-stepped Eof s b = acted (s .control .closed) (s .control .tally) (s .marks) (s .content) 0 [] (eof-plan (s .control .mode) (s .control .seen) (s .control .closed)) b
-stepped Fault s b = acted (s .control .closed) (s .control .tally) (s .marks) (s .content) 0 [] (fault-plan (s .control .mode)) b
+module _ (rooms : Rooms) where
+  adding-keeps : (p : Place) (kind j : ℕ) (xs : List Attribute) (c : Content) → Holds (Kept c) (adding rooms p kind j xs c)
+  unfolding adding
+  adding-keeps p kind j xs c = bind (any _) λ g u. accept (refl, refl)
+
+  keeping-keeps : (p : Place) (b : Bool) (i o k : ℕ) (v : List ℕ) (c : Content) → Holds (λ (d : Content). d .description ≡ c .description) (keeping rooms p b i o k v c)
+  unfolding keeping
+  keeping-keeps p b i o k v c = needed _ p cause.TextFull λ z. accept refl
+
+  outputting-ends : (p : Place) (l : Level) (o : Output) (m : Marks) (c : Content) → Holds (λ (d : Content). (d .description ≡ c .description) × (d .gathered ≡ [])) (outputting rooms p l o m c)
+  unfolding outputting
+  outputting-ends p l o m c = bind (keeping-keeps p _ _ _ _ _ c) λ d e. accept (e, refl)
+
+  describing-ends : (p : Place) (m : Marks) (c : Content) → Holds Nothing (describing rooms p m c)
+  unfolding describing
+  describing-ends p m c = either (isEmpty (trimmed (c .description))) (λ e. accept (refl, refl)) (λ e. bind (any _) λ d u. accept (refl, refl))
+
+  acted : {m : Mode} {seen : Bool} {a : Act} (closed : Bool) (t : Tally) (k : Marks) (c : Content) (j : ℕ) (xs : List Attribute)
+      → Planned seen m a → Bare m c → Holds BareMachine (act rooms a j xs (machine m seen closed t k c))
+  unfolding act perform turn _>>=_
+  acted over t k c j xs stays b = accept b
+  acted over t k c j xs skips b = accept b
+  acted over t k c j xs skips-on b = accept b
+  acted over t k c j xs returns b = accept b
+  acted over t k c j xs (listed {l = l}) b = accept (inside l c b)
+  acted over t k c j xs reports b = bind (adding-keeps _ _ j xs _) λ d q. accept (kept c d q b)
+  acted over t k c j xs (suites {e = true} z) b = bind (adding-keeps _ _ j xs _) λ d q. accept (kept c d q b)
+  acted over t k c j xs (suites {e = false} z) b = bind (adding-keeps _ _ j xs _) λ d q. accept (kept c d q b)
+  acted over t k c j xs (stops z) b = accept tt
+  acted over t k c j xs misses b = refuse
+  acted over t k c j xs breaks b = refuse
+  acted over t k c j xs (cases {e = true}) b = bind (adding-keeps _ _ j xs _) λ d q. accept (kept c d q b)
+  acted over t k c j xs (cases {e = false}) b = bind (adding-keeps _ _ j xs _) λ d q. accept (kept c d q b)
+  acted over t k c j xs suite-ends b = accept b
+  acted over t k c j xs (suite-list {e = true}) b = accept b
+  acted over t k c j xs (suite-list {e = false}) b = accept b
+  acted over t k c j xs (statuses {e = true} z) b = bind (adding-keeps _ _ j xs _) λ d q. accept (kept c d q b)
+  acted over t k c j xs (statuses {e = false} z) b = bind (adding-keeps _ _ j xs _) λ d q. accept (kept c d q b .1)
+  acted over t k c j xs case-ends b = bind {Q = Nothing} (needed (ruled t) _ cause.StatusRule λ z. accept b) λ d q. accept q
+  acted over t k c j xs (case-list {e = true}) b = accept b
+  acted over t k c j xs (case-list {e = false}) b = accept b
+  acted over t k c j xs status-ends b = bind (describing-ends _ k c) λ d q. accept q
+  acted over t k c j xs (texts {l = l} g) b = accept (opened l c b)
+  acted over t k c j xs (texts-empty {l = l} {o = o} g) b = bind (outputting-ends _ l o k c) λ d q. accept (closed l c d (q .0) (q .1) (opened l c b))
+  acted over t k c j xs (text-ends {l = l} {o = o}) b = bind (outputting-ends _ l o k c) λ d q. accept (closed l c d (q .0) (q .1) b)
+  acted over t k c j xs (properties-read {e = true}) b = bind (adding-keeps _ _ j xs _) λ d q. accept (kept c d q b)
+  acted over t k c j xs (properties-read {e = false}) b = bind (adding-keeps _ _ j xs _) λ d q. accept (kept c d q b)
+
+  -- ---- steps
+  pub stepped : (e : Event) (s : Machine) → BareMachine s → Holds BareMachine (step rooms e s)
+  unfolding step gather
+  stepped (Tag k tag j xs) s b =
+      acted (s .control .closed) (s .control .tally) (s .marks) (s .content) j xs (tag-plan (s .control .mode) (s .control .seen) k tag) b
+  stepped (Piece k bytes) s b =
+      bind {Q = Bare (s .control .mode)}
+      (either (gathers (s .control .mode)) (λ g. bind (any _) λ v u. needed _ _ cause.ScratchFull λ z. accept (joins (s .control .mode) v (s .content) g b)) (λ z. accept b))
+      λ c q. accept q
+  stepped Eof s b = acted (s .control .closed) (s .control .tally) (s .marks) (s .content) 0 [] (eof-plan (s .control .mode) (s .control .seen) (s .control .closed)) b
+  stepped Fault s b = acted (s .control .closed) (s .control .tally) (s .marks) (s .content) 0 [] (fault-plan (s .control .mode)) b

@@ -1,32 +1,145 @@
--- What is spelled out, and what isn't. Assumes nothing.
+-- What is spelled out, and what isn't, on both sides of each border. Assumes nothing.
+use Prim.Native.Nat.{ℕ}
 use mathlib.Core.Path.{_≡_, refl}
 use mathlib.Core.Bool.{true, false}
-use mathlib.Core.List.{[], _∷_}
+use mathlib.Core.List.{List, [], _∷_, _++_}
 use Rattle.names.specs.Bytes.{bytes}
 use Rattle.names.specs.Names.{sameBytes, codeFrom}
+use Rattle.names.specs.Keys.{keys}
 use Rattle.names.specs.Tags.{tags}
-use Rattle.table.specs.Event.{Start, Empty, End, Tag}
+use Rattle.utf8.specs.Utf8 as utf8
+use Rattle.table.specs.Table as table
+use Rattle.table.specs.Event as event
+use Rattle.table.specs.Event.{Attribute, Start, Empty, End, Event, Tag}
 use Rattle.tree_status.specs.Status.{noStatus}
-use Rattle.read_state.specs.Control.{top, case, status, out, at, gathering, listing, control}
-use Rattle.read_spelling.specs.Spelling.{spelled}
+use Rattle.tree_record.specs.Record.{marked}
+use Rattle.read_keys.specs.Roles as role
+use Rattle.read_element.specs.Outcome as outcome
+use Rattle.read_element.specs.Attributes as attributes
+use Rattle.read_state.specs.Control as reach
+use Rattle.read_state.specs.Control.{top, case, status, out, Mode, at, gathering, listing, skipping, control}
+use Rattle.read_rules.specs.Rules as rules
+use Rattle.read_place.specs.Marks.{marksAfter}
+use Rattle.read_content.specs.Content as content
+use Rattle.read_machine.specs.Machine as machine
+use Rattle.read_machine.specs.Reading.{reading, deserialize}
+use Rattle.read_spelling.specs.Spelling.{spelledFrom, SameAnswer, SameReading}
+use Rattle.read_spelling.proofs.Spelled.{spelling}
 
-output-in-status : spelled (control (at status) true false noStatus) (Tag Empty (bytes "system-out") 3 [] ∷ []) ≡ Tag Start (bytes "system-out") 3 [] ∷ Tag End (bytes "system-out") 0 [] ∷ []
-unfolding spelled
+-- ---- what is spelled out
+abbrev empty : List ℕ → List Event
+empty name = Tag Empty name 3 [] ∷ []
+
+abbrev both : List ℕ → List Event
+both name = Tag Start name 3 [] ∷ Tag End name 0 [] ∷ []
+
+abbrev spelledIn : Mode → List ℕ → List Event
+spelledIn m name = spelledFrom (control m true false noStatus) (empty name)
+
+output-in-status : spelledIn (at status) (bytes "system-out") ≡ both (bytes "system-out")
+unfolding spelledFrom
 output-in-status = refl
 
-property-in-list : spelled (control (listing case) true false noStatus) (Tag Empty (bytes "property") 3 [] ∷ []) ≡ Tag Start (bytes "property") 3 [] ∷ Tag End (bytes "property") 0 [] ∷ []
-unfolding spelled tags codeFrom sameBytes
+property-in-list : spelledIn (listing case) (bytes "property") ≡ both (bytes "property")
+unfolding spelledFrom tags codeFrom sameBytes
 property-in-list = refl
 
--- an Empty of the same name inside a text or a list ends nothing, and at report level nothing changes
-output-in-output : spelled (control (gathering case out) true false noStatus) (Tag Empty (bytes "system-out") 3 [] ∷ []) ≡ Tag Empty (bytes "system-out") 3 [] ∷ []
-unfolding spelled
+-- another name in a gathered text and in a list, any name in a skip, and a suite in a report
+other-in-output : spelledIn (gathering case out) (bytes "system-err") ≡ both (bytes "system-err")
+unfolding spelledFrom tags codeFrom sameBytes
+other-in-output = refl
+
+other-in-list : spelledIn (listing case) (bytes "p") ≡ both (bytes "p")
+unfolding spelledFrom tags codeFrom sameBytes
+other-in-list = refl
+
+other-in-skip : spelledIn (skipping (at case) (bytes "p") 0) (bytes "q") ≡ both (bytes "q")
+unfolding spelledFrom
+other-in-skip = refl
+
+same-in-skip : spelledIn (skipping (at case) (bytes "p") 0) (bytes "p") ≡ both (bytes "p")
+unfolding spelledFrom
+same-in-skip = refl
+
+suite-in-report : spelledIn (at top) (bytes "testsuite") ≡ both (bytes "testsuite")
+unfolding spelledFrom tags codeFrom sameBytes
+suite-in-report = refl
+
+-- an Empty of the same name in a text or a list ends nothing, and behind an Empty `testsuites` reading goes on
+output-in-output : spelledIn (gathering case out) (bytes "system-out") ≡ empty (bytes "system-out")
+unfolding spelledFrom tags codeFrom sameBytes
 output-in-output = refl
 
-list-in-list : spelled (control (listing case) true false noStatus) (Tag Empty (bytes "properties") 3 [] ∷ []) ≡ Tag Empty (bytes "properties") 3 [] ∷ []
-unfolding spelled tags codeFrom sameBytes
+list-in-list : spelledIn (listing case) (bytes "properties") ≡ empty (bytes "properties")
+unfolding spelledFrom tags codeFrom sameBytes
 list-in-list = refl
 
-suite-in-report : spelled (control (at top) true false noStatus) (Tag Empty (bytes "testsuite") 3 [] ∷ []) ≡ Tag Empty (bytes "testsuite") 3 [] ∷ []
-unfolding spelled
-suite-in-report = refl
+report-in-report : spelledIn (at top) (bytes "testsuites") ≡ empty (bytes "testsuites")
+unfolding spelledFrom tags codeFrom sameBytes
+report-in-report = refl
+
+-- ---- these three, spelled out, would be read otherwise
+abbrev named : List Attribute
+named = record { good = true; key = bytes "name"; value = bytes "a" } ∷ []
+
+-- in an open text or list of a suite
+abbrev within : List ℕ → List Event → List Event
+within name es =
+    Tag Start (bytes "testsuites") 0 named ∷ Tag Start (bytes "testsuite") 0 named ∷ Tag Start name 0 [] ∷ es
+    ++ (Tag End (bytes "testsuite") 0 [] ∷ Tag End (bytes "testsuites") 0 [] ∷ [])
+
+output-otherwise : SameAnswer (deserialize (within (bytes "system-out") (empty (bytes "system-out")))) (deserialize (within (bytes "system-out") (both (bytes "system-out")))) → ⊥
+unfolding utf8.need utf8.low utf8.high codeFrom sameBytes keys tags
+    role.roleIn role.reportRole role.suiteRole role.roleOf marked
+    outcome._>>=_ outcome.there outcome.need outcome.fits
+    attributes.readText attributes.byRole attributes.readAttributes attributes.complete attributes.readElement
+    rules.outputs rules.atTop rules.atSuite rules.inText rules.planAt rules.planEof reach.turn marksAfter
+    content.adding content.keeping content.outputting content.perform machine.act machine.step machine.run deserialize
+output-otherwise h = h
+
+list-otherwise : SameAnswer (deserialize (within (bytes "properties") (empty (bytes "properties")))) (deserialize (within (bytes "properties") (both (bytes "properties")))) → ⊥
+unfolding utf8.need utf8.low utf8.high codeFrom sameBytes keys tags
+    role.roleIn role.reportRole role.suiteRole role.roleOf marked
+    outcome._>>=_ outcome.there outcome.need outcome.fits
+    attributes.readText attributes.byRole attributes.readAttributes attributes.complete attributes.readElement
+    rules.atTop rules.atSuite rules.inList rules.planAt rules.planEof reach.turn marksAfter
+    content.adding content.perform machine.act machine.step machine.run deserialize
+list-otherwise h = h
+
+-- the suite behind it has no name
+abbrev report : List Event → List Event
+report es = es ++ (Tag Empty (bytes "testsuite") 0 [] ∷ [])
+
+report-otherwise : SameAnswer (deserialize (report (Tag Empty (bytes "testsuites") 0 named ∷ [])))
+    (deserialize (report (Tag Start (bytes "testsuites") 0 named ∷ Tag End (bytes "testsuites") 0 [] ∷ []))) → ⊥
+unfolding utf8.need utf8.low utf8.high codeFrom sameBytes keys tags
+    role.roleIn role.reportRole role.suiteRole role.roleOf marked
+    outcome._>>=_ outcome.there outcome.need outcome.fits
+    attributes.readText attributes.byRole attributes.readAttributes attributes.complete attributes.readElement
+    rules.atTop rules.planAt rules.planEof reach.turn marksAfter
+    content.adding content.perform machine.act machine.step machine.run deserialize
+report-otherwise h = h
+
+-- ---- in areas
+abbrev source : List ℕ
+source = bytes "testsuitesnamea"
+
+abbrev attributesOf : List ℕ
+attributesOf = 0 ∷ 10 ∷ 4 ∷ 14 ∷ 1 ∷ []
+
+-- an unknown child `n` of a suite
+abbrev around : List ℕ → List ℕ
+around n = (0 ∷ 0 ∷ 10 ∷ 0 ∷ 1 ∷ 0 ∷ 0 ∷ 9 ∷ 0 ∷ 1 ∷ []) ++ n ++ (2 ∷ 0 ∷ 9 ∷ 0 ∷ 0 ∷ 2 ∷ 0 ∷ 10 ∷ 0 ∷ 0 ∷ [])
+
+abbrev withEmpty : List ℕ
+withEmpty = around (1 ∷ 10 ∷ 1 ∷ 0 ∷ 0 ∷ [])
+
+abbrev withBoth : List ℕ
+withBoth = around (0 ∷ 10 ∷ 1 ∷ 0 ∷ 0 ∷ 2 ∷ 10 ∷ 1 ∷ 0 ∷ 0 ∷ [])
+
+in-areas : (words text scratch : ℕ) → SameReading (reading withEmpty attributesOf source words text scratch) (reading withBoth attributesOf source words text scratch)
+unfolding spelledFrom codeFrom sameBytes tags
+    table.goodAttribute table.goodShape table.badFrom table.checkEvent table.checkFrom table.goodSizes table.checkOf
+    event.attributesFrom event.eventOf event.eventAt event.resolveFrom event.resolve
+    rules.outputs rules.emptied rules.atTop rules.atSuite rules.inSkip rules.planAt reach.orSkip reach.turn
+in-areas words text scratch = spelling .inAreas withEmpty attributesOf source withBoth attributesOf source words text scratch refl refl refl

@@ -2,5 +2,7 @@ pub mod Places
 pub mod Elements
 pub mod Numbers
 pub mod Bare
+pub mod Pairs
+pub mod Children
 pub mod Spelled
 pub mod Examples

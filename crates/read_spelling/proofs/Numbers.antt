@@ -64,7 +64,7 @@ module _ (e ss cs : ℕ) (m : Marks) where
   act-near missing mode = refl
   act-near (broken n) mode = mode-near mode
 
-  place-near : (a : Act) (mode : Mode) → Near (actPlace a mode m) (actPlace a mode (renumbered e ss cs m))
+  pub place-near : (a : Act) (mode : Mode) → Near (actPlace a mode m) (actPlace a mode (renumbered e ss cs m))
   place-near a mode = record { path = act-near a mode; attribute = refl }
 
 -- ---- actions
@@ -86,7 +86,7 @@ module _ (rooms : Rooms) {p q : Place} (n : Near p q) where
     unfolding describing
     describing-moves = choosing (isEmpty (trimmed (c .description))) same (bind (keeping-moves true (m .statusAt) word.description bit.description (c .description) c) λ d. same)
 
-    outputting-moves : (l : Level) (o : Output) → Moves (outputting rooms p l o m c) (outputting rooms q l o (renumbered e ss cs m) c)
+    pub outputting-moves : (l : Level) (o : Output) → Moves (outputting rooms p l o m c) (outputting rooms q l o (renumbered e ss cs m) c)
     unfolding outputting
     outputting-moves top o = bind (keeping-moves (takes top m) (recordOf top m) (wordOf o) (bitOf o) (c .gathered) c) λ d. same
     outputting-moves suite o = bind (keeping-moves (takes suite m) (recordOf suite m) (wordOf o) (bitOf o) (c .gathered) c) λ d. same
@@ -119,7 +119,7 @@ pub data Shifted : Outcome Machine → Outcome Machine → Type 0 where
   goes : {t : Machine} (e ss cs : ℕ) → Shifted (accepted t) (accepted (elsewhere e ss cs t))
   stops : {r q : Refused} → SameRefusal r q → Shifted (refused r) (refused q)
 
-then : {A : Type 0} {m n : Outcome A} {f g : A → Outcome Machine} → Moves m n → ((a : A) → Shifted (f a) (g a)) → Shifted (m >>= f) (n >>= g)
+pub then : {A : Type 0} {m n : Outcome A} {f g : A → Outcome Machine} → Moves m n → ((a : A) → Shifted (f a) (g a)) → Shifted (m >>= f) (n >>= g)
 unfolding _>>=_
 then (same {a = a}) h = h a
 then (halts s) h = stops s

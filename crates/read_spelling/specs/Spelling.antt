@@ -1,20 +1,19 @@
--- A table whose Empty children below report level are spelled as Start and End, and answers that differ in event numbers alone. Definitions only.
+-- A table whose Empty children are spelled as Start and End, and answers that differ in event numbers alone. Definitions only.
 use Prim.Native.Nat.{ℕ}
 use mathlib.Core.Path.{_≡_}
-use mathlib.Core.Bool.{Bool, true, false, cond}
+use mathlib.Core.Bool.{Bool, true, cond, not}
 use mathlib.Core.List.{List, [], _∷_}
-use mathlib.Core.Option.{Option}
 use lib.Dec.{eqb}
-use Rattle.names.specs.Tags.{tagOf, property}
+use Rattle.names.specs.Tags.{tagOf, testsuites, properties}
 use Rattle.refusal.specs.Refusal.{nowhere, Refused, Outcome, accepted, refused}
 use Rattle.refusal.specs.declared.PathElement.{PathElement}
-use Rattle.table.specs.Event.{Start, Empty, End, Event, Tag, Piece, Eof, Fault}
-use Rattle.tree_report.specs.Report.{Report}
+use Rattle.table.specs.Event.{Start, Empty, End, Event, Tag, Piece, Eof, Fault, resolve}
+use Rattle.table.specs.Table.{tableOf}
 use Rattle.read_element.specs.Outcome.{element}
 use Rattle.read_state.specs.Control.{top, suite, case, status, Mode, at, gathering, listing, skipping, finished, Control, turn}
-use Rattle.read_rules.specs.Rules.{planAt, planEof, planFault}
+use Rattle.read_rules.specs.Rules.{tagOfOutput, planAt, planEof, planFault}
 use Rattle.read_machine.specs.Machine.{begin}
-use Rattle.read_machine.specs.Reading.{deserialize}
+use Rattle.read_machine.specs.Reading.{Read, reading, deserialize}
 
 -- ---- the spelling
 -- the control behind an event: it sees kinds and names only
@@ -24,29 +23,34 @@ controlAfter (Piece kind bytes) k = k
 controlAfter Eof k = turn (planEof (k .mode) (k .seen) (k .closed)) k
 controlAfter Fault k = turn (planFault (k .mode)) k
 
--- a child below report level: of a suite, a case or a status element, and a `property` of a list
-abbrev pub isChild : Mode → List ℕ → Bool
-isChild (at top) name = false
-isChild (at suite) name = true
-isChild (at case) name = true
-isChild (at status) name = true
-isChild (gathering l o) name = false
-isChild (listing l) name = eqb (tagOf name) property
-isChild (skipping m skipped depth) name = false
-isChild finished name = false
+-- whether an Empty of this name is read as its Start and End: everywhere below report level, but for one of the same name in a
+-- gathered text (rule R14) and in a list (rule R15), and at report level, but for `testsuites` (rule R4)
+abbrev pub isSpelled : Mode → List ℕ → Bool
+isSpelled (at top) name = not (eqb (tagOf name) testsuites)
+isSpelled (at suite) name = true
+isSpelled (at case) name = true
+isSpelled (at status) name = true
+isSpelled (gathering l o) name = not (eqb (tagOf name) (tagOfOutput o))
+isSpelled (listing l) name = not (eqb (tagOf name) properties)
+isSpelled (skipping m skipped depth) name = true
+isSpelled finished name = true
 
--- each Empty child as its Start, with the same attributes, and its End
-unfoldable pub spelled : Control → List Event → List Event
-spelled k [] = []
-spelled k (Tag Start name j xs ∷ es) = Tag Start name j xs ∷ spelled (controlAfter (Tag Start name j xs) k) es
-spelled k (Tag Empty name j xs ∷ es) =
-    cond (isChild (k .mode) name)
-    (Tag Start name j xs ∷ Tag End name 0 [] ∷ spelled (controlAfter (Tag Empty name j xs) k) es)
-    (Tag Empty name j xs ∷ spelled (controlAfter (Tag Empty name j xs) k) es)
-spelled k (Tag End name j xs ∷ es) = Tag End name j xs ∷ spelled (controlAfter (Tag End name j xs) k) es
-spelled k (Piece kind bytes ∷ es) = Piece kind bytes ∷ spelled k es
-spelled k (Eof ∷ es) = Eof ∷ spelled (controlAfter Eof k) es
-spelled k (Fault ∷ es) = Fault ∷ spelled (controlAfter Fault k) es
+-- each such Empty as its Start, with the same attributes, and its End
+unfoldable pub spelledFrom : Control → List Event → List Event
+spelledFrom k [] = []
+spelledFrom k (Tag Start name j xs ∷ es) = Tag Start name j xs ∷ spelledFrom (controlAfter (Tag Start name j xs) k) es
+spelledFrom k (Tag Empty name j xs ∷ es) =
+    cond (isSpelled (k .mode) name)
+    (Tag Start name j xs ∷ Tag End name 0 [] ∷ spelledFrom (controlAfter (Tag Empty name j xs) k) es)
+    (Tag Empty name j xs ∷ spelledFrom (controlAfter (Tag Empty name j xs) k) es)
+spelledFrom k (Tag End name j xs ∷ es) = Tag End name j xs ∷ spelledFrom (controlAfter (Tag End name j xs) k) es
+spelledFrom k (Piece kind bytes ∷ es) = Piece kind bytes ∷ spelledFrom k es
+spelledFrom k (Eof ∷ es) = Eof ∷ spelledFrom (controlAfter Eof k) es
+spelledFrom k (Fault ∷ es) = Fault ∷ spelledFrom (controlAfter Fault k) es
+
+-- a table's events
+abbrev pub spelled : List Event → List Event
+spelled es = spelledFrom (begin .control) es
 
 -- ---- answers but for event numbers
 abbrev pub unnumbered : List PathElement → List PathElement
@@ -58,12 +62,31 @@ pub record SameRefusal (r q : Refused) : Type 0 where
   pub path : unnumbered (r .path) ≡ unnumbered (q .path)
   pub attribute : r .attribute ≡ q .attribute
 
-abbrev pub SameAnswer : Outcome (Option Report) → Outcome (Option Report) → Type 0
+abbrev pub SameAnswer : {A : Type 0} → Outcome A → Outcome A → Type 0
 SameAnswer (accepted a) (accepted b) = a ≡ b
 SameAnswer (accepted a) (refused q) = ⊥
 SameAnswer (refused r) (accepted b) = ⊥
 SameAnswer (refused r) (refused q) = SameRefusal r q
 
+-- the same answer, and the same areas afterwards
+pub record SameReading (r q : Read) : Type 0 where
+  pub outcome : SameAnswer (r .outcome) (q .outcome)
+  pub words : r .words ≡ q .words
+  pub text : r .text ≡ q .text
+  pub scratch : r .scratch ≡ q .scratch
+
 -- ---- the law: XML 1.0, section 3.1
-abbrev pub Spelling : Type 0
-Spelling = (es : List Event) → SameAnswer (deserialize es) (deserialize (spelled (begin .control) es))
+-- two tables differ in spelling alone if their events, spelled out, are the same
+pub record Spelling : Type 0 where
+  -- a table's events, spelled out, are read alike,
+  pub spelledOut : (es : List Event) → SameAnswer (deserialize es) (deserialize (spelled es))
+  -- and what is spelled out already stays.
+  pub twice : (es : List Event) → spelled (spelled es) ≡ spelled es
+  -- Two tables that differ in spelling alone are read alike where areas have no limit,
+  pub alike : (es fs : List Event) → spelled es ≡ spelled fs → SameAnswer (deserialize es) (deserialize fs)
+  -- and in areas of any lengths, if 11 lets both pass: areas that suffice for one suffice for the other, which is then read to the same
+  -- records and texts; if they don't, both are refused with the same of 12, 13 and 14.
+  pub inAreas : (events attributes source events₂ attributes₂ source₂ : List ℕ) (words text scratch : ℕ)
+      → tableOf events attributes source ≡ accepted tt → tableOf events₂ attributes₂ source₂ ≡ accepted tt
+      → spelled (resolve events attributes source) ≡ spelled (resolve events₂ attributes₂ source₂)
+      → SameReading (reading events attributes source words text scratch) (reading events₂ attributes₂ source₂ words text scratch)
