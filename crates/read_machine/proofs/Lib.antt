@@ -10,4 +10,3 @@ pub mod TreeInvariant
 pub mod TreeReport
 pub mod TreeReading
 pub mod Skipping
-pub mod EmptyTags
