@@ -1,3 +1,4 @@
 pub mod Conditions
 pub mod Apart
 pub mod Cases
+pub mod Kept

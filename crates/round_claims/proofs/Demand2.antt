@@ -1,5 +1,5 @@
 -- Demand 2, whole: each of its claims holds. Assumes nothing.
-use Prim.Native.Nat.{ℕ, _≤_}
+use Prim.Native.Nat.{ℕ, _/_, min, _≤_}
 use mathlib.Core.Path.{_≡_, refl, sym, ap, _∙_}
 use mathlib.Core.List.{List}
 use mathlib.Core.Bool.{Bool, true, cond}
@@ -14,9 +14,10 @@ use Rattle.refusal.specs.Refusal.{number, OfRules, Refused, Outcome, accepted, 
 use Rattle.refusal.specs.declared.Cause.the-variants.{BadTable}
 use Rattle.table.specs.Table.{tableOf}
 use Rattle.tree_report.specs.Report.{Report}
-use Rattle.tree_report.specs.Encode.{rowsOf}
+use Rattle.tree_report.specs.Encode.{rowsOf, wordsOf, textOf, fits as fitsAreas}
 use Rattle.tree_report.specs.Layout.{layout}
 use Rattle.tree_report.specs.ReportOf.{reportOf}
+use Rattle.tree_report.proofs.Encode.{encode-layout, encode-report}
 use Rattle.read_element.specs.Outcome.{_>>=_, roomsOf, unlimited}
 use Rattle.read_element.proofs.Rooms.{short-refusal}
 use Rattle.read_machine.specs.Machine.{Machine, run, begin}
@@ -33,14 +34,15 @@ use Rattle.public_claims.specs.PublicListing.{refusedText, isAccepted}
 use Rattle.public_claims.specs.Demand3.{Table, Areas, eventsOf, answerTo, listing, fitted, IsReport, RefusesTable, RefusesEvents, LacksRoom}
 use Rattle.public_claims.proofs.Demand3.{demand-3}
 use Rattle.round_elements.specs.Plain.{plain, sound}
-use Rattle.round_sound.proofs.Sound.{layout-sound, layout-rows}
+use Rattle.round_sound.proofs.Sound.{layout-sound, layout-rows, layout-room}
 use Rattle.round_rooms.proofs.Sufficing.{reading-roomy}
 use Rattle.round_rooms.proofs.Sparing.{reading-spared}
 use Rattle.round_report.proofs.PlainParts.{conditions}
 use Rattle.round_report.proofs.Reports.{read-back}
 use Rattle.round_trip.proofs.OwnTable.{own-bytes, Roomy, own-accepted, own-layout, own-report}
 use Rattle.round_trip.proofs.Areas.{sizesOf, write-accepts, events-used, attributes-used, bytes-used}
-use Rattle.round_claims.specs.Demand2.{Holds, Passes, readingOf, Short, Accepted, Suffice, Ample, Longer, Lent, answerOf, inUse, ownTable, Wrote, lentLimits, limits, Back, Demand2}
+use Rattle.round_claims.specs.Demand2.{Holds, Passes, readingOf, Short, Accepted, Suffice, Ample, Longer, Lent, answerOf, inUse, ownTable, Wrote, lentLimits, limits, Back, Placed, Demand2}
+use Rattle.round_claims.proofs.Layouts.{words-length, text-length, words-lent, text-lent}
 
 -- ---- either answer
 either : (o : Outcome (Unit {0})) → (o ≡ accepted tt) ⊎ ((why : Refused) × (o ≡ refused why))
@@ -220,6 +222,25 @@ module _ (r : Report) (p : plain r ≡ true) (s : sound r ≡ true) (n : length 
       same-report : {o : Outcome (Option Report)} {q : Report} → o ≡ accepted (some q) → o ≡ accepted (some r) → q ≡ r
       same-report x y = cc
 
+-- ---- G
+lays-out : (r : Report) (n m : ℕ) → fitsAreas r n m ≡ true → Placed r n m
+lays-out r n m f =
+    record {
+      words = wordsOf r n;
+      text = textOf r m;
+      wordsLength = words-length r n;
+      textLength = text-length r m;
+      wordsLent = words-lent r n m f;
+      textLent = text-lent r n m f;
+      holds = record { whole = encode-layout r n m f; report = encode-report r n m f };
+    }
+
+rows-room : (words text : List ℕ) (r : Report) → Holds r words text → length (rowsOf r) ≤ min (length words / 32) mostRecords
+rows-room words text r h =
+    let a = layout-rows words text r (h .whole) (h .report) in
+    let b = layout-room words text r (h .whole) (h .report) in
+    omega arith
+
 pub demand-2 : Demand2
 demand-2 =
     record {
@@ -235,4 +256,6 @@ demand-2 =
       onLists = read-back;
       onAreas = λ words text r w h p. back r p (layout-sound words text r w (h .whole) (h .report)) (layout-rows words text r (h .whole) (h .report)) words text h;
       ownListing = λ words text r output w h p. own-listing r p (layout-sound words text r w (h .whole) (h .report)) (layout-rows words text r (h .whole) (h .report)) output;
+      laysOut = lays-out;
+      holdsFitting = λ words text r w h. (layout-sound words text r w (h .whole) (h .report), rows-room words text r h);
     }

@@ -1,5 +1,5 @@
--- Demand 2, whole: what is claimed of reading and of writing, and that a plain report comes back. The claims are types;
--- proofs/Demand2.antt has a proof of each. Definitions only.
+-- Demand 2, whole: what is claimed of reading and of writing, that a plain report comes back, and that each report that fits has a
+-- layout. The claims are types; proofs/Demand2.antt has a proof of each. Definitions only.
 --
 -- Whoever wants to be sure that this is what the rules ask for reads these definitions, with docs/RULES.md beside them:
 --   tableOf, resolve (crate table: Table, Event)                 refusal 11; a table's events with their bytes and attributes
@@ -9,12 +9,14 @@
 --   pieces (crate round_rooms: Pieces)                           the bytes of the texts that go through scratch
 --   mostRecordsOf, mostTextOf (crate round_rooms: Needs)         the records and bytes of text that a table's events take at most
 --   layout, reportOf (crate tree_report: Layout, ReportOf)       docs/TREE.md: whether two areas are a layout; the report that they hold
+--   rowsOf, fits (crate tree_report: Encode)                     a report's records; whether records and texts fit two areas, and values are a layout's
 --   written (crate write_report: Written)                        a report's events, in the order of writing
 --   laidOut, fits (crate write_table: Laid)                      the table that holds events; whether three areas have room for it
 --   wrote, eventsLeft, attributesLeft, bytesLeft (crate write_answer: Answer)
 --                                                                what writing answers and leaves in its areas: the promise of the call
 --   plain, sound (crate round_elements: Plain)                   which reports are read back; what the values of each are
 --   areWords (crate round_sound: Words)                          words of 32 bits, as every lent area of words has
+--   every (crate tree_report: Encode)                            whether each element of a list passes a test
 --   render, publicListing (crates list_text, public_claims: Listing, PublicListing)
 --                                                                the text of a report's listing; the public listing of a table
 --
@@ -23,14 +25,16 @@
 use Prim.Native.Nat.{ℕ, _*_, _/_, min, _≤_}
 use mathlib.Core.Path.{_≡_}
 use mathlib.Core.List.{List}
-use mathlib.Core.Bool.{true}
+use mathlib.Core.Bool.{Bool, true}
 use mathlib.Core.Option.{some}
 use mathlib.Core.Logic.{_⊎_}
 use lib.ListN.{length, take}
+use lib.Dec.{leb}
 use Rattle.area.specs.Limits.{mostEntries, mostRecords, mostWords, mostBytes}
 use Rattle.refusal.specs.Refusal.{number, OfRules, Refused, Outcome, accepted, refused}
 use Rattle.table.specs.Table.{tableOf}
 use Rattle.tree_report.specs.Report.{Report}
+use Rattle.tree_report.specs.Encode.{every, rowsOf, fits as fitsAreas}
 use Rattle.tree_report.specs.Layout.{layout}
 use Rattle.tree_report.specs.ReportOf.{reportOf}
 use Rattle.read_element.specs.Outcome.{unlimited}
@@ -138,6 +142,20 @@ pub record Back (words text : List ℕ) (r : Report) : Type 0 where
   pub reads : (output : ℕ) → answerTo (inUse words text lentLimits numbers) (limits output) ≡ accepted tt
   pub left : (output : ℕ) → Holds r (readingOf (inUse words text lentLimits numbers) (limits output) .words) (readingOf (inUse words text lentLimits numbers) (limits output) .text)
 
+-- bytes, as every lent area of bytes has
+abbrev pub areBytes : List ℕ → Bool
+areBytes text = every (λ (b : ℕ). leb b 255) text
+
+-- two areas of so many words and bytes, as they may be lent, that hold a report
+pub record Placed (r : Report) (manyWords manyBytes : ℕ) : Type 0 where
+  pub words : List ℕ
+  pub text : List ℕ
+  pub wordsLength : length words ≡ manyWords
+  pub textLength : length text ≡ manyBytes
+  pub wordsLent : areWords words ≡ true
+  pub textLent : areBytes text ≡ true
+  pub holds : Holds r words text
+
 -- ---- the claims
 pub record Demand2 : Type 0 where
   -- A. What reading accepts, the rules of reading accept; what it leaves is a layout that holds the report that they give.
@@ -166,3 +184,9 @@ pub record Demand2 : Type 0 where
   -- F. The public listing of a plain report's own table is the listing of its tree.
   pub ownListing : (words text : List ℕ) (r : Report) (output : ℕ) → areWords words ≡ true → Holds r words text
       → plain r ≡ true → length (render r) ≤ output → listing (ownTable r) (limits output) ≡ render r
+  -- G. Each report that fits has a layout (rule M9): with areas of any lengths that its records and texts fit, one behind the other.
+  pub laysOut : (r : Report) (manyWords manyBytes : ℕ) → fitsAreas r manyWords manyBytes ≡ true → Placed r manyWords manyBytes
+  -- G. Its values and records are what must fit: what a layout holds is sound, and has no more records than the area has room for.
+  -- Of the bytes less may do, where texts share some.
+  pub holdsFitting : (words text : List ℕ) (r : Report) → areWords words ≡ true → Holds r words text
+      → (sound r ≡ true) × (length (rowsOf r) ≤ min (length words / 32) mostRecords)
