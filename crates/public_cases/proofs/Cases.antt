@@ -65,7 +65,8 @@ unfolding utf8.need utf8.low utf8.high codeFrom sameBytes keys tags
     role.roleIn role.reportRole role.suiteRole role.caseRole role.propertyRole role.statusRole role.roleOf marked
     outcome._>>=_ outcome.there outcome.need outcome.fits
     attributes.readText attributes.newExtra attributes.readExtra attributes.byRole attributes.readAttributes attributes.complete attributes.readElement
-    rules.outputs rules.emptied rules.atTop rules.atSuite rules.atCase rules.atStatus rules.inText rules.inList rules.inSkip rules.planAt rules.planEof control.gathers control.turn marksAfter
+    rules.outputs rules.emptied rules.atTop rules.atSuite rules.atCase rules.child rules.atStatus rules.inText
+    rules.inList rules.inSkip rules.planAt rules.planEof control.orSkip control.gathers control.turn marksAfter
     content.pieceOf content.gather content.adding content.keeping content.describing content.outputting content.perform
     machine.act machine.step machine.run reading.readAs reading.reading
     listing.runText listing.caseText listing.suiteText listing.header listing.renderPublic listing.render listing.listingOf listing.listingAnswer
@@ -79,5 +80,7 @@ proved-cases =
     (one-case refl (one-case refl (one-case refl (one-case refl (one-case refl (one-case refl (one-case refl
     (one-case refl (one-case refl (one-case refl (one-case refl (one-case refl (one-case refl (one-case refl (one-case {c = agreeing} (refl, refl, refl)
     (one-case refl (one-case refl (one-case refl (one-case refl
-    (one-case refl (one-case refl (one-case refl
-    (one-case refl (one-case refl (one-case refl (one-case refl (one-case refl (one-case refl (one-case refl (one-case refl no-case))))))))))))))))))))))))))))))))))))
+    (one-case refl (one-case refl (one-case refl (one-case refl
+    (one-case refl (one-case refl (one-case refl (one-case refl (one-case refl (one-case refl (one-case refl (one-case refl
+    (one-case refl (one-case refl (one-case refl (one-case refl (one-case refl
+    (one-case refl (one-case refl (one-case refl (one-case refl no-case))))))))))))))))))))))))))))))))))))))))))))))

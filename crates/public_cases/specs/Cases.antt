@@ -1,11 +1,14 @@
 -- Cases that are proved: the worked listing, an example of each refusal from 2 to 10, of 20 and 21, values at their limits, statuses,
--- outputs, references in texts, tables that agree, Empty tags; and cases of writing. What is expected is written down, not computed.
+-- outputs, references in texts, tables that agree, Empty tags, tags at report level, attributes that are read or not, dead records; and
+-- cases of writing. What is expected is written down, not computed.
 -- Definitions only.
-use Prim.Native.Nat.{ℕ}
+use Prim.Native.Nat.{ℕ, _+_, _-_}
 use Prim.Native.String.{String}
 use mathlib.Core.Path.{_≡_}
+use mathlib.Core.Bool.{Bool, true}
 use mathlib.Core.List.{List, [], _∷_, _++_, map}
 use mathlib.Core.Option.{Option, none, some}
+use lib.ListN.{length, replicate}
 use Rattle.names.specs.Bytes.{bytes}
 use Rattle.refusal.specs.Refusal.{Outcome, accepted, refused, nowhere, number}
 use Rattle.refusal.specs.declared.Cause.{Cause}
@@ -14,13 +17,15 @@ use Rattle.refusal.specs.declared.PathElement.{PathElement}
 use Rattle.table.specs.Event.{Event, resolve}
 use Rattle.tree_report.specs.Report.{error, success, TestRerun, TestSuite, Report}
 use Rattle.tree_report.specs.ReportOf.{reportOf}
+use Rattle.tree_report.specs.Layout.{layout}
 use Rattle.read_machine.specs.Reading.{Read, reading}
+use Rattle.list_text.specs.Listing.{listingOf}
 use Rattle.public_claims.specs.Agree.{agree}
 use Rattle.public_claims.specs.PublicListing.{publicListing}
 use Rattle.write_report.specs.Written.{written}
 use Rattle.write_answer.specs.Answer as answer
 use Rattle.public_cases.specs.Document.{Named, Markup, _≔_, start, empty, end, text, cdata, ref, comment, indent, eventsOf, attributesOf, sourceOf}
-use Rattle.public_cases.specs.Reports.{noCounts, ofStatus, ofCases, ofSuites, workedEvents, full, fullEvents, oneFlaky, oneFlakyEvents, emptyOutput, emptyOutputEvents}
+use Rattle.public_cases.specs.Reports.{noCounts, ofStatus, ofCases, ofSuites, workedEvents, full, fullEvents, oneFlaky, oneFlakyEvents, emptyOutput, emptyOutputEvents, liveEvents}
 
 -- ---- what is expected of a table
 pub data Expected : Type 0 where
@@ -35,11 +40,13 @@ pub data Expected : Type 0 where
   -- accepted, and the report left in the areas is written as these events
   writes : List Event → Expected
 
--- ---- a case: the events, attributes and source of a table, or a report, and what is expected of it
+-- ---- a case: the events, attributes and source of a table, a report or the words and text of a tree, and what is expected of it
 pub data Case : Type 0 where
   table : List ℕ → List ℕ → List ℕ → Expected → Case
   -- written as these events
   report : Report → List Event → Case
+  -- a layout, with this listing, written as these events
+  tree : List ℕ → List ℕ → List ℕ → List Event → Case
 
 -- the areas have 10 records of 32 words, 64 bytes of text, 64 of scratch and 256 of output, which is enough for each case
 abbrev pub readIn : List ℕ → List ℕ → List ℕ → Read
@@ -63,6 +70,8 @@ HoldsOf events attributes source (writes es) =
 abbrev pub Holds : Case → Type 0
 Holds (table events attributes source e) = HoldsOf events attributes source e
 Holds (report r es) = written r ≡ es
+Holds (tree words texts t es) =
+    _≡_ {A = Bool × List ℕ × List Event} (layout words texts, listingOf words texts, answer.eventsOf words texts) (true, t, es)
 
 pub data All : List Case → Type 0 where
   no-case : All []
@@ -89,6 +98,12 @@ testcase i e = record { kind = 3; index = i; event = e }
 
 abbrev pub properties : PathElement
 properties = record { kind = 4; index = nowhere; event = nowhere }
+
+abbrev pub property : ℕ → PathElement
+property i = record { kind = 5; index = i; event = nowhere }
+
+abbrev pub skipped : PathElement
+skipped = record { kind = 8; index = nowhere; event = nowhere }
 
 abbrev pub system-out : PathElement
 system-out = record { kind = 14; index = nowhere; event = nowhere }
@@ -338,12 +353,13 @@ twoAccents =
       extra = [];
     }
 
--- a bad number is 10, and not 21 (rule X6)
+-- a bad number is 10, and not 21 (rule X6); so is one with a semicolon, since a name counts whole
 abbrev pub references : List Case
 references =
     numbered (ref "#233" ∷ ref "#xe9" ∷ []) (reads (ofSuites (twoAccents ∷ [])))
     ∷ numbered (ref "#0" ∷ []) (refuses 10 cause.BadReference (testsuites ∷ testsuite 0 1 ∷ system-out ∷ []) 3 nowhere)
     ∷ numbered (ref "#" ∷ []) (refuses 10 cause.BadReference (testsuites ∷ testsuite 0 1 ∷ system-out ∷ []) 3 nowhere)
+    ∷ numbered (ref "#65;" ∷ []) (refuses 10 cause.BadReference (testsuites ∷ testsuite 0 1 ∷ system-out ∷ []) 3 nowhere)
     ∷ []
 
 -- ---- two tables that agree (rule L2)
@@ -503,6 +519,152 @@ emptyTags =
     ∷ propertyCut
     ∷ []
 
+-- ---- tags at report level (rules R3 and R7)
+-- an unknown tag is passed over by itself, Start, Empty and End: what it holds is read as if it stood at report level
+abbrev pub underUnknown : Case
+underUnknown =
+    document (start "x" []
+    ∷ start "testsuites" []
+    ∷ start "testcase" []
+    ∷ empty "y" []
+    ∷ empty "testsuite" ("name" ≔ "s" ∷ [])
+    ∷ end "testcase"
+    ∷ end "x"
+    ∷ empty "testsuite" ("name" ≔ "t" ∷ [])
+    ∷ end "testsuites"
+    ∷ [])
+    (lists (lines ("(report - 0 0 0 0 -"
+    ∷ "(suite \"s\" 0 0 0 0 -)"
+    ∷ "(suite \"t\" 0 0 0 0 -))"
+    ∷ [])))
+
+-- the first report is dead with its suite and case, and they aren't listed (rule M12)
+abbrev pub secondReport : Case
+secondReport =
+    document (start "testsuites" ("name" ≔ "q" ∷ [])
+    ∷ start "testsuite" ("name" ≔ "x" ∷ [])
+    ∷ empty "testcase" ("name" ≔ "y" ∷ [])
+    ∷ end "testsuite"
+    ∷ start "testsuites" ("name" ≔ "r" ∷ [])
+    ∷ empty "testsuite" ("name" ≔ "s" ∷ [])
+    ∷ end "testsuites"
+    ∷ [])
+    (lists (lines ("(report \"r\" 0 0 0 0 -"
+    ∷ "(suite \"s\" 0 0 0 0 -))"
+    ∷ [])))
+
+-- ---- attributes are read of report, suite, case, status element and property, where these count, and of no other tag (rule A1)
+-- refused where they are read (rule A3)
+abbrev pub repeated : List Named
+repeated = "a" ≔ "" ∷ "a" ≔ "" ∷ []
+
+-- in turn: a suite before the report; at report level; in a suite, in what is skipped there, in a list, of the outputs; in a case and a
+-- status element
+abbrev pub unread : Case
+unread =
+    document (empty "testsuite" repeated
+    ∷ start "testsuites" []
+    ∷ start "x" repeated
+    ∷ empty "testcase" repeated
+    ∷ start "testsuite" ("name" ≔ "s" ∷ [])
+    ∷ start "x" repeated
+    ∷ empty "testcase" repeated
+    ∷ end "x"
+    ∷ empty "failure" repeated
+    ∷ start "properties" repeated
+    ∷ start "x" repeated
+    ∷ end "properties"
+    ∷ start "system-out" repeated
+    ∷ empty "testcase" repeated
+    ∷ end "system-out"
+    ∷ start "testcase" ("name" ≔ "t" ∷ [])
+    ∷ empty "property" repeated
+    ∷ start "failure" []
+    ∷ start "stackTrace" repeated
+    ∷ end "stackTrace"
+    ∷ empty "system-err" repeated
+    ∷ empty "failure" repeated
+    ∷ end "failure"
+    ∷ end "testcase"
+    ∷ end "testsuite"
+    ∷ end "testsuites"
+    ∷ [])
+    (lists (lines ("(report - 0 0 0 0 -"
+    ∷ "(suite \"s\" 0 0 0 0 -"
+    ∷ "(case \"t\" - - failure rerun 0)))"
+    ∷ [])))
+
+-- the elements whose attributes are read; the case is `twice`
+abbrev pub readTags : List Case
+readTags =
+    document (empty "testsuites" repeated ∷ []) (refuses 9 cause.RepeatedKey (testsuites ∷ []) 0 1)
+    ∷ document (start "testsuites" [] ∷ empty "testsuite" repeated ∷ []) (refuses 9 cause.RepeatedKey (testsuites ∷ testsuite 0 nowhere ∷ []) 1 1)
+    ∷ document (withStatuses (empty "skipped" repeated ∷ [])) (refuses 9 cause.RepeatedKey (testsuites ∷ testsuite 0 1 ∷ testcase 0 2 ∷ skipped ∷ []) 3 3)
+    ∷ document (inSuite (start "properties" [] ∷ empty "property" repeated ∷ []))
+    (refuses 9 cause.RepeatedKey (testsuites ∷ testsuite 0 1 ∷ properties ∷ property 0 ∷ []) 3 2)
+    ∷ []
+
+-- a `property` without value, cut off in its content: 7 at its Start, not 1 behind it (rule A12):
+-- testsuites/testsuite[0]("s")/properties/property[0]/@value
+abbrev pub missingValue : Case
+missingValue =
+    document (start "testsuites" []
+    ∷ start "testsuite" ("name" ≔ "s" ∷ [])
+    ∷ start "properties" []
+    ∷ start "property" ("name" ≔ "a" ∷ [])
+    ∷ [])
+    (refuses 7 cause.MissingAttribute (testsuites ∷ testsuite 0 1 ∷ properties ∷ property 0 ∷ attribute 14 ∷ []) 3 nowhere)
+
+-- ---- dead records (rules M12 and M13)
+-- a record of 32 words that begins with these
+abbrev pub row : List ℕ → List ℕ
+row ws = ws ++ replicate (32 - length ws) 0
+
+-- a name, and a value behind it, each a byte long, from byte p of the texts on
+abbrev pub pair : ℕ → ℕ → List ℕ
+pair k p = row (k ∷ 3 ∷ p ∷ 1 ∷ (p + 1) ∷ 1 ∷ [])
+
+-- nothing of a dead record is looked at but its kind
+abbrev pub dead : ℕ → List ℕ
+dead k = (k + 16) ∷ replicate 31 9
+
+-- one before the report, one between each element and its first extra, one within each list, a failure and a rerun beside a flaky run
+abbrev pub withDead : List (List ℕ)
+withDead =
+    dead 1
+    ∷ row (1 ∷ [])
+    ∷ row (2 ∷ 1 ∷ 0 ∷ 1 ∷ [])
+    ∷ dead 13
+    ∷ pair 13 1
+    ∷ pair 4 3
+    ∷ dead 3
+    ∷ pair 4 5
+    ∷ row (3 ∷ 1 ∷ 7 ∷ 1 ∷ [])
+    ∷ dead 2
+    ∷ pair 14 1
+    ∷ pair 5 3
+    ∷ dead 6
+    ∷ pair 5 5
+    ∷ dead 12
+    ∷ row (9 ∷ [])
+    ∷ []
+
+abbrev pub joined : List (List ℕ) → List ℕ
+joined [] = []
+joined (r ∷ rs) = r ++ joined rs
+
+abbrev pub deadAmong : Case
+deadAmong =
+    tree (joined withDead) (bytes "skvabcdt") (lines ("(report - 0 0 0 0 -"
+    ∷ "(suite \"s\" 0 0 0 0 -"
+    ∷ "(case \"t\" - - success flaky 1"
+    ∷ "(run failure -))))"
+    ∷ []))
+    liveEvents
+
+abbrev pub laterCases : List Case
+laterCases = underUnknown ∷ secondReport ∷ unread ∷ missingValue ∷ deadAmong ∷ readTags
+
 -- ---- the table
 abbrev pub cases : List Case
 cases =
@@ -532,4 +694,4 @@ cases =
     ∷ report full fullEvents
     ∷ report oneFlaky oneFlakyEvents
     ∷ report emptyOutput emptyOutputEvents
-    ∷ (references ++ emptyTags)
+    ∷ (references ++ (emptyTags ++ laterCases))

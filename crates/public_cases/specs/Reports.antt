@@ -320,3 +320,27 @@ emptyOutputEvents =
     ∷ Eof
     ∷ breaks
     ∷ []
+
+-- ---- the live records of a tree with dead ones (rule M12)
+abbrev pub liveEvents : List Event
+liveEvents =
+    declares
+    ∷ opens "testsuites" 0 ("tests" ≔ "0" ∷ "skipped" ≔ "0" ∷ "failures" ≔ "0" ∷ "errors" ≔ "0" ∷ [])
+    ∷ opens "testsuite" 4 ("name" ≔ "s" ∷ "tests" ≔ "0" ∷ "skipped" ≔ "0" ∷ "errors" ≔ "0" ∷ "failures" ≔ "0" ∷ "k" ≔ "v" ∷ [])
+    ∷ opens "properties" 0 []
+    ∷ empties "property" 10 ("name" ≔ "a" ∷ "value" ≔ "b" ∷ [])
+    ∷ empties "property" 12 ("name" ≔ "c" ∷ "value" ≔ "d" ∷ [])
+    ∷ closes "properties"
+    ∷ opens "testcase" 14 ("name" ≔ "t" ∷ "k" ≔ "v" ∷ [])
+    ∷ opens "properties" 0 []
+    ∷ empties "property" 16 ("name" ≔ "a" ∷ "value" ≔ "b" ∷ [])
+    ∷ empties "property" 18 ("name" ≔ "c" ∷ "value" ≔ "d" ∷ [])
+    ∷ closes "properties"
+    ∷ opens "flakyFailure" 0 []
+    ∷ closes "flakyFailure"
+    ∷ closes "testcase"
+    ∷ closes "testsuite"
+    ∷ closes "testsuites"
+    ∷ Eof
+    ∷ breaks
+    ∷ []
