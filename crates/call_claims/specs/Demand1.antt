@@ -21,7 +21,36 @@
 -- text, or says that it doesn't fit. The calls from C (crate port_c) pass on to these, and the programs (crates list_printing, write_printing: Printed)
 -- print what they come to, or `(refused)`. No claim here speaks of two more calls on XML
 -- documents: `list_xml` tokenizes, reads and lists, with `(refused)` where one of these refuses, and `explain_xml` puts a tokenizer's refusal in words,
--- or says that it doesn't fit. That the list is whole shows in the exports of port_c.
+-- or says that it doesn't fit.
+--
+-- The calls from C and what each passes on to; docs/check holds this list against the exports of crate port_c:
+--   kerzhoma_tokenize: tokenizer::tokenize
+--   kerzhoma_list_xml: xml_call::list_xml
+--   kerzhoma_explain_xml: explain_xml::explain_xml
+--   kerzhoma_read: reader::read
+--   kerzhoma_is_layout: tree_layout::is_layout
+--   kerzhoma_explain: explain::explain
+--   kerzhoma_list: lister::list
+--   kerzhoma_public_listing: public_call::public_listing
+--   kerzhoma_write: writer::write
+--   kerzhoma_time_text: time_text::write_time
+--   kerzhoma_add_case: tree_counts::Counts::add_test_case
+--   kerzhoma_add_suite: tree_counts::Counts::add_test_suite
+--   kerzhoma_unnamed_report: builder::unnamed_report
+--   kerzhoma_new_report: builder::new_report
+--   kerzhoma_add_test_suite: builder::add_test_suite
+--   kerzhoma_add_test_case: builder::add_test_case
+--   kerzhoma_add_rerun: builder::add_rerun
+--   kerzhoma_add_property: builder::add_property
+--   kerzhoma_add_extra: builder::add_extra
+--   kerzhoma_finish_report: builder::finish_report
+--   kerzhoma_set_text: builder_set::set_text
+--   kerzhoma_set_output_lossy: builder_set::set_output_lossy
+--   kerzhoma_set_timestamp: builder_set::set_timestamp
+--   kerzhoma_set_time: builder_set::set_time
+--   kerzhoma_set_uuid: builder_set::set_uuid
+--   kerzhoma_set_number: builder_set::set_number
+--   kerzhoma_set_rerun_kind: builder_set::set_rerun_kind
 --
 -- Inputs are unchanged: they are lent as `&`, through which nothing can be stored, or go in by value.
 --
