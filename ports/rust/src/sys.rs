@@ -25,6 +25,13 @@ pub struct Listing {
 
 #[repr(C)]
 #[derive(Clone, Copy)]
+pub struct Explained {
+    pub length: usize,
+    pub refusal: Refusal,
+}
+
+#[repr(C)]
+#[derive(Clone, Copy)]
 pub struct Writing {
     pub events: usize,
     pub attributes: usize,
@@ -102,7 +109,7 @@ pub struct Uuid {
 // The sizes that C gives the same structs on x86-64.
 const _: () = {
     assert!(size_of::<Refusal>() == 92 && size_of::<Listing>() == 104 && size_of::<Writing>() == 120);
-    assert!(size_of::<Tokenized>() == 16);
+    assert!(size_of::<Tokenized>() == 16 && size_of::<Explained>() == 104);
     assert!(size_of::<Counts>() == 48 && size_of::<Counted>() == 144);
     assert!(size_of::<Builder>() == 24 && size_of::<Built>() == 116);
     assert!(size_of::<Moment>() == 16 && size_of::<Uuid>() == 16);
@@ -140,7 +147,7 @@ extern "C" {
     fn kerzhoma_explain(
         refusal: Refusal, events: *const u32, events_len: usize, attributes: *const u32, attributes_len: usize, source: *const u8,
         source_len: usize, out: *mut u8, out_len: usize,
-    ) -> Listing;
+    ) -> Explained;
     fn kerzhoma_time_text(out: *mut u8, out_len: usize, seconds: u32, nanos: u32) -> usize;
     fn kerzhoma_add_case(counts: Counts, outcome: u32) -> Counted;
     fn kerzhoma_add_suite(counts: Counts, suite: Counts) -> Counted;
@@ -303,7 +310,7 @@ pub fn write(records: &[u32], text: &[u8], events: &mut [u32], attributes: &mut 
     }
 }
 
-pub fn explain(refusal: Refusal, events: &[u32], attributes: &[u32], source: &[u8], out: &mut [u8]) -> Listing {
+pub fn explain(refusal: Refusal, events: &[u32], attributes: &[u32], source: &[u8], out: &mut [u8]) -> Explained {
     unsafe {
         kerzhoma_explain(
             refusal,
