@@ -2,14 +2,16 @@
  * nothing. Each call below is proved to answer and leave what its definition says, on every table, area and number.
  *
  *     rt staticlib port_c                                            makes target/staticlib/libport_c.a
- *     cc -std=c11 -I ports/c yours.c target/staticlib/libport_c.a    (x86-64 Linux; of the C library only memset is used)
+ *     cc -std=c11 -I ports/c yours.c target/staticlib/libport_c.a    (x86-64 Linux; of the C library only memset and memcpy are used)
  *
  * There is no allocation, no global state and no output: a call works in areas that the caller lends, each as pointer and length.
  * Lengths of `uint32_t *` are in words, of `uint8_t *` in bytes.
  *   - NULL with length 0 is an empty area. Any other NULL, a pointer to words that isn't aligned to 4 bytes, an area that is shorter
  *     than its length says, or a result area that overlaps another area of the same call is the caller's fault, and undefined.
  *   - Inputs (`const`) are never changed. Result areas may hold anything before the call.
- *   - Where a call refuses, every result area of it is zero throughout.
+ *   - Where a call refuses, every result area of it is zero throughout; but not where kerzhoma_public_listing and kerzhoma_list_xml answer
+ *     `(refused)`: events and attributes are then as tokenizing left them, records, text and scratch as reading left them. Where `out` is
+ *     too short for a listing, records and text hold the report, private text included.
  *   - Areas may be longer than the limits; only that much is used.
  *   - Any number of threads may call at the same time, each with areas of its own.
  * Records, texts, scratch and explanations hold private text; listings don't. */
@@ -81,11 +83,11 @@ enum kerzhoma_refused {
     KERZHOMA_REFUSED_ATTRIBUTE = 9,  /* faulty, or a key stands twice */
     KERZHOMA_REFUSED_REFERENCE = 10, /* &..; */
     KERZHOMA_REFUSED_TABLE = 11,     /* the table is malformed or above the limits */
-    KERZHOMA_REFUSED_RECORDS = 12,   /* `records` is too short */
-    KERZHOMA_REFUSED_TEXT = 13,      /* `text` is too short */
-    KERZHOMA_REFUSED_SCRATCH = 14,   /* `scratch` is too short */
+    KERZHOMA_REFUSED_RECORDS = 12,   /* `records` is too short, or the limit is too small */
+    KERZHOMA_REFUSED_TEXT = 13,      /* `text` is too short, or the limit is too small */
+    KERZHOMA_REFUSED_SCRATCH = 14,   /* `scratch` is too short, or the limit is too small */
     KERZHOMA_REFUSED_LAYOUT = 15,    /* the areas hold no report; a builder's call that doesn't fit there; a code that is none */
-    KERZHOMA_REFUSED_OUTPUT = 16,    /* an area for output is too short */
+    KERZHOMA_REFUSED_OUTPUT = 16,    /* an area for output is too short, or its limit too small */
     KERZHOMA_REFUSED_COUNT = 17,     /* a count would pass 18446744073709551615 */
     KERZHOMA_REFUSED_XML = 18,       /* the document isn't well-formed XML */
     KERZHOMA_REFUSED_DOCTYPE = 19,   /* a document type declaration */
@@ -149,7 +151,9 @@ typedef struct kerzhoma_tokenized {
 } kerzhoma_tokenized;
 
 /* Puts the table of an XML document (XML 1.0, UTF-8, without a document type declaration) at the front of two areas, and zeros behind it.
- * The document is the table's source. An event for each byte and one more, and an attribute for each four bytes, certainly suffice. */
+ * The document is the table's source. An event for each byte and one more, and an attribute for each four bytes, suffice wherever the
+ * limits do: a document with more than 65,536 events, Eof among them, or more than 65,536 attributes is refused with 16 whatever the
+ * areas, such as `<a>`, 65,534 times `<b/>`, `</a>`. */
 kerzhoma_tokenized kerzhoma_tokenize(
     const uint8_t *source, size_t source_length,
     uint32_t *events, size_t events_length,
@@ -166,8 +170,9 @@ size_t kerzhoma_explain_xml(
 /* ---- reading ---- */
 
 /* Reads a table. Accepted, `records` and `text` hold the report by docs/TREE.md, with zeros behind it, and `scratch` is zero; refused,
- * all three are. What certainly suffices: 32 words for each Start and Empty and for each of their attributes; for text, the bytes of
- * their keys and values, and for both text and scratch, the bytes of all other events and one more for each; never more than the limits. */
+ * all three are. What suffices wherever the limits do: 32 words for each Start and Empty and for each of their attributes; for text, the
+ * bytes of their keys and values, and for both text and scratch, the bytes of all other events and one more for each. What needs more
+ * than the limits is refused with 12, 13 or 14 whatever the areas. */
 kerzhoma_refusal kerzhoma_read(
     const uint32_t *events, size_t events_length,
     const uint32_t *attributes, size_t attributes_length,
@@ -212,7 +217,8 @@ kerzhoma_listing kerzhoma_list(
 
 /* Reading and listing in one: puts the listing, or `(refused)` and a newline where either refuses, at the front of `out`, and zeros
  * behind it; of a shorter area the part of `(refused)` that fits. Returns how many bytes of `out` that takes. The other areas are as
- * kerzhoma_read leaves them. */
+ * kerzhoma_read leaves them: zero where reading refuses, but where `out` is too short for the listing, `records` and `text` hold the
+ * report. */
 size_t kerzhoma_public_listing(
     const uint32_t *events, size_t events_length,
     const uint32_t *attributes, size_t attributes_length,
@@ -223,7 +229,8 @@ size_t kerzhoma_public_listing(
     uint8_t *out, size_t out_length);
 
 /* Tokenizing, reading and listing in one: the listing of an XML document, or `(refused)`, as kerzhoma_public_listing puts it. `events` and
- * `attributes` are as kerzhoma_tokenize leaves them, and where that refuses the other areas are zero. */
+ * `attributes` are as kerzhoma_tokenize leaves them; the other areas are zero where that refuses, and else as kerzhoma_public_listing
+ * leaves them. */
 size_t kerzhoma_list_xml(
     const uint8_t *source, size_t source_length,
     uint32_t *events, size_t events_length,

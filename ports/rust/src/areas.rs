@@ -75,7 +75,7 @@ impl Areas {
         self.scratch.fill(0);
     }
 
-    /// Whether all areas are zero: as they are new, behind [`clear`](Areas::clear), and behind a refusal.
+    /// Whether all areas are zero: as they are new, behind [`clear`](Areas::clear), and behind a refusal of reading or building.
     pub fn is_clear(&self) -> bool {
         let bytes = |area: &[u8]| area.iter().all(|b| *b == 0);
         self.records.iter().all(|w| *w == 0) && bytes(&self.text) && bytes(&self.scratch)

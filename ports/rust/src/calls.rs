@@ -86,7 +86,7 @@ pub fn public_listing(table: &Table<'_>, areas: &mut Areas) -> String {
 }
 
 /// The same into an area, with zeros behind it: how many bytes it takes. Where the area is too short for the listing, `(refused)` stands
-/// there, as far as it fits.
+/// there, as far as it fits, and `areas` hold the report, private text included.
 pub fn public_listing_into(table: &Table<'_>, areas: &mut Areas, out: &mut [u8]) -> usize {
     let Areas { records, text, scratch } = areas;
     sys::public_listing(table.events, table.attributes, table.source, records, text, scratch, out)

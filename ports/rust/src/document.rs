@@ -77,7 +77,8 @@ fn entries(source: &[u8]) -> (Vec<u32>, Vec<u32>) {
 ///
 /// # Errors
 ///
-/// Where the document is refused, 16 where an area is too short; both are zero then.
+/// Where the document is refused, 16 where an area is too short, or the document has more than 65,536 events, Eof among them, or
+/// attributes; both are zero then.
 pub fn tokenize_into<'o>(
     source: &'o [u8], events: &'o mut [u32], attributes: &'o mut [u32],
 ) -> Result<Table<'o>, XmlRefusal> {
