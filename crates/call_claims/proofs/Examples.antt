@@ -7,9 +7,11 @@ use Rattle.names.specs.Names.{codeFrom, sameBytes}
 use Rattle.names.specs.Keys.{keys}
 use Rattle.names.specs.Tags.{tags}
 use Rattle.utf8.specs.Utf8 as utf8
-use Rattle.refusal.specs.Refusal.{nowhere, refused, late}
+use Rattle.refusal.specs.Refusal.{nowhere, Outcome, refused, late}
 use Rattle.refusal.specs.declared.Cause.the-variants as cause
-use Rattle.tree_counts.specs.declared.Outcome.the-variants.{Success}
+use Rattle.tree_counts.specs.declared.Counts.{Counts}
+use Rattle.tree_counts.specs.declared.Outcome.the-variants.{Success, Skipped}
+use Rattle.tree_counts.specs.Counts.{withCase}
 use Rattle.table.specs.Event.{Attribute, Start, Empty, Event, Tag}
 use Rattle.read_keys.specs.Roles as role
 use Rattle.tree_record.specs.Record.{marked}
@@ -24,6 +26,9 @@ use Rattle.build_draft.specs.Draft as draft
 use Rattle.build_draft.specs.Draft.{_>>=_}
 use Rattle.build_draft.specs.Parts as part
 use Rattle.build_draft.specs.Calls as call
+use Rattle.port_values.specs.Codes.{coded}
+use Rattle.port_values.specs.Codes as code
+use Rattle.call_claims.specs.Demand1.{codedCase}
 
 abbrev named : List Attribute
 named = record { good = true; key = bytes "name"; value = [] } ∷ []
@@ -75,3 +80,16 @@ no-room = refl
 no-suite : (call.unnamedReport 32 0 >>= call.addTestCase (bytes "a") Success) ≡ refused (late cause.NotLayout)
 unfolding call.unnamedReport call.addTestCase call.openCase part.taking draft.isRecord draft.isOf draft.asks draft._>>=_
 no-suite = refl
+
+-- ---- codes from C: the last outcome, and the numbers behind each list (15)
+last-outcome : (c : Counts) → codedCase c 3 ≡ withCase c Skipped
+last-outcome c = refl
+
+no-outcome : (c : Counts) → codedCase c 4 ≡ refused (late cause.NotLayout)
+no-outcome c = refl
+
+no-codes : (o : Outcome draft.Draft)
+    → (coded code.elements 5 o ≡ refused (late cause.NotLayout)) × (coded code.holders 2 o ≡ refused (late cause.NotLayout))
+    × (coded code.fields 7 o ≡ refused (late cause.NotLayout)) × (coded code.numbers 2 o ≡ refused (late cause.NotLayout))
+    × (coded code.kinds 2 o ≡ refused (late cause.NotLayout)) × (coded code.families 2 o ≡ refused (late cause.NotLayout))
+no-codes o = (refl, refl, refl, refl, refl, refl)

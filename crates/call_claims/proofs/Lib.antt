@@ -2,7 +2,10 @@ pub mod PathsElement
 pub mod Paths
 pub mod LateCalls
 pub mod BuilderCalls
+pub mod CodedCalls
 pub mod TokenCall
 pub mod ReadCall
+pub mod ListCalls
+pub mod XmlCall
 pub mod Demand1
 mod Examples

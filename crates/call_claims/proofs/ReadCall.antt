@@ -74,7 +74,7 @@ of-room c (inl e) = of-cause e refl
 of-room c (inr (inl e)) = of-cause e refl
 of-room c (inr (inr e)) = of-cause e refl
 
-not-table : {A : Type 0} (c : Cause) → IsShort c ⊎ OfRules (number c) → number c ≡ 11 → A
+pub not-table : {A : Type 0} (c : Cause) → IsShort c ⊎ OfRules (number c) → number c ≡ 11 → A
 not-table c (inl (inl h)) e = let z : number c ≡ 12 = ap number h in absurd (omega arith)
 not-table c (inl (inr (inl h))) e = let z : number c ≡ 13 = ap number h in absurd (omega arith)
 not-table c (inl (inr (inr h))) e = let z : number c ≡ 14 = ap number h in absurd (omega arith)

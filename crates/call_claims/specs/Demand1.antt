@@ -4,53 +4,70 @@
 --
 -- "Takes every table and area, does nothing undefined, and completes" is what a contract without a `requires` says: the checker proves the body of
 -- each entry point, and of all that it calls, safe and ending for every argument. What an entry point answers and leaves in each lent area is, by the
--- same contract, equal to these definitions, and of them the claims speak:
---   tokenizer::tokenize                tokens (crate xml_machine: Tokens)
---   reader::read                       reading (crate read_machine: Reading)
---   lister::list                       listed, outputOf (crate list_text: Listing)
---   writer::write                      wrote, eventsLeft, attributesLeft, bytesLeft (crate write_answer: Answer)
---   public_call::public_listing        publicListing (crate public_claims: PublicListing), and reading for the areas between
---   explain::explain                   explained, explanationIn (crate explain_text: Explanation)
---   tree_counts::Counts::add_test_suite, add_test_case
---                                      withSuite, withCase, kept (crate tree_counts: Counts)
---   builder, builder_set: each call    its namesake (crate build_draft: Calls), with wordsLeft and textLeft (Draft)
--- The answer is the outcome as a struct, with `refusalFrom` (crate refusal: Refusal) of what a refusal carries: answerOf (crate reader: Answer),
--- listingFrom (lister), writingFrom (writer), explainedFrom (explain), countedFrom (tree_counts: Counts), builtFrom (build_draft: Draft).
--- Tokenizing alone has no such struct: its refusal is a number, 18 and 19 among them, and a byte (result, crate xml_state: Turns).
--- Two calls refuse nothing: `tree_layout::is_layout` says whether areas are a layout (crate tree_report: Layout), and `time_text::write_time` puts a
--- text, or says that it doesn't fit. The calls from C (crate port_c) pass on to these, and the programs (crates list_printing, write_printing: Printed)
--- print what they come to, or `(refused)`. No claim here speaks of two more calls on XML
--- documents: `list_xml` tokenizes, reads and lists, with `(refused)` where one of these refuses, and `explain_xml` puts a tokenizer's refusal in words,
--- or says that it doesn't fit.
---
--- The calls from C and what each passes on to; docs/check holds this list against the exports of crate port_c:
+-- same contract, equal to these definitions, and of them the claims speak. Each exported call (crate port_c) stands here with the entry point that it
+-- passes on to (docs/check holds this list against the exports), and under it the definitions and the numbers that it may refuse with:
 --   kerzhoma_tokenize: tokenizer::tokenize
---   kerzhoma_list_xml: xml_call::list_xml
---   kerzhoma_explain_xml: explain_xml::explain_xml
+--       tokens (crate xml_machine: Tokens); 11, 16, 18, 19
 --   kerzhoma_read: reader::read
---   kerzhoma_is_layout: tree_layout::is_layout
---   kerzhoma_explain: explain::explain
+--       reading (crate read_machine: Reading); 1 to 14, 20, 21
 --   kerzhoma_list: lister::list
---   kerzhoma_public_listing: public_call::public_listing
+--       listed, outputOf (crate list_text: Listing); 15, 16
 --   kerzhoma_write: writer::write
+--       wrote, eventsLeft, attributesLeft, bytesLeft (crate write_answer: Answer); 15, 16
+--   kerzhoma_public_listing: public_call::public_listing
+--       publicListing (crate public_claims: PublicListing), and reading for the areas between; none: `(refused)` stands for those of read and list
+--   kerzhoma_list_xml: xml_call::list_xml
+--       xmlListing, xmlAreas (crate xml_listing: XmlListing), and tokens for both tables; none: `(refused)` stands for those of tokenize, read and list
+--   kerzhoma_explain: explain::explain
+--       explained, explanationIn (crate explain_text: Explanation); 16
+--   kerzhoma_explain_xml: explain_xml::explain_xml
+--       xmlLineAnswer, xmlExplanationIn (crate explain_xml: XmlExplanation); 16
 --   kerzhoma_time_text: time_text::write_time
+--       writtenTime, whole (crate time_text: Written); 16
+--   kerzhoma_is_layout: tree_layout::is_layout
+--       layout (crate tree_report: Layout); none
 --   kerzhoma_add_case: tree_counts::Counts::add_test_case
+--       withCase, kept (crate tree_counts: Counts); 17, and 15 for a bad code
 --   kerzhoma_add_suite: tree_counts::Counts::add_test_suite
+--       withSuite, kept (crate tree_counts: Counts); 17
+-- Builders (crates builder, builder_set, with the same names): these of crate build_draft (Calls), with wordsLeft and textLeft (Draft). 15 is a bad
+-- code, too, in the calls that take one: `coded` (crate port_values: Codes).
 --   kerzhoma_unnamed_report: builder::unnamed_report
+--       unnamedReport; 12
 --   kerzhoma_new_report: builder::new_report
+--       newReport; 2, 12, 13
 --   kerzhoma_add_test_suite: builder::add_test_suite
+--       addTestSuite; 2, 12, 13, 15, 17
 --   kerzhoma_add_test_case: builder::add_test_case
+--       addTestCase; 2, 12, 13, 15, 17
 --   kerzhoma_add_rerun: builder::add_rerun
---   kerzhoma_add_property: builder::add_property
---   kerzhoma_add_extra: builder::add_extra
---   kerzhoma_finish_report: builder::finish_report
---   kerzhoma_set_text: builder_set::set_text
---   kerzhoma_set_output_lossy: builder_set::set_output_lossy
---   kerzhoma_set_timestamp: builder_set::set_timestamp
---   kerzhoma_set_time: builder_set::set_time
---   kerzhoma_set_uuid: builder_set::set_uuid
---   kerzhoma_set_number: builder_set::set_number
+--       addRerun; 12, 15
 --   kerzhoma_set_rerun_kind: builder_set::set_rerun_kind
+--       setRerunKind; 15
+--   kerzhoma_add_property: builder::add_property
+--       addProperty; 2, 12, 13, 15
+--   kerzhoma_add_extra: builder::add_extra
+--       addExtra; 2, 12, 13, 15
+--   kerzhoma_set_text: builder_set::set_text
+--       setText; 2, 13, 15
+--   kerzhoma_set_output_lossy: builder_set::set_output_lossy
+--       setOutputLossy; 13, 15
+--   kerzhoma_set_timestamp: builder_set::set_timestamp
+--       setTimestamp; 4, 15
+--   kerzhoma_set_time: builder_set::set_time
+--       setTime; 5, 15
+--   kerzhoma_set_uuid: builder_set::set_uuid
+--       setUuid; 15
+--   kerzhoma_set_number: builder_set::set_number
+--       setNumber; 15
+--   kerzhoma_finish_report: builder::finish_report
+--       finish; 15, 17
+-- The answer is the outcome as a struct, with `refusalFrom` (crate refusal: Refusal) of what a refusal carries: answerOf (crate reader: Answer),
+-- listingFrom (lister), writingFrom (writer), explainedFrom (explain), countedFrom (tree_counts: Counts), builtFrom (build_draft: Draft); and for C a
+-- struct of numbers (crates port_refusal, port_values, port_c: portOutcome, builtPort and their like). Tokenizing alone has no such struct: its refusal
+-- is a number, 18 and 19 among them, and a byte (result, crate xml_state: Turns). `explain_xml` and `write_time` say only that a text doesn't fit;
+-- behind `write_time` the call from C clears the area. Where a listing is `(refused)`, the areas between are as tokenizing and reading left them.
+-- The programs (crates list_printing, write_printing: Printed) print what these calls come to, or `(refused)`.
 --
 -- Inputs are unchanged: they are lent as `&`, through which nothing can be stored, or go in by value.
 --
@@ -68,9 +85,10 @@ use mathlib.Core.Bool.{Bool, true, false, _||_}
 use mathlib.Core.Logic.{_⊎_}
 use lib.Dec.{eqb}
 use lib.ListN.{length}
-use Rattle.area.specs.Area.{zeros}
+use Rattle.area.specs.Area.{zeros, placing}
 use Rattle.refusal.specs.Refusal.{nowhere, number, Refused, Outcome, accepted, refused, late}
 use Rattle.refusal.specs.declared.Cause.{Cause}
+use Rattle.refusal.specs.declared.Cause.the-variants as cause
 use Rattle.refusal.specs.declared.Refusal.{Refusal}
 use Rattle.timestamp.specs.declared.Moment.{Moment}
 use Rattle.uuid.specs.declared.Words.{Words}
@@ -78,7 +96,8 @@ use Rattle.tree_counts.specs.declared.Counts.{Counts}
 use Rattle.tree_counts.specs.declared.Outcome.{Outcome as Status}
 use Rattle.tree_counts.specs.Counts.{withSuite, withCase, kept}
 use Rattle.read_machine.specs.Reading.{Read, reading}
-use Rattle.list_text.specs.Listing.{listed, outputOf}
+use Rattle.list_text.specs.Listing.{outcomeOf, listed, outputOf}
+use Rattle.time_text.specs.Written.{writtenTime, whole}
 use Rattle.explain_text.specs.Explanation.{explained, explanationIn}
 use Rattle.write_answer.specs.Answer.{wrote, eventsLeft, attributesLeft, bytesLeft}
 use Rattle.public_claims.specs.PublicListing.{refusedText}
@@ -92,6 +111,11 @@ use Rattle.build_draft.specs.declared.FlakyOrRerun.{FlakyOrRerun}
 use Rattle.build_draft.specs.Draft.{Draft, wordsLeft, textLeft}
 use Rattle.build_draft.specs.Calls as call
 use Rattle.xml_machine.specs.Tokens as token
+use Rattle.xml_listing.specs.XmlListing.{Lent, tableIn, xmlListing, xmlAreas}
+use Rattle.xml_listing.specs.XmlListing as xml
+use Rattle.explain_xml.specs.XmlExplanation.{xmlLineAnswer, xmlExplanationIn}
+use Rattle.port_values.specs.Codes.{coded}
+use Rattle.port_values.specs.Codes as code
 
 -- ---- refusals
 -- the numbers of all refusals, and those that reading gives
@@ -100,6 +124,14 @@ allNumbers = 1 ∷ 2 ∷ 3 ∷ 4 ∷ 5 ∷ 6 ∷ 7 ∷ 8 ∷ 9 ∷ 10 ∷ 11 ∷
 
 abbrev pub readNumbers : List ℕ
 readNumbers = 1 ∷ 2 ∷ 3 ∷ 4 ∷ 5 ∷ 6 ∷ 7 ∷ 8 ∷ 9 ∷ 10 ∷ 11 ∷ 12 ∷ 13 ∷ 14 ∷ 20 ∷ 21 ∷ []
+
+-- and those that reading gives for a document's table, which passes 11
+abbrev pub documentNumbers : List ℕ
+documentNumbers = 1 ∷ 2 ∷ 3 ∷ 4 ∷ 5 ∷ 6 ∷ 7 ∷ 8 ∷ 9 ∷ 10 ∷ 12 ∷ 13 ∷ 14 ∷ 20 ∷ 21 ∷ []
+
+-- and those that tokenizing gives
+abbrev pub tokenNumbers : List ℕ
+tokenNumbers = 11 ∷ 16 ∷ 18 ∷ 19 ∷ []
 
 abbrev pub isOneOf : ℕ → List ℕ → Bool
 isOneOf n [] = false
@@ -153,6 +185,38 @@ pub record BuildZero (n m : ℕ) (o : Outcome Draft) : Type 0 where
   pub words : wordsLeft n o ≡ zeros n
   pub text : textLeft m o ≡ zeros m
 
+-- ---- the public listing of a document
+-- a document, and how many words are lent for events and attributes
+pub record Document : Type 0 where
+  pub source : List ℕ
+  pub events : ℕ
+  pub attributes : ℕ
+
+abbrev pub tokensOf : Document → token.Result
+tokensOf d = token.tokens (d .source) (d .events) (d .attributes)
+
+-- the table of n events and k attributes that tokenizing leaves
+abbrev pub tableOf : Document → ℕ → ℕ → Table
+tableOf d n k = record { events = tableIn n (tokensOf d .events); attributes = tableIn k (tokensOf d .attributes); source = d .source }
+
+-- the same areas in the words of the call
+abbrev pub lentOf : Areas → Lent
+lentOf a = record { records = a .words; text = a .text; scratch = a .scratch; out = a .output }
+
+-- rule N11
+abbrev pub documentListing : Document → Areas → List ℕ
+documentListing d a = xmlListing (d .source) (d .events) (d .attributes) (lentOf a)
+
+abbrev pub documentAreas : Document → Areas → xml.Areas
+documentAreas d a = xmlAreas (d .source) (d .events) (d .attributes) (lentOf a)
+
+-- `(refused)`, with records, text and scratch zero throughout (rule N11)
+pub record NotListed (d : Document) (a : Areas) : Type 0 where
+  pub answer : documentListing d a ≡ refusedText
+  pub words : documentAreas d a .words ≡ zeros (a .words)
+  pub text : documentAreas d a .text ≡ zeros (a .text)
+  pub scratch : documentAreas d a .scratch ≡ zeros (a .scratch)
+
 -- ---- the calls of a builder, in areas of so many words and bytes
 abbrev pub Builds : List ℕ → (words text : ℕ) → Outcome Draft → Type 0
 Builds numbers words text o = Ends (Late numbers) (BuildZero words text o) o
@@ -177,14 +241,35 @@ pub record BuilderCalls (d : Draft) : Type 0 where
   pub setNumber : (f : NumberField) (n : ℕ) → Continues d (15 ∷ []) (call.setNumber f n d)
   pub finish : Continues d (15 ∷ 17 ∷ []) (call.finish d)
 
+-- the same from C, where variants are codes: 15 for a number that is none
+pub record CodedCalls (d : Draft) : Type 0 where
+  pub addTestCase : (name : List ℕ) (outcome : ℕ)
+      → Continues d (2 ∷ 12 ∷ 13 ∷ 15 ∷ 17 ∷ []) (coded code.outcomes outcome (call.addTestCase name (code.outcomeAt outcome) d))
+  pub addRerun : (kind : ℕ) → Continues d (12 ∷ 15 ∷ []) (coded code.kinds kind (call.addRerun (code.kindAt kind) d))
+  pub setRerunKind : (family : ℕ) → Continues d (15 ∷ []) (coded code.families family (call.setRerunKind (code.familyAt family) d))
+  pub addProperty : (holder : ℕ) (key value : List ℕ)
+      → Continues d (2 ∷ 12 ∷ 13 ∷ 15 ∷ []) (coded code.holders holder (call.addProperty (code.holderAt holder) key value d))
+  pub addExtra : (holder : ℕ) (key value : List ℕ)
+      → Continues d (2 ∷ 12 ∷ 13 ∷ 15 ∷ []) (coded code.holders holder (call.addExtra (code.holderAt holder) key value d))
+  pub setText : (element field : ℕ) (s : List ℕ)
+      → Continues d (2 ∷ 13 ∷ 15 ∷ []) (coded code.elements element (coded code.fields field (call.setText (code.elementAt element) (code.fieldAt field) s d)))
+  pub setOutputLossy : (element field : ℕ) (s : List ℕ)
+      → Continues d (13 ∷ 15 ∷ []) (coded code.elements element (coded code.fields field (call.setOutputLossy (code.elementAt element) (code.fieldAt field) s d)))
+  pub setTimestamp : (element : ℕ) (m : Moment) → Continues d (4 ∷ 15 ∷ []) (coded code.elements element (call.setTimestamp (code.elementAt element) m d))
+  pub setTime : (element seconds nanos : ℕ) → Continues d (5 ∷ 15 ∷ []) (coded code.elements element (call.setTime (code.elementAt element) seconds nanos d))
+  pub setNumber : (field n : ℕ) → Continues d (15 ∷ []) (coded code.numbers field (call.setNumber (code.numberAt field) n d))
+
+-- a case counted from C
+abbrev pub codedCase : Counts → ℕ → Outcome Counts
+codedCase c outcome = coded code.outcomes outcome (withCase c (code.outcomeAt outcome))
+
 -- ---- the claims, one for each entry point that refuses anything
 pub record Demand1 : Type 0 where
   -- Each cause has one of the numbers.
   pub numbered : (c : Cause) → isOneOf (number c) allNumbers ≡ true
   -- Tokenizing: 11, 16, 18 and 19; both areas are zero then.
   pub tokenize : (source : List ℕ) (events attributes : ℕ)
-      → Tokenizes (AtByte (11 ∷ 16 ∷ 18 ∷ 19 ∷ [])) (TokensZero events attributes (token.tokens source events attributes))
-      (token.tokens source events attributes .answer)
+      → Tokenizes (AtByte tokenNumbers) (TokensZero events attributes (token.tokens source events attributes)) (token.tokens source events attributes .answer)
   -- Reading: 1 to 14, 20 and 21; records, text and scratch are zero then.
   pub read : (t : Table) (a : Areas) → Ends (Placed readNumbers) (ReadZero t a) (answerTo t a)
   -- Listing: 15 and 16; the output area is zero then.
@@ -197,14 +282,33 @@ pub record Demand1 : Type 0 where
   -- and where listing refuses what reading left, which is for 16 only; records and text stay as reading left them.
   pub publicOutput : (t : Table) (a : Areas) → answerTo t a ≡ accepted tt
       → Ends (Late (16 ∷ [])) (listing t a ≡ refusedText) (listed (readingOf t a .words) (readingOf t a .text) (a .output))
+  -- So does the public listing of a document: `(refused)` where tokenizing refuses; both tables are zero then, and so are records, text and scratch;
+  pub listXml : (d : Document) (a : Areas)
+      → Tokenizes (AtByte tokenNumbers) (TokensZero (d .events) (d .attributes) (tokensOf d) × NotListed d a) (tokensOf d .answer)
+  -- where reading refuses its table, never with 11; records, text and scratch are zero then, and both tables stay as tokenizing left them;
+  pub listXmlTable : (d : Document) (a : Areas) (n k : ℕ) → tokensOf d .answer ≡ token.done-with n k
+      → Ends (Placed documentNumbers) (NotListed d a) (answerTo (tableOf d n k) a)
+  -- and where listing refuses what reading left, which is for 16 only; both tables, records and text stay as they were left.
+  pub listXmlOutput : (d : Document) (a : Areas) (n k : ℕ) → tokensOf d .answer ≡ token.done-with n k → answerTo (tableOf d n k) a ≡ accepted tt
+      → Ends (Late (16 ∷ [])) (documentListing d a ≡ refusedText) (listed (documentAreas d a .words) (documentAreas d a .text) (a .output))
   -- Explaining a refusal, also one that was made up, over any table: 16; the output area is zero then.
   pub explain : (t : Table) (r : Refusal) (output : ℕ)
       → Ends (Late (16 ∷ [])) (explanationIn (t .events) (t .attributes) (t .source) r output ≡ zeros output)
       (explained (t .events) (t .attributes) (t .source) r output)
+  -- Explaining a refusal of tokenizing, also one that was made up: 16; the output area is zero then (rule N14).
+  pub explainXml : (source : List ℕ) (number byte output : ℕ)
+      → Ends (Late (16 ∷ [])) (xmlExplanationIn source number byte output ≡ zeros output) (outcomeOf (xmlLineAnswer source number byte output))
+  -- A time's text from C: 16; the area is zero then.
+  pub timeText : (out : List ℕ) (seconds nanos : ℕ)
+      → Ends (Late (16 ∷ [])) (whole out (writtenTime seconds nanos) ≡ zeros (length out))
+      (outcomeOf (placing cause.OutputFull (length out) (writtenTime seconds nanos)))
   -- Counts: 17; the counts that come back are those that went in.
   pub addSuiteCounts : (c s : Counts) → Ends (Late (17 ∷ [])) (kept c (withSuite c s) ≡ c) (withSuite c s)
   pub addCaseCounts : (c : Counts) (s : Status) → Ends (Late (17 ∷ [])) (kept c (withCase c s) ≡ c) (withCase c s)
+  -- From C also 15, for a bad code.
+  pub addCodedCase : (c : Counts) (outcome : ℕ) → Ends (Late (15 ∷ 17 ∷ [])) (kept c (codedCase c outcome) ≡ c) (codedCase c outcome)
   -- Builders: a new report with 2, 12 and 13, and the other calls as listed above; both areas are zero then.
   pub unnamedReport : (words text : ℕ) → Builds (12 ∷ []) words text (call.unnamedReport words text)
   pub newReport : (name : List ℕ) (words text : ℕ) → Builds (2 ∷ 12 ∷ 13 ∷ []) words text (call.newReport name words text)
   pub builder : (d : Draft) → BuilderCalls d
+  pub fromC : (d : Draft) → CodedCalls d
