@@ -65,7 +65,7 @@
 -- The answer is the outcome as a struct, with `refusalFrom` (crate refusal: Refusal) of what a refusal carries: answerOf (crate reader: Answer),
 -- listingFrom (lister), writingFrom (writer), explainedFrom (explain), countedFrom (tree_counts: Counts), builtFrom (build_draft: Draft); and for C a
 -- struct of numbers (crates port_refusal, port_values, port_c: portOutcome, builtPort and their like). Tokenizing alone has no such struct: its refusal
--- is a number, 18 and 19 among them, and a byte (result, crate xml_state: Turns). `explain_xml` and `write_time` say only that a text doesn't fit;
+-- is a number, 18 and 19 among them, and a byte (result, crate xml_state: Answer). `explain_xml` and `write_time` say only that a text doesn't fit;
 -- behind `write_time` the call from C clears the area. Where a listing is `(refused)`, the areas between are as tokenizing and reading left them.
 -- The programs (crates list_printing, write_printing: Printed) print what these calls come to, or `(refused)`.
 --

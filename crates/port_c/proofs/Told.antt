@@ -11,7 +11,7 @@ use Rattle.time_text.specs.Written.{count}
 use Rattle.xml_machine.specs.Tokens.{done-with, refused, Result}
 use Rattle.xml_state.specs.declared.Tokenized.{Tokenized}
 use Rattle.xml_state.specs.declared.Tokenized.the-variants.{Table, Refused}
-use Rattle.xml_state.specs.inside.Turns.{told}
+use Rattle.xml_state.specs.Answer.{told}
 use Rattle.port_c.specs.declared.documents.KTokenized.{KTokenized}
 use Rattle.port_c.specs.Documents.{tokenizedPort}
 

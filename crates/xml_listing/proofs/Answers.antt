@@ -9,7 +9,7 @@ use Rattle.public_claims.specs.PublicListing.{publicListing}
 use Rattle.xml_machine.specs.Tokens.{Answer, done-with, refused}
 use Rattle.xml_state.specs.declared.Tokenized.{Tokenized}
 use Rattle.xml_state.specs.declared.Tokenized.the-variants.{Table, Refused}
-use Rattle.xml_state.specs.inside.Turns.{told}
+use Rattle.xml_state.specs.Answer.{told}
 use Rattle.xml_listing.specs.XmlListing.{Lent, Areas, tableIn, listingBy, areasBy}
 
 -- the output area holds f, n bytes of it fit, and the three areas of reading are a

@@ -9,7 +9,7 @@ ghost use Prim.Native.Nat.{min};
 ghost use lib.ListN.{length};
 ghost use Rattle.area.specs.Area.{zeros, laid};
 ghost use Rattle.public_claims.specs.PublicListing.{refusedText};
-ghost use Rattle.xml_state.specs.inside.Turns.{result};
+ghost use Rattle.xml_state.specs.Answer.{result};
 ghost use Rattle.xml_listing.specs.XmlListing.{lent, tableIn, listingFor, areasFor};
 
 // The n records, five words each, at the front of an area.

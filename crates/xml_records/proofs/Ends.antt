@@ -14,6 +14,7 @@ use Rattle.xml_chars.specs.Chars.{begins}
 use Rattle.xml_machine.specs.Tokens.{rec, over, Due, nothing, event, textDue, Room, Kept, Out, read, refuse, keep, close, rooms, roomOf, laidOut, Result, resulting}
 use Rattle.xml_stack.specs.Stack.{Range, putAt}
 use Rattle.xml_stack.proofs.Stack.{none-open, length-put}
+use Rattle.xml_state.specs.Answer.{result}
 use Rattle.xml_state.specs.declared.State.{State}
 use Rattle.xml_state.specs.declared.Step.{Step}
 use Rattle.xml_state.specs.declared.Step.the-variants.{Go, Full, Bad}
@@ -22,7 +23,7 @@ use Rattle.xml_state.specs.declared.Tokenized.the-variants.{Table, Refused}
 use Rattle.xml_state.specs.inside.Rows as row
 use Rattle.xml_state.specs.inside.Registers.{withCount}
 use Rattle.xml_state.specs.inside.Puts.{stepped, roomFor, putting, putOver, freshOf, actText}
-use Rattle.xml_state.specs.inside.Turns.{cleared, result, runMode, brokenOf, refusedOf, Ended, ended, eofBy, eofOf, finishBy, finishOf}
+use Rattle.xml_state.specs.inside.Turns.{cleared, runMode, brokenOf, refusedOf, Ended, ended, eofBy, eofOf, finishBy, finishOf}
 use Rattle.xml_records.specs.inside.Holding.{Holds, Puts, Refuses}
 use Rattle.xml_records.proofs.Rooms.{room-law}
 use Rattle.xml_records.proofs.Acts.{over-puts, text-puts}

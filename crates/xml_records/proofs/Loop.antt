@@ -18,6 +18,7 @@ use Rattle.xml_machine.specs.Runs.{atBang}
 use Rattle.xml_machine.specs.Tokens.{Marks, noMarks, Due, openRun, Room, Kept, nothingKept, Out, refuse, keep, close, onward, records, rooms, Result, resulting, laidOut, tokens}
 use Rattle.xml_stack.specs.Stack.{Stacked}
 use Rattle.xml_stack.proofs.Stack as stack
+use Rattle.xml_state.specs.Answer.{result}
 use Rattle.xml_state.specs.declared.Move.{Move}
 use Rattle.xml_state.specs.declared.State.{State as Registers}
 use Rattle.xml_state.specs.declared.Step.{Step}
@@ -27,7 +28,7 @@ use Rattle.xml_state.specs.declared.Tokenized.the-variants.{Table, Refused}
 use Rattle.xml_state.specs.inside.Rows as row
 use Rattle.xml_state.specs.inside.Registers.{inMode, beginning}
 use Rattle.xml_state.specs.inside.Puts.{Turned, turned, actOn}
-use Rattle.xml_state.specs.inside.Turns.{cleared, result, refusedOf, Ended, ended, finishOf}
+use Rattle.xml_state.specs.inside.Turns.{cleared, refusedOf, Ended, ended, finishOf}
 use Rattle.xml_rep.specs.inside.Agree.{turnBy}
 use Rattle.xml_rep.proofs.Laws.{at-first, mode-range, bang-law, run-law, done-law, done-none}
 use Rattle.xml_records.specs.inside.Holding.{Leads, Refuses}

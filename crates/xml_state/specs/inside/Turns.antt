@@ -8,7 +8,8 @@ use Rattle.names.specs.Bytes.{bytes}
 use Rattle.refusal.specs.Refusal.{nowhere}
 use Rattle.table.specs.Kinds as kind
 use Rattle.xml_chars.specs.Chars.{begins}
-use Rattle.xml_machine.specs.Tokens.{Result, Answer, done-with, refused}
+use Rattle.xml_machine.specs.Tokens.{Result}
+use Rattle.xml_state.specs.Answer.{result}
 use Rattle.xml_state.specs.inside.Rows as row
 use Rattle.xml_state.specs.declared.State.{State}
 use Rattle.xml_state.specs.declared.Step.{Step}
@@ -17,14 +18,6 @@ use Rattle.xml_state.specs.inside.Registers.{inMode}
 use Rattle.xml_state.specs.inside.Puts.{Turned, turned, roomFor, putOver, actText, actOn}
 use Rattle.xml_state.specs.declared.Tokenized.{Tokenized}
 use Rattle.xml_state.specs.declared.Tokenized.the-variants.{Table, Refused}
-
--- the answer's numbers
-abbrev pub told : Tokenized → Answer
-told (Table n k) = done-with n k
-told (Refused number byte) = refused number byte
-
-abbrev pub result : Tokenized → List ℕ → List ℕ → Result
-result r events attributes = record { answer = told r; events = events; attributes = attributes }
 
 -- a refusal leaves zeros
 abbrev pub cleared : Tokenized → List ℕ → List ℕ → Result
