@@ -1,12 +1,12 @@
 // Builders by running: random sequences of calls through the static library `port_c` and through the crate's own builders, listings and
-// events compared; areas that just suffice, that lack a record or a byte, and that are cut anywhere; then calls with builders that are
-// made up, in areas that hold anything.
+// events compared; areas that just suffice, that lack a record or a byte, and that are cut anywhere; calls behind the end of each report,
+// which are refused with 15; then calls with builders that are made up, in areas that hold anything.
 use chrono::{DateTime, FixedOffset, NaiveDate, TimeZone};
 use quick_junit::*;
 use std::time::Duration;
 
 #[repr(C)]
-#[derive(Clone, Copy)]
+#[derive(Clone, Copy, PartialEq)]
 struct Builder { records: u32, bytes: u32, report: u32, suite: u32, case: u32, main: u32 }
 #[repr(C)]
 #[derive(Clone, Copy)]
@@ -47,6 +47,11 @@ extern "C" {
 
 const NOWHERE: u32 = 4294967295;
 const NONE: Builder = Builder { records: 0, bytes: 0, report: NOWHERE, suite: NOWHERE, case: NOWHERE, main: NOWHERE };
+const EMPTY: Builder = Builder { records: 1, bytes: 0, report: 0, suite: NOWHERE, case: NOWHERE, main: NOWHERE };
+
+// Nothing is open: no call can follow but a new report (rule B12).
+fn is_over(b: &Builder) -> bool { b.report == NOWHERE && b.suite == NOWHERE && b.case == NOWHERE && b.main == NOWHERE }
+fn is_new_report(s: &[u8]) -> bool { s[0] == b'u' || s[0] == b'n' }
 
 // One call of a script at `at`: what it answers, and where the next one begins.
 fn call(s: &[u8], at: usize, b: Builder, rec: &mut [u32], text: &mut [u8]) -> (Built, usize) {
@@ -283,12 +288,11 @@ fn is_zero(rec: &[u32], text: &[u8]) -> bool { rec.iter().all(|w| *w == 0) && te
 // Whether a refusal is what each of them has: an empty path, no event and no attribute, no builder, areas of zero.
 fn is_clean(built: &Built, rec: &[u32], text: &[u8]) -> bool {
     let (b, f) = (built.builder, built.refusal);
-    f.depth == 0 && f.event == NOWHERE && f.attribute == NOWHERE && b.records == 0 && b.bytes == 0
-        && b.report == NOWHERE && b.suite == NOWHERE && b.case == NOWHERE && b.main == NOWHERE && is_zero(rec, text)
+    f.depth == 0 && f.event == NOWHERE && f.attribute == NOWHERE && b == NONE && is_zero(rec, text)
 }
 
 #[derive(Default)]
-struct Tally { reports: usize, built: usize, short: usize, differ: usize }
+struct Tally { reports: usize, built: usize, short: usize, behind: usize, differ: usize }
 
 // The report of a seed, in areas that its last bits choose.
 fn one(seed: u64, tally: &mut Tally) {
@@ -318,8 +322,49 @@ fn one(seed: u64, tally: &mut Tally) {
         at = next;
         n += 1;
     }
-    if due.is_some() { tally.short += 1; } else { tally.built += 1; good &= b.records as usize == records && b.bytes as usize == bytes && same(&report, &rec, &text); }
+    if due.is_some() {
+        tally.short += 1;
+        (rec, text) = (vec![7u32; (records + 7) * 32], vec![7u8; bytes + 99]);
+        b = replay(&g.body, &mut rec, &mut text);
+    } else {
+        tally.built += 1;
+    }
+    good &= b.records as usize == records && b.bytes as usize == bytes && is_over(&b) && same(&report, &rec, &text);
+    let (calls, refused) = behind(&mut g.g, b, &rec, &text);
+    tally.behind += calls;
+    good &= refused;
     if !good { tally.differ += 1; println!("seed {seed} differs"); }
+}
+
+// All calls of a script, one behind the other.
+fn replay(s: &[u8], rec: &mut [u32], text: &mut [u8]) -> Builder {
+    let (mut b, mut at) = (NONE, 0);
+    while at < s.len() {
+        let (built, next) = call(s, at, b, rec, text);
+        b = built.builder;
+        at = next;
+    }
+    b
+}
+
+// Behind the end of a report that these areas hold: some calls with the end's builder and the one that comes back, each of them refused
+// with 15 and areas of zero; and a new report, which begins. How many calls there were, and whether it was so.
+fn behind(g: &mut Rng, b: Builder, rec: &[u32], text: &[u8]) -> (usize, bool) {
+    let (mut calls, mut good) = (0, true);
+    for _ in 0..2 + g.below(6) {
+        let (mut r, mut t, mut at) = (rec.to_vec(), text.to_vec(), b);
+        for _ in 0..1 + g.below(3) {
+            let s = some_call(g);
+            if is_new_report(&s) { continue; }
+            let built = call(&s, 0, at, &mut r, &mut t).0;
+            good &= built.refusal.number == 15 && is_clean(&built, &r, &t);
+            at = if g.one_in(2) { built.builder } else { b };
+            calls += 1;
+        }
+    }
+    let (mut r, mut t) = (rec.to_vec(), text.to_vec());
+    let begun = call(b"u", 0, b, &mut r, &mut t).0;
+    (calls, good && begun.refusal.number == 0 && begun.builder == EMPTY && r[0] == 1 && is_zero(&r[1..], &t))
 }
 
 // Listing and events of what was built against the crate's.
@@ -359,10 +404,10 @@ fn some_call(g: &mut Rng) -> Vec<u8> {
     s
 }
 
-// Calls with a builder that is made up, in areas that hold anything: an answer, or a refusal with areas of zero.
+// Calls with a builder that is made up, in areas that hold anything: an answer, or a refusal with areas of zero; 15 where nothing is open.
 fn made_up(calls: usize) -> (usize, usize, usize) {
     let mut g = Rng(88172645463325252);
-    let (mut accepted, mut refused, mut dirty) = (0, 0, 0);
+    let (mut accepted, mut refused, mut wrong) = (0, 0, 0);
     for _ in 0..calls {
         let words = [0, 1, 31, 32, 33, 64, 96, 320, 1000, 3200][g.below(10) as usize];
         let bytes = [0, 1, 5, 40, 200][g.below(5) as usize];
@@ -371,21 +416,27 @@ fn made_up(calls: usize) -> (usize, usize, usize) {
         let room = (words / 32) as u32;
         let records = [0, 1, 2, room, room + 1, g.below(room as u64 + 1) as u32, g.next() as u32][g.below(7) as usize];
         let mut mark = || [0, 1, 2, records.wrapping_sub(1), records, g.below(records as u64 + 2) as u32, NOWHERE, 65535, 65536, g.next() as u32][g.below(10) as usize];
-        let marks = [mark(), mark(), mark(), mark()];
+        let mut marks = [mark(), mark(), mark(), mark()];
+        if g.one_in(4) { marks = [NOWHERE; 4]; }
         let used = [0, 1, bytes as u32, bytes as u32 + 1, g.below(bytes as u64 + 1) as u32, g.next() as u32][g.below(6) as usize];
         let b = Builder { records, bytes: used, report: marks[0], suite: marks[1], case: marks[2], main: marks[3] };
         let s = some_call(&mut g);
         let built = call(&s, 0, b, &mut rec, &mut text).0;
-        if built.refusal.number == 0 { accepted += 1; } else { refused += 1; if !is_clean(&built, &rec, &text) { dirty += 1; } }
+        let number = built.refusal.number;
+        if number == 0 { accepted += 1; } else { refused += 1; }
+        if number != 0 && !is_clean(&built, &rec, &text) || is_over(&b) && !is_new_report(&s) && number != 15 { wrong += 1; }
     }
-    (accepted, refused, dirty)
+    (accepted, refused, wrong)
 }
 
 fn main() {
     let n = std::env::args().nth(1).and_then(|s| s.parse().ok()).unwrap_or(8000);
     let mut tally = Tally::default();
     for seed in 1..=n { one(seed, &mut tally); }
-    println!("{} reports: {} built, {} in areas that are too short, {} differ", tally.reports, tally.built, tally.short, tally.differ);
-    let (accepted, refused, dirty) = made_up(20000);
-    println!("20000 calls with builders made up: {accepted} accepted, {refused} refused, {dirty} of them not clean");
+    println!(
+        "{} reports: {} built, {} in areas that are too short; {} calls behind the end; {} differ",
+        tally.reports, tally.built, tally.short, tally.behind, tally.differ
+    );
+    let (accepted, refused, wrong) = made_up(20000);
+    println!("20000 calls with builders made up: {accepted} accepted, {refused} refused, {wrong} wrong");
 }

@@ -299,7 +299,10 @@ kerzhoma_counted kerzhoma_add_suite(kerzhoma_counts counts, kerzhoma_counts suit
  *
  * Each call takes the builder that the call before it returned, with the same two areas, and the areas stay untouched in between. Where a
  * call refuses, both areas are zero, the report is gone, and the builder that is returned is none, which further calls refuse (15). Texts
- * are UTF-8 (2); control characters that XML doesn't have are left out. A text or value that is set again stays in `text` as dead bytes. */
+ * are UTF-8 (2); control characters that XML doesn't have are left out. A text or value that is set again stays in `text` as dead bytes.
+ *
+ * After kerzhoma_finish_report nothing is open: each call but a new report is refused (15), and the report is gone then, as at any refusal;
+ * list or write it first. The extras of one element are searched one by one, so that n of them cost the square of n. */
 
 typedef struct kerzhoma_builder {
     uint32_t records; /* how many are used */

@@ -127,9 +127,17 @@ setRerunKind f d =
 abbrev pub isExtra : ℕ → Bool
 isExtra κ = leb kind.suiteExtra κ
 
--- the open element that has records of kind κ
+-- a record of kind κ is a suite's, else a case's
+abbrev pub isSuites : ℕ → Bool
+isSuites κ = eqb κ kind.suiteExtra || eqb κ kind.suiteProperty
+
+-- the mark of the element that has records of kind κ
 abbrev pub holderOf : ℕ → Builder → ℕ
-holderOf κ b = cond (eqb κ kind.suiteExtra) (b .suite) (b .case)
+holderOf κ b = cond (isSuites κ) (b .suite) (b .case)
+
+-- and whether it is open (rule B4)
+abbrev pub isHeld : ℕ → Builder → List ℕ → Bool
+isHeld κ b words = cond (isSuites κ) (isOf b words (b .suite) kind.suite) (isOf b words (b .case) kind.case)
 
 -- the place of the record with this key among the element's extras, or no place before `placeFor` (rule B7)
 abbrev pub oldPlace : ℕ → List ℕ → List ℕ → Draft → ℕ
@@ -146,7 +154,7 @@ putPairIn place x y z d =
 -- in the order of rule B5: both texts (2, 13 of the first, then of the second), then a record if the key is new (12)
 unfoldable pub addPair : ℕ → List ℕ → List ℕ → Draft → Outcome Draft
 addPair κ key value d =
-    asks (isRecord (d .builder) (d .words) (lastOf (d .builder)) && mayStandBehind κ (kindAt (d .words) (placeFor d - 1))) cause.NotLayout
+    asks (isHeld κ (d .builder) (d .words) && mayStandBehind κ (kindAt (d .words) (placeFor d - 1))) cause.NotLayout
     (keeping false key d >>= λ e.
     keeping false value e >>= λ f.
     (let x = d .builder .bytes in
@@ -214,7 +222,7 @@ setNumber Disabled n d =
     let i = d .builder .suite in
     asks (isOf (d .builder) (d .words) i kind.suite) cause.NotLayout (accepted (withWords d (onRecord i (putNumber word.disabled bit.disabled n) (d .words))))
 
--- ---- the end: the last suite is added to the sums (17), and nothing is open any more
+-- ---- the end: the last suite is added to the sums (17), and nothing is open any more, so that only a new report can follow (rule B12)
 unfoldable pub finish : Draft → Outcome Draft
 finish d =
     asks (isOf (d .builder) (d .words) (d .builder .report) kind.report) cause.NotLayout

@@ -1,7 +1,7 @@
 -- A report being built in two lent areas: the builder's marks, what a call answers and leaves. Definitions only.
 use Prim.Native.Nat.{ℕ, _-_, _*_, _/_, min}
 use mathlib.Core.List.{List, _++_}
-use mathlib.Core.Bool.{Bool, true, false, _&&_}
+use mathlib.Core.Bool.{Bool, true, false, cond, _&&_}
 use lib.ListN.{length, getD, take, drop}
 use lib.Dec.{leb, ltb, eqb}
 use Rattle.area.specs.Area.{zeros}
@@ -89,13 +89,17 @@ onRecord i f words = take (i * 32) words ++ f (drop (i * 32) words)
 abbrev pub lastOf : Builder → ℕ
 lastOf b = b .records - 1
 
+-- the last record while the report is open: after the end there is none (rule B12)
+abbrev pub lastOpen : Builder → ℕ
+lastOpen b = cond (eqb (b .report) nowhere) nowhere (lastOf b)
+
 -- rule B3
 abbrev pub markOf : Builder → Element → ℕ
 markOf b Report = b .report
 markOf b Suite = b .suite
 markOf b Case = b .case
 markOf b Status = b .main
-markOf b Last = lastOf b
+markOf b Last = lastOpen b
 
 -- ---- a draft with one thing changed
 abbrev pub withWords : Draft → List ℕ → Draft

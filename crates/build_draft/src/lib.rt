@@ -14,7 +14,7 @@ use tree_record::field;
 ghost use mathlib.Core.Path.{_≡_};
 ghost use lib.ListN.{length};
 ghost use Rattle.area.specs.Area.{zeros};
-ghost use Rattle.build_draft.specs.Draft.{noBuilder, draftOf, builtFrom, wordsLeft, textLeft, roomFor, isRecord, kindAt, isOf, lastOf, markOf};
+ghost use Rattle.build_draft.specs.Draft.{noBuilder, draftOf, builtFrom, wordsLeft, textLeft, roomFor, isRecord, kindAt, isOf, lastOf, lastOpen, markOf};
 
 // How many records and bytes are used, and the records of the report, the open suite, the open case and its main status element;
 // 4294967295 where there is none.
@@ -41,7 +41,7 @@ pub struct Built {
     pub refusal: Refusal,
 }
 
-// The element that a setter is for. `Status` is the open case's failure, error or skipped, `Last` the last record.
+// The element that a setter is for. `Status` is the open case's failure, error or skipped, `Last` the last record of an open report.
 pub enum Element {
     Report,
     Suite,
@@ -133,6 +133,16 @@ pub fn last_of(b: Builder) -> u32
     b.records - 1
 }
 
+// The last record while the report is open; after the end there is none (rule B12).
+fn last_open(b: Builder) -> u32
+    ensures { λ r. ⌜ r ≡ lastOpen b ⌝ }
+{
+    if b.report == NOWHERE {
+        return NOWHERE;
+    }
+    last_of(b)
+}
+
 // By rule B3.
 pub fn mark_of(b: Builder, element: Element) -> u32
     ensures { λ r. ⌜ r ≡ markOf b element ⌝ }
@@ -142,7 +152,7 @@ pub fn mark_of(b: Builder, element: Element) -> u32
         Element::Suite => b.suite,
         Element::Case => b.case,
         Element::Status => b.main,
-        Element::Last => last_of(b),
+        Element::Last => last_open(b),
     }
 }
 

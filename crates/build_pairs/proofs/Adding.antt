@@ -4,7 +4,7 @@ use mathlib.Core.Path.{_≡_, refl, sym, ap, _∙_}
 use mathlib.Core.Bool.{Bool, true, false, cond, _&&_}
 use mathlib.Core.List.{List, _++_}
 use native.Mathlib.Omega.{arith}
-use lib.Dec.{leb, ltb}
+use lib.Dec.{leb, ltb, eqb}
 use lib.ListN.{length, take, drop, length-append, length-drop}
 use lib.Seq.{length-take-le, take-add, take-at, drop-at}
 use borrow.Author.Tests.{lt-ltb, le-ltb, ltb-true, leb-true}
@@ -17,9 +17,10 @@ use Rattle.tree_put.specs.Put.{putPair}
 use Rattle.build_draft.specs.declared.Builder.{Builder}
 use Rattle.build_draft.specs.declared.Step.{Step}
 use Rattle.build_draft.specs.declared.Step.the-variants.{Done, Not}
-use Rattle.build_draft.specs.Draft.{Draft, draftOf, _>>=_, next, asks, roomFor, isRecord, kindAt, onRecord, lastOf, withWords}
+use Rattle.build_draft.specs.Draft.{Draft, draftOf, _>>=_, next, asks, roomFor, isRecord, kindAt, isOf, onRecord, lastOf, withWords}
 use Rattle.build_draft.specs.Parts.{putAt, keeping, taking, isMainKind, placeFor, mayStandBehind}
-use Rattle.build_draft.specs.Calls.{oldPlace, putPairIn, addPair}
+use Rattle.tree_record.specs.Kinds as kind
+use Rattle.build_draft.specs.Calls.{isSuites, isHeld, oldPlace, putPairIn, addPair}
 use Rattle.build_text.proofs.Keeping.{withBytes, Kept, is-kept}
 use Rattle.build_draft.proofs.Steps.{plain, then-refused, then-done, is-done}
 use Rattle.build_pairs.specs.inside.Adding.{puttingKept}
@@ -27,6 +28,22 @@ use Rattle.build_pairs.specs.inside.Adding.{puttingKept}
 both-true : (t u : Bool) → (t && u) ≡ true → (t ≡ true) × (u ≡ true)
 both-true true u h = (refl, h)
 both-true false u h = (h, absurd (let z : _≡_ {A = ℕ} 0 1 = ap (λ (b : Bool). cond b 1 0) h in omega arith))
+
+-- ---- where a record lies in the area, the last one does
+of-last : (b : Builder) (words : List ℕ) (i k : ℕ) → isOf b words i k ≡ true → isRecord b words (lastOf b) ≡ true
+unfolding isOf isRecord
+of-last b words i k h =
+    let p = both-true (ltb i (b .records)) (leb (b .records) (roomFor words)) (both-true (isRecord b words i) (eqb (kindAt words i) k) h .0) in
+    let l = ltb-true i (b .records) (p .0) in
+    let m = lt-ltb (lastOf b) (b .records) (omega arith) in
+    λ j. m j && p .1 j
+
+pub held-last : (k : ℕ) (b : Builder) (words : List ℕ) → isHeld k b words ≡ true → isRecord b words (lastOf b) ≡ true
+held-last k b words h = go (isSuites k) h
+  where
+    go : (t : Bool) → cond t (isOf b words (b .suite) kind.suite) (isOf b words (b .case) kind.case) ≡ true → isRecord b words (lastOf b) ≡ true
+    go true q = of-last b words (b .suite) kind.suite q
+    go false q = of-last b words (b .case) kind.case q
 
 -- ---- the place lies in the area
 module _ (b : Builder) (words : List ℕ) (r : isRecord b words (lastOf b) ≡ true) where
@@ -120,9 +137,9 @@ then-same (refused r) f g h = refl
 
 -- ---- the call
 module _ (b : Builder) (words text : List ℕ) (k : ℕ) (key value : List ℕ) {place : ℕ} {t : Bool} (p : (v : List ℕ) → place ≡ placeFor (plain b words v))
-    (m : t ≡ (isRecord b words (lastOf b) && mayStandBehind k (kindAt words (place - 1)))) where
-  tested : (isRecord b words (lastOf b) && mayStandBehind k (kindAt words (placeFor (plain b words text) - 1))) ≡ t
-  tested = sym (m ∙ ap (λ (q : ℕ). isRecord b words (lastOf b) && mayStandBehind k (kindAt words (q - 1))) (p text))
+    (m : t ≡ (isHeld k b words && mayStandBehind k (kindAt words (place - 1)))) where
+  tested : (isHeld k b words && mayStandBehind k (kindAt words (placeFor (plain b words text) - 1))) ≡ t
+  tested = sym (m ∙ ap (λ (q : ℕ). isHeld k b words && mayStandBehind k (kindAt words (q - 1))) (p text))
 
   pub added-nowhere : t ≡ false → (words′ text′ : List ℕ) → draftOf (Not cause.NotLayout) words′ text′ ≡ addPair k key value (plain b words text)
   unfolding addPair asks draftOf
@@ -130,7 +147,7 @@ module _ (b : Builder) (words text : List ℕ) (k : ℕ) (key value : List ℕ) 
 
   module _ (h : t ≡ true) where
     is-last : isRecord b words (lastOf b) ≡ true
-    is-last = both-true (isRecord b words (lastOf b)) (mayStandBehind k (kindAt words (placeFor (plain b words text) - 1))) (tested ∙ h) .0
+    is-last = held-last k b words (both-true (isHeld k b words) (mayStandBehind k (kindAt words (placeFor (plain b words text) - 1))) (tested ∙ h) .0)
 
     -- what follows both texts, s being the key that is looked for
     abbrev rest : List ℕ → Draft → Draft → Outcome Draft

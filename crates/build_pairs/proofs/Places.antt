@@ -6,15 +6,15 @@ use mathlib.Core.List.{List}
 use native.Mathlib.Omega.{arith}
 use lib.Dec.{eqb}
 use lib.ListN.{length, getD, take, drop}
-use borrow.Author.Tests.{le-leb, lt-leb, eq-eqb, ne-eqb}
+use borrow.Author.Tests.{le-leb, lt-leb, ne-eqb}
 use Rattle.names.specs.Names.{sameBytes}
 use Rattle.tree_record.specs.Words as word
 use Rattle.tree_record.specs.Kinds as kind
 use Rattle.tree_record.specs.Record.{textAt}
 use Rattle.build_draft.specs.declared.Builder.{Builder}
-use Rattle.build_draft.specs.Draft.{isRecord, kindAt, lastOf}
+use Rattle.build_draft.specs.Draft.{kindAt, isOf, lastOf}
 use Rattle.build_draft.specs.Parts.{isMainKind, placeFor, mayStandBehind, keyPlace}
-use Rattle.build_draft.specs.Calls.{holderOf, oldPlace}
+use Rattle.build_draft.specs.Calls.{isSuites, holderOf, isHeld, oldPlace}
 use Rattle.build_draft.proofs.Places.{record-part}
 use Rattle.build_draft.proofs.Steps.{plain}
 
@@ -33,12 +33,11 @@ module _ (b : Builder) (words : List ℕ) {last k : ℕ} {t : Bool} (l : last �
 pub behind-other : (k before : ℕ) → (k ≡ 13 → ⊥) → (k ≡ 4 → ⊥) → (k ≡ 14 → ⊥) → (eqb before 3 || (eqb before 14 || eqb before 5)) ≡ mayStandBehind k before
 behind-other k before a b c = rw (ne-eqb k 13 a, ne-eqb k 4 b, ne-eqb k 14 c) refl
 
-pub may-be-added : (b : Builder) (words : List ℕ) (k place : ℕ) {last before κ : ℕ} {t u : Bool} → before ≡ place - 1 → last ≡ lastOf b → t ≡ isRecord b words last → κ ≡ kindAt words before
-    → u ≡ mayStandBehind k κ → (t && u) ≡ (isRecord b words (lastOf b) && mayStandBehind k (kindAt words (place - 1)))
-may-be-added b words k place p l t κ u =
-    let r = t ∙ ap (isRecord b words) l in
+pub may-be-added : (b : Builder) (words : List ℕ) (k place : ℕ) {before κ : ℕ} {t u : Bool} → before ≡ place - 1 → t ≡ isHeld k b words → κ ≡ kindAt words before
+    → u ≡ mayStandBehind k κ → (t && u) ≡ (isHeld k b words && mayStandBehind k (kindAt words (place - 1)))
+may-be-added b words k place p t κ u =
     let m = u ∙ ap (mayStandBehind k) (κ ∙ ap (kindAt words) p) in
-    λ i. r i && m i
+    λ i. t i && m i
 
 -- ---- the place of a key
 pub own-key : (text r key own : List ℕ) {x n : ℕ} {t : Bool} → x ≡ getD r word.key 0 → n ≡ getD r (word.key + 1) 0 → own ≡ take n (drop x text) → t ≡ sameBytes own key
@@ -62,11 +61,13 @@ module _ (text words key : List ℕ) (i to : ℕ) where
     pub key-next : t ≡ false → keyPlace text words key i (to - i) ≡ keyPlace text words key (i + 1) (to - (i + 1))
     key-next q = turned ∙ ap (λ (u : Bool). cond u i (keyPlace text words key (i + 1) (to - (i + 1)))) q
 
-pub own-suite : (k : ℕ) (b : Builder) {own : ℕ} → k ≡ kind.suiteExtra → own ≡ b .suite → own ≡ holderOf k b
-own-suite k b e o = o ∙ sym (ap (λ (u : Bool). cond u (b .suite) (b .case)) (eq-eqb k kind.suiteExtra e))
+-- ---- whose a record of kind k is
+module _ (k : ℕ) (b : Builder) {t u : Bool} (e : t ≡ isSuites k) (h : t ≡ u) where
+  pub own-of : cond u (b .suite) (b .case) ≡ holderOf k b
+  own-of = ap (λ (v : Bool). cond v (b .suite) (b .case)) (sym h ∙ e)
 
-pub own-case : (k : ℕ) (b : Builder) {own : ℕ} → (k ≡ kind.suiteExtra → ⊥) → own ≡ b .case → own ≡ holderOf k b
-own-case k b e o = o ∙ sym (ap (λ (u : Bool). cond u (b .suite) (b .case)) (ne-eqb k kind.suiteExtra e))
+  pub held-of : (words : List ℕ) {r : Bool} → r ≡ cond u (isOf b words (b .suite) kind.suite) (isOf b words (b .case) kind.case) → r ≡ isHeld k b words
+  held-of words r = r ∙ ap (λ (v : Bool). cond v (isOf b words (b .suite) kind.suite) (isOf b words (b .case) kind.case)) (sym h ∙ e)
 
 module _ (b : Builder) (words text key : List ℕ) (k place : ℕ) (t : List ℕ) (e : placeFor (plain b words t) ≡ place) where
   -- a property's key is never there

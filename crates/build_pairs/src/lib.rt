@@ -2,7 +2,7 @@
 use area::least;
 use build_draft::Builder;
 use build_draft::Step;
-use build_draft::is_record;
+use build_draft::is_of;
 use build_draft::kind_at;
 use build_draft::last_of;
 use build_records::exchange;
@@ -30,7 +30,7 @@ ghost use Rattle.tree_record.specs.Words as word;
 ghost use Rattle.tree_record.specs.Bits as bit;
 ghost use Rattle.build_draft.specs.Draft.{draftOf, isRecord, kindAt, onRecord, lastOf, next};
 ghost use Rattle.build_draft.specs.Parts.{keeping, taking, isMainKind, placeFor, mayStandBehind, keyPlace};
-ghost use Rattle.build_draft.specs.Calls.{oldPlace, putPairIn, addPair};
+ghost use Rattle.build_draft.specs.Calls.{isSuites, holderOf, isHeld, oldPlace, putPairIn, addPair};
 ghost use Rattle.build_pairs.specs.inside.Adding.{puttingKept};
 
 fn is_main(k: u32) -> bool
@@ -91,6 +91,33 @@ fn key_place(records: &[u32], text: &[u8], key: &[u8], from: usize, to: usize) -
     i
 }
 
+// Whether a record of kind k, a property or extra, is a suite's.
+fn is_suites(k: u32) -> bool
+    ensures { λ r. ⌜ r ≡ isSuites k ⌝ }
+{
+    (k == kind::SUITE_EXTRA) | (k == kind::SUITE_PROPERTY)
+}
+
+// The mark of the element that has records of kind k.
+fn holder_of(b: Builder, k: u32) -> u32
+    ensures { λ r. ⌜ r ≡ holderOf k b ⌝ }
+{
+    if is_suites(k) {
+        return b.suite;
+    }
+    b.case
+}
+
+// Whether it is open.
+fn is_held(b: Builder, records: &[u32], k: u32) -> bool
+    ensures { λ r. ⌜ r ≡ isHeld k b (now (records .entry)) ⌝ }
+{
+    if is_suites(k) {
+        return is_of(b, records, b.suite, kind::SUITE);
+    }
+    is_of(b, records, b.case, kind::CASE)
+}
+
 // The place of the extra with this key (rule B7), or none before `place`; a property's is never there.
 fn old_place(b: Builder, records: &[u32], text: &[u8], key: &[u8], k: u32, place: u32) -> usize
     requires { ⌜ place ≤ 65536 ⌝ }
@@ -100,11 +127,7 @@ fn old_place(b: Builder, records: &[u32], text: &[u8], key: &[u8], k: u32, place
     if k < kind::SUITE_EXTRA {
         return place as usize;
     }
-    let own = if k == kind::SUITE_EXTRA {
-        b.suite
-    } else {
-        b.case
-    };
+    let own = holder_of(b, k);
     key_place(records, text, key, (own as usize) + 1, place as usize)
 }
 
@@ -159,10 +182,10 @@ fn new_pair(b: Builder, records: &mut [u32], k: u32, place: u32, x: u32, y: u32)
 
 // Whether a property or extra of kind k may be added at `place`.
 fn may_add(b: Builder, records: &[u32], k: u32, place: u32) -> bool
-    ensures { λ r. ⌜ r ≡ (isRecord b (now (records .entry)) (lastOf b) && mayStandBehind k (kindAt (now (records .entry)) (place - 1))) ⌝ }
+    ensures { λ r. ⌜ r ≡ (isHeld k b (now (records .entry)) && mayStandBehind k (kindAt (now (records .entry)) (place - 1))) ⌝ }
 {
     let before = if place == 0 { 0 } else { place - 1 };
-    is_record(b, records, last_of(b)) & may_stand_behind(k, kind_at(records, before))
+    is_held(b, records, k) & may_stand_behind(k, kind_at(records, before))
 }
 
 // Both texts are stored: behind x the key, from y on the value. The key's record gets them, an old one or a new one.

@@ -2,6 +2,7 @@
 use Prim.Native.Nat.{ℕ, _+_, _-_, _≤_, min}
 use mathlib.Core.Bool.{Bool, true, false, cond, _&&_, _||_}
 use mathlib.Core.List.{List, [], _∷_, _++_, map}
+use mathlib.Core.Option.{Option, none, some}
 use mathlib.Core.Path.{_≡_, refl, sym, ap, ap₂, subst, _∙_}
 use native.Mathlib.Omega.{arith}
 use borrow.Author.Tests.{le-ltb, leb-true}
@@ -15,25 +16,27 @@ use Rattle.utf8.specs.Utf8.{utf8}
 use Rattle.text_filter.specs.Filter.{filtered}
 use Rattle.text_filter.proofs.Filtering.{utf8-filtered, unfiltered-filtered}
 use Rattle.tree_put.specs.Put.{putPair, putText}
-use Rattle.tree_report.specs.Report.{Pair, Report}
+use Rattle.tree_report.specs.Report.{Pair, TestCase, TestSuite, Report}
 use Rattle.tree_report.specs.Encode.{Row, written, pairRow, fitsRow}
 use Rattle.tree_placed.specs.inside.Placed.{StandsAt}
 use Rattle.tree_placed.proofs.Growing.{text-new, stands-more}
 use Rattle.build_draft.specs.declared.Builder.{Builder}
 use Rattle.build_draft.specs.declared.Holder.{Holder}
 use Rattle.build_draft.specs.declared.Holder.the-variants as holder
-use Rattle.build_draft.specs.Draft.{Draft, _>>=_, roomFor, bytesFor, isRecord, kindAt, onRecord, lastOf, withWords}
+use Rattle.build_draft.specs.Draft.{Draft, _>>=_, roomFor, bytesFor, kindAt, onRecord, lastOf, withWords}
 use Rattle.build_draft.specs.Parts.{taking, placeFor, mayStandBehind, keyPlace, exchanged}
 use Rattle.build_draft.specs.Calls as call
-use Rattle.build_draft.specs.Calls.{marks, isExtra, holderOf, oldPlace, putPairIn, addPair, propertyKind, extraKind}
+use Rattle.build_draft.specs.Calls.{marks, isExtra, holderOf, isHeld, oldPlace, putPairIn, addPair, propertyKind, extraKind}
 use Rattle.build_report.specs.Operations as report
+use Rattle.build_report.specs.Operations.{lastIn, openCase, isEmpty, runsIn}
 use Rattle.build_report.specs.Stands.{Stands, Stand, Comes, gives, passes}
-use Rattle.build_report.specs.Builders.{fitsRecords, fitsText, takesProperty, takesExtra, extrasIn, hasKey, textTests, pairTests, pairOf}
+use Rattle.build_report.specs.Builders.{isSome, ofCase, ofSuite, fitsRecords, fitsText, takesProperty, takesExtra, extrasIn, hasKey, textTests, pairTests, pairOf}
 use Rattle.build_report.proofs.Coming.{comes-tests}
 use Rattle.build_report.proofs.Calling.{keptDraft, takenDraft, comes-taking, comes-keeping}
 use Rattle.build_report.proofs.Holding.{Holding, holding-text, moreBytes}
 use Rattle.build_report.proofs.Storing.{holding, room-test}
 use Rattle.build_report.proofs.Keys.{keyIndex}
+use Rattle.build_report.proofs.Opens.{suite-open, case-open}
 use Rattle.build_report.proofs.PairPlaces.{ends}
 use Rattle.build_report.proofs.PairRows.{New, Old, same-marks, new-property, Extras, extras}
 use Rattle.build_report.proofs.PairKeys.{key-among, known-test}
@@ -143,12 +146,12 @@ module _ {b : Builder} {words text : List ℕ} {r : Report} (st : Stands b words
         (λ l. gives (new-done x y h n (room-test (st .stored) ∙ l))))
 
     -- the whole call
-    comes-pair : (may known : Bool) → (isRecord b words (lastOf b) && mayStandBehind κ (kindAt words (placeFor start - 1))) ≡ may
+    comes-pair : (may known : Bool) → (isHeld κ b words && mayStandBehind κ (kindAt words (placeFor start - 1))) ≡ may
         → (may ≡ true → Kept → Found κ (pairOf key value) r r′ place (placeFor start) known)
         → Comes (Stand r′) ((may, cause.NotLayout) ∷ pairTests (b .bytes) key value text ((known || fitsRecords 1 r words, cause.RecordsSpent) ∷ [])) (addPair κ key value start)
     unfolding addPair
     comes-pair may known e f =
-        comes-tests (isRecord b words (lastOf b) && mayStandBehind κ (kindAt words (placeFor start - 1))) may cause.NotLayout e
+        comes-tests (isHeld κ b words && mayStandBehind κ (kindAt words (placeFor start - 1))) may cause.NotLayout e
         (λ t. comes-keeping start _ key
         (λ x l. comes-room value (b .bytes + length v) text (keptDraft v start .text) (same-room x l)
         (comes-keeping (keptDraft v start) _ value (λ y m. found-comes known x y (held-both x l y m) (f t (held-both x l y m))))))
@@ -161,7 +164,30 @@ is-no-extra : (h : Holder) → isExtra (propertyKind h) ≡ false
 is-no-extra holder.Suite = refl
 is-no-extra holder.Case = refl
 
+-- ---- who takes one is open
+some-suite : (p : TestSuite → Bool) (o : Option TestSuite) → ofSuite p o ≡ true → isSome o ≡ true
+some-suite p none t = t
+some-suite p (some s) t = refl
+
+some-case : (p : TestCase → Bool) (o : Option TestCase) → ofCase p o ≡ true → isSome o ≡ true
+some-case p none t = t
+some-case p (some c) t = refl
+
+-- a test that is no narrower than the one behind it
+wider : (v t u : Bool) → u ≡ v → (v ≡ true → t ≡ true) → (t && u) ≡ v
+wider true t u e h = ap₂ (λ (x y : Bool). x && y) (h refl) e
+wider false true u e h = e
+wider false false u e h = refl
+
 module _ {b : Builder} {words text : List ℕ} {r : Report} (st : Stands b words text r) where
+  property-held : (h : Holder) → takesProperty h r ≡ true → isHeld (propertyKind h) b words ≡ true
+  property-held holder.Suite t = suite-open st ∙ some-suite (λ s. isEmpty (s .cases)) (lastIn (r .suites)) t
+  property-held holder.Case t = case-open st ∙ some-case (λ c. isEmpty (runsIn (c .status))) (openCase (lastIn (r .suites))) t
+
+  extra-held : (h : Holder) → takesExtra h r ≡ true → isHeld (extraKind h) b words ≡ true
+  extra-held holder.Suite t = suite-open st ∙ some-suite (λ s. isEmpty (s .properties) && isEmpty (s .cases)) (lastIn (r .suites)) t
+  extra-held holder.Case t = case-open st ∙ some-case (λ c. isEmpty (c .properties) && isEmpty (runsIn (c .status))) (openCase (lastIn (r .suites))) t
+
   -- ---- a property is new
   property-found : (h : Holder) (key value : List ℕ) → takesProperty h r ≡ true
       → Found (propertyKind h) (pairOf key value) r (report.addProperty h (pairOf key value) r) (place st key value (propertyKind h) r) (placeFor (start st key value)) false
@@ -178,7 +204,8 @@ module _ {b : Builder} {words text : List ℕ} {r : Report} (st : Stands b words
   unfolding call.addProperty
   addProperty h key value =
       comes-pair st key value (propertyKind h) (report.addProperty h (pairOf key value) r) (takesProperty h r) false
-      (may-stand (st .stored) (propertyKind h) (ends r .cut) ∙ ends r .property h) (λ t k. property-found h key value t)
+      (wider (takesProperty h r) (isHeld (propertyKind h) b words) _ (may-stand (st .stored) (propertyKind h) (ends r .cut) ∙ ends r .property h) (property-held h))
+      (λ t k. property-found h key value t)
 
   -- ---- an extra is new or has an old key
   extra-found : (h : Holder) (key value : List ℕ) → takesExtra h r ≡ true → Kept st key value
@@ -220,4 +247,5 @@ module _ {b : Builder} {words text : List ℕ} {r : Report} (st : Stands b words
   unfolding call.addExtra
   addExtra h key value =
       comes-pair st key value (extraKind h) (report.addExtra h (pairOf key value) r) (takesExtra h r) (hasKey (filtered key) (extrasIn h r))
-      (may-stand (st .stored) (extraKind h) (ends r .cut) ∙ ends r .extra h) (λ t k. extra-found h key value t k)
+      (wider (takesExtra h r) (isHeld (extraKind h) b words) _ (may-stand (st .stored) (extraKind h) (ends r .cut) ∙ ends r .extra h) (extra-held h))
+      (λ t k. extra-found h key value t k)

@@ -9,6 +9,7 @@ use Rattle.build_report.proofs.AddPair.{addProperty, addExtra}
 use Rattle.build_report.proofs.SetText.{setText, setOutputLossy}
 use Rattle.build_report.proofs.SetValues.{setTimestamp, setTime, setUuid, setNumber}
 use Rattle.build_report.proofs.Finish.{finish}
+use Rattle.build_report.proofs.Over.{afterEnd, afterRefusal}
 
 pub builders : Builders
 builders = record {
@@ -30,4 +31,6 @@ builders = record {
     setNumber = setNumber h;
     finish = finish h;
   };
+  afterEnd = afterEnd;
+  afterRefusal = afterRefusal;
 }

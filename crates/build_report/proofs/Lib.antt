@@ -42,4 +42,5 @@ pub mod AddPair
 pub mod RunReads
 pub mod RunStores
 pub mod Runs
+pub mod Over
 pub mod Builders

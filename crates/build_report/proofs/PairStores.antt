@@ -1,6 +1,6 @@
 -- What a property or extra's record reads off the areas and leaves in them. Assumes nothing.
 use Prim.Native.Nat.{ℕ, _+_, _-_, _*_, _≤_}
-use mathlib.Core.Bool.{Bool, true, false, cond, _&&_}
+use mathlib.Core.Bool.{Bool, true, false, cond}
 use mathlib.Core.List.{List, [], _∷_, _++_, append-assoc, append-nil}
 use mathlib.Core.Path.{_≡_, refl, sym, ap, ap₂, subst, _∙_}
 use native.Mathlib.Omega.{arith}
@@ -19,13 +19,12 @@ use Rattle.tree_placed.proofs.Putting.{record-length}
 use Rattle.tree_placed.proofs.Fronts.{pair-fronts}
 use Rattle.tree_placed.proofs.Changing.{blank-in, out-in}
 use Rattle.build_draft.specs.declared.Builder.{Builder}
-use Rattle.build_draft.specs.Draft.{Draft, roomFor, isRecord, kindAt, onRecord, lastOf}
+use Rattle.build_draft.specs.Draft.{Draft, roomFor, kindAt, onRecord, lastOf}
 use Rattle.build_draft.specs.Parts.{putAt, isMainKind, placeFor, mayStandBehind, exchanged}
 use Rattle.build_draft.specs.Calls.{marks}
 use Rattle.build_report.specs.Stands.{Marked, Stored, Stand}
 use Rattle.build_report.proofs.Holding.{Holding, holding-marks, holding-set, holding-exchanged, holding-more, oneMoreRecord}
-use Rattle.build_report.proofs.Reading.{is-held}
-use Rattle.build_report.proofs.Storing.{holding, placed-many, rows-many, stored, divide, parted, kind-there, fits-there, fits-inserted, Becomes, rows-append, held-set}
+use Rattle.build_report.proofs.Storing.{holding, rows-many, stored, divide, parted, kind-there, fits-there, fits-inserted, Becomes, rows-append, held-set}
 use Rattle.build_report.proofs.Becoming.{first-becomes, out-becomes, becomes-on, becomes-then}
 use Rattle.build_report.proofs.Fitting.{out-fits, whole-fits}
 use Rattle.build_report.proofs.PairPlaces.{Tail, no-main, one-main, lastKind, Cut}
@@ -75,13 +74,8 @@ module _ {b : Builder} {words text : List ℕ} {r : Report} (s : Stored b words 
 
   -- the test of what stands before it
   pub may-stand : (κ : ℕ) {before back : List Row} → Cut (rowsOf r) before back
-      → (isRecord b words (lastOf b) && mayStandBehind κ (kindAt words (placeFor draft - 1))) ≡ mayStandBehind κ (lastKind before)
-  may-stand κ {before} {back} c =
-      let n : length (s .placed) ≡ length before + length back = placed-many s ∙ ap length (c .is) ∙ length-append before back in
-      let k : b .records ≡ length (s .placed) = s .records in
-      let l = c .any in
-      ap₂ (λ (t : Bool) (k : ℕ). t && mayStandBehind κ (kindAt words (k - 1))) (is-held (holding s) (lastOf b) (omega arith)) (place-is c)
-      ∙ ap (mayStandBehind κ) (kind-before before back (c .is) (c .any))
+      → mayStandBehind κ (kindAt words (placeFor draft - 1)) ≡ mayStandBehind κ (lastKind before)
+  may-stand κ {before} {back} c = ap (λ (k : ℕ). mayStandBehind κ (kindAt words (k - 1))) (place-is c) ∙ ap (mayStandBehind κ) (kind-before before back (c .is) (c .any))
 
 -- ---- a text area that keeps its length
 pub put-length : (x : ℕ) (v text : List ℕ) → x + length v ≤ length text → length (putAt x v text) ≡ length text

@@ -5,6 +5,7 @@ use mathlib.Core.List.{List, [], _∷_, _++_, map, append-assoc, append-nil}
 use mathlib.Core.Option.{Option, none, some}
 use mathlib.Core.Path.{_≡_, refl, sym, ap, _∙_}
 use native.Mathlib.Omega.{arith}
+use lib.Dec.{eqb}
 use lib.ListN.{length, length-append}
 use Rattle.refusal.specs.Refusal.{nowhere}
 use Rattle.tree_record.specs.Kinds as kind
@@ -13,7 +14,7 @@ use Rattle.tree_report.specs.Encode.{Row, pairRow, statusRows, caseRow, caseRow
 use Rattle.build_draft.specs.declared.Builder.{Builder}
 use Rattle.build_draft.specs.declared.Element.{Element}
 use Rattle.build_draft.specs.declared.Element.the-variants as element
-use Rattle.build_draft.specs.Draft.{markOf}
+use Rattle.build_draft.specs.Draft.{lastOf, markOf}
 use Rattle.build_report.specs.Operations.{lastIn, isEmpty, hasMain, runsIn, openCase, report, suite, case, main, run, nothing}
 use Rattle.build_report.specs.Operations.{suiteTarget, caseTarget, mainTarget, lastTarget, lastOfSuite, lastOfPairs, lastOfCase, targetOf}
 use Rattle.build_report.specs.Stands.{suiteMark, caseMark, mainMark, Marked}
@@ -128,4 +129,5 @@ place-of r m n element.Report = at-report (m .report)
 place-of r m n element.Suite = place-suite r m (lastIn (r .suites)) refl
 place-of r m n element.Case = place-case r m (lastIn (r .suites)) refl (openCase (lastIn (r .suites))) refl
 place-of r m n element.Status = place-main r m (lastIn (r .suites)) refl (openCase (lastIn (r .suites))) refl
-place-of r m n element.Last = place-last r (ap (λ (k : ℕ). k - 1) n) (lastIn (r .suites)) refl
+place-of {b} r m n element.Last =
+    place-last r (ap (λ (k : ℕ). cond (eqb k nowhere) nowhere (lastOf b)) (m .report) ∙ ap (λ (k : ℕ). k - 1) n) (lastIn (r .suites)) refl

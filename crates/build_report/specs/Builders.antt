@@ -1,10 +1,11 @@
 -- Builders, whole: what is claimed of a report that is built call by call. Each call leads from a report that the areas hold to the report that the
--- operation gives, or refuses exactly where a test of its list fails, the first one deciding. The claims are types; proofs/Builders.antt has a proof of
--- each. Definitions only.
+-- operation gives, or refuses exactly where a test of its list fails, the first one deciding. After the end every call but a new report is refused
+-- with 15. The claims are types; proofs/Builders.antt has a proof of each. Definitions only.
 --
 -- Whoever wants to be sure that this is what report.rs of the crate does reads these definitions:
 --   reportNamed, addTestSuite, .., summed (Operations)           the operations on a report, in the words of report.rs
 --   Holds, Stands, Stand (Stands)                                the areas hold a report; a builder stands over it, and its marks are right
+--   Ended, Finished (Stands)                                     nothing is open any more; the areas hold a finished report
 --   Comes (Stands)                                               what a call comes to: the first test that fails decides the refusal
 --   layout, reportOf (crate tree_report: Layout, ReportOf)       docs/TREE.md: whether two areas are a layout; the report that they hold
 --   rowsOf (crate tree_report: Encode)                           a report's records, which are counted against the room
@@ -13,6 +14,7 @@
 --   unnamedReport, newReport, .., finish (crate build_draft: Calls)
 --                                                                what each call answers and leaves, on every builder and all areas: the promise of the
 --                                                                call
+--   noBuilder (crate build_draft: Draft)                         the builder that comes back at a refusal
 --   roomFor, bytesFor (crate build_draft: Draft)                 how many records and bytes of text the areas may hold
 --   hasText, isOutput, hasTimes (crate build_draft: Parts)       which kinds of records have a text, an output, a timestamp and a time
 --   utf8, filtered (crates utf8, text_filter: Utf8, Filter)      whether bytes are UTF-8; the text that is stored of them
@@ -26,6 +28,7 @@ use mathlib.Core.Path.{_≡_}
 use lib.ListN.{length}
 use lib.Dec.{leb}
 use Rattle.area.specs.Area.{zeros}
+use Rattle.refusal.specs.Refusal.{Outcome, refused, late}
 use Rattle.refusal.specs.declared.Cause.{Cause}
 use Rattle.refusal.specs.declared.Cause.the-variants as cause
 use Rattle.names.specs.Names.{sameBytes}
@@ -35,7 +38,7 @@ use Rattle.text_lossy.specs.LossyText.{lossyText}
 use Rattle.timestamp.specs.Timestamp.{inRange}
 use Rattle.timestamp.specs.declared.Moment.{Moment}
 use Rattle.uuid.specs.declared.Words.{Words}
-use Rattle.tree_counts.specs.declared.Outcome.{Outcome}
+use Rattle.tree_counts.specs.declared.Outcome.{Outcome as Status}
 use Rattle.tree_counts.specs.declared.Outcome.the-variants as outcome
 use Rattle.tree_report.specs.Report.{Text, Pair, Counts, TestCaseStatus, success, nonSuccess, skipped, TestCase, TestSuite, Report}
 use Rattle.tree_report.specs.Encode.{rowsOf}
@@ -48,12 +51,12 @@ use Rattle.build_draft.specs.declared.NumberField.{NumberField}
 use Rattle.build_draft.specs.declared.NumberField.the-variants as number
 use Rattle.build_draft.specs.declared.NonSuccessKind.{NonSuccessKind}
 use Rattle.build_draft.specs.declared.FlakyOrRerun.{FlakyOrRerun}
-use Rattle.build_draft.specs.Draft.{roomFor, bytesFor}
+use Rattle.build_draft.specs.Draft.{Draft, noBuilder, roomFor, bytesFor}
 use Rattle.build_draft.specs.Parts.{hasText, isOutput, hasTimes}
 use Rattle.build_draft.specs.Calls as call
 use Rattle.build_report.specs.Operations as report
 use Rattle.build_report.specs.Operations.{lastIn, openCase, targetOf, kindOfTarget, isEmpty, runsIn}
-use Rattle.build_report.specs.Stands.{Holds, Stands, Comes, Stand}
+use Rattle.build_report.specs.Stands.{Holds, Stands, Comes, Stand, Ended, Finished}
 
 -- ---- tests
 abbrev pub isSome : {A : Type 0} → Option A → Bool
@@ -148,7 +151,7 @@ hasOpen number.Assertions r = hasOpenCase r
 hasOpen number.Disabled r = hasOpenSuite r
 
 -- how many records a case takes
-abbrev pub mainsOf : Outcome → ℕ
+abbrev pub mainsOf : Status → ℕ
 mainsOf outcome.Success = 0
 mainsOf outcome.Failure = 1
 mainsOf outcome.Error = 1
@@ -175,7 +178,7 @@ pub record FromReport (b : Builder) (words text : List ℕ) (r : Report) : Type 
       → Comes (Stand (report.addTestSuite (filtered name) r))
       ((areNumbers (report.summed r .counts), cause.CountLimit) ∷ (fitsRecords 1 r words, cause.RecordsSpent) ∷ textTests (b .bytes) name text [])
       (call.addTestSuite name (record { builder = b; words = words; text = text }))
-  pub addTestCase : (name : List ℕ) (o : Outcome)
+  pub addTestCase : (name : List ℕ) (o : Status)
       → Comes (Stand (report.addTestCase (filtered name) o r))
       ((hasOpenSuite r, cause.NotLayout)
       ∷ (areNumbers (report.sum (openCounts (lastIn (r .suites))) (report.oneMore o)), cause.CountLimit)
@@ -216,8 +219,26 @@ pub record FromReport (b : Builder) (words text : List ℕ) (r : Report) : Type 
   pub setNumber : (f : NumberField) (n : ℕ) → isNumber n ≡ true
       → Comes (Stand (report.setNumber f n r)) ((hasOpen f r, cause.NotLayout) ∷ []) (call.setNumber f n (record { builder = b; words = words; text = text }))
   pub finish :
-      Comes (λ d. Holds (d .words) (d .text) (report.summed r)) ((areNumbers (report.summed r .counts), cause.CountLimit) ∷ [])
-      (call.finish (record { builder = b; words = words; text = text }))
+      Comes (Finished (report.summed r)) ((areNumbers (report.summed r .counts), cause.CountLimit) ∷ []) (call.finish (record { builder = b; words = words; text = text }))
+
+-- ---- a builder after the end, in any areas: each call but a new report is refused with 15 (rule B12)
+abbrev pub IsOver : Outcome Draft → Type 0
+IsOver o = o ≡ refused (late cause.NotLayout)
+
+pub record FromEnd (d : Draft) : Type 0 where
+  pub addTestSuite : (name : List ℕ) → IsOver (call.addTestSuite name d)
+  pub addTestCase : (name : List ℕ) (s : Status) → IsOver (call.addTestCase name s d)
+  pub addRerun : (k : NonSuccessKind) → IsOver (call.addRerun k d)
+  pub setRerunKind : (f : FlakyOrRerun) → IsOver (call.setRerunKind f d)
+  pub addProperty : (h : Holder) (key value : List ℕ) → IsOver (call.addProperty h key value d)
+  pub addExtra : (h : Holder) (key value : List ℕ) → IsOver (call.addExtra h key value d)
+  pub setText : (e : Element) (f : TextField) (s : List ℕ) → IsOver (call.setText e f s d)
+  pub setOutputLossy : (e : Element) (f : TextField) (s : List ℕ) → IsOver (call.setOutputLossy e f s d)
+  pub setTimestamp : (e : Element) (m : Moment) → IsOver (call.setTimestamp e m d)
+  pub setTime : (e : Element) (seconds nanos : ℕ) → IsOver (call.setTime e seconds nanos d)
+  pub setUuid : (w : Words) → IsOver (call.setUuid w d)
+  pub setNumber : (f : NumberField) (n : ℕ) → IsOver (call.setNumber f n d)
+  pub finish : IsOver (call.finish d)
 
 -- ---- the claim
 pub record Builders : Type 0 where
@@ -229,3 +250,6 @@ pub record Builders : Type 0 where
       (call.newReport name words bytes)
   -- and every call from there
   pub calls : {b : Builder} {words text : List ℕ} {r : Report} → Stands b words text r → FromReport b words text r
+  -- until the report is finished (rule B12); after a refusal nothing is open, either (rule B11)
+  pub afterEnd : {d : Draft} → Ended (d .builder) → FromEnd d
+  pub afterRefusal : Ended noBuilder

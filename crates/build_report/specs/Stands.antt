@@ -82,6 +82,18 @@ pub record Stands (b : Builder) (words text : List ℕ) (r : Report) : Type 0 wh
   pub stored : Stored b words text r
   pub marks : Marked b r
 
+-- ---- after the end nothing is open, whatever else the builder says (rule B12)
+pub record Ended (b : Builder) : Type 0 where
+  pub report : b .report ≡ nowhere
+  pub suite : b .suite ≡ nowhere
+  pub case : b .case ≡ nowhere
+  pub main : b .main ≡ nowhere
+
+-- the areas hold the finished report
+pub record Finished (r : Report) (d : Draft) : Type 0 where
+  pub means : Holds (d .words) (d .text) r
+  pub ended : Ended (d .builder)
+
 -- ---- what a call comes to: the first test that fails decides the refusal (rule B5); where none fails, Q holds of the draft
 pub data Comes (Q : Draft → Type 0) : List (Bool × Cause) → Outcome Draft → Type 0 where
   gives : {d : Draft} → Q d → Comes Q [] (accepted d)

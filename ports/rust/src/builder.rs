@@ -43,7 +43,10 @@ mod number {
 ///
 /// All calls refuse alike: 12 and 13 where the areas are spent, 4 or 5 for a timestamp or time out of range, 15 for what doesn't belong
 /// there (a message of a case that passed, a run of a skipped one, a property behind cases), 17 where a count would pass its limit. At a
-/// refusal the areas become zero, and all later calls refuse with 15.
+/// refusal the areas become zero, and all later calls refuse with 15. [`finish`](ReportBuilder::finish) takes the builder: in the library
+/// each call behind it but a new report is refused with 15, too.
+///
+/// Extras of one element are searched one by one, so that n of them cost the square of n.
 ///
 /// ```
 /// use kerzhoma::{list, Areas, NonSuccessKind, Outcome, ReportBuilder};

@@ -17,8 +17,8 @@ enum-told-4 c = search needs
 enum-told-5 : tie.Need-enum-told-5
 enum-told-5 c = search needs
 
-last-of-requires : tie.Need-last-of-requires
-last-of-requires c κs = search needs
+last-open-requires : tie.Need-last-open-requires
+last-open-requires c κs = search needs
 
 returns : tie.Need-returns
 returns c = search needs
@@ -33,7 +33,7 @@ returns-4 : tie.Need-returns-4
 returns-4 c = search needs
 
 returns-5 : tie.Need-returns-5
-returns-5 c = rw (c .before .enum-told5 .given .1) (c .last-of .ensures)
+returns-5 c = rw (c .before .enum-told5 .given .1) (c .last-open .ensures)
 
 pub mark-of-spec : {M : Type 1} → statement M
 mark-of-spec =
@@ -44,7 +44,7 @@ mark-of-spec =
     enum-told-3
     enum-told-4
     enum-told-5
-    last-of-requires
+    last-open-requires
     returns
     returns-2
     returns-3

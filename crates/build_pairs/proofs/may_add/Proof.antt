@@ -9,11 +9,8 @@ use Rattle.build_pairs.proofs.may_add.Tie as tie
 sub-before : tie.Need-sub-before
 sub-before c = search needs
 
-last-of-requires : tie.Need-last-of-requires
-last-of-requires c κs = search needs
-
-is-record-requires : tie.Need-is-record-requires
-is-record-requires c κs = search needs
+is-held-requires : tie.Need-is-held-requires
+is-held-requires c κs = search needs
 
 kind-at-requires : tie.Need-kind-at-requires
 kind-at-requires c κs = search needs
@@ -23,18 +20,17 @@ may-stand-behind-requires c κs = search needs
 
 returns : tie.Need-returns
 returns c =
-    let args = c .before .before .before .before .before .before .args in
-    let if1 = c .before .before .before .before .if1 in
+    let args = c .before .before .before .before .before .args in
+    let if1 = c .before .before .before .if1 in
     may-be-added (args .b) (args .records .now) (args .k) (args .place) (⊎-elim (λ w. w .1 ∙ (let z = w .0 .taken in omega arith)) (λ w. w .1) (if1 .came))
-    (c .before .before .before .last-of .ensures) (c .before .before .is-record .ensures) (c .before .kind-at .ensures) (c .may-stand-behind .ensures)
+    (c .before .before .is-held .ensures) (c .before .kind-at .ensures) (c .may-stand-behind .ensures)
 
 pub may-add-spec : {M : Type 1} → statement M
 may-add-spec =
     tie.close
     (tie.spec
     sub-before
-    last-of-requires
-    is-record-requires
+    is-held-requires
     kind-at-requires
     may-stand-behind-requires
     returns)

@@ -1,5 +1,4 @@
-use Rattle.build_pairs.proofs.Places.{own-suite, own-case, old-none, old-sought}
-use mathlib.Core.Logic.{⊎-elim}
+use Rattle.build_pairs.proofs.Places.{old-none, old-sought}
 use borrow.Author.Needs.{needs}
 use Rattle.build_pairs.proofs.old_place.Statement.{statement}
 use Rattle.build_pairs.proofs.old_place.Tie as tie
@@ -9,6 +8,12 @@ returns c =
     let args = c .before .before .before .before .args in
     λ t e. old-none (args .b) (args .records .now) (args .text .now) (args .key .now) (args .k) (args .place) t e (c .if1 .taken)
 
+holder-of-requires : tie.Need-holder-of-requires
+holder-of-requires c κs = search needs
+
+cast-key-place : tie.Need-cast-key-place
+cast-key-place c = search needs
+
 add-key-place : tie.Need-add-key-place
 add-key-place c = search needs
 
@@ -17,9 +22,9 @@ key-place-requires c κs = search needs
 
 returns-2 : tie.Need-returns-2
 returns-2 c =
-    let args = c .before .before .before .before .before .before .before .args in
-    λ t e. old-sought (args .b) (args .records .now) (args .text .now) (args .key .now) (args .k) (args .place) t e (c .before .before .before .if1 .left)
-    (⊎-elim (λ w. own-suite (args .k) (args .b) (w .0 .taken) (w .1)) (λ w. own-case (args .k) (args .b) (w .0 .left) (w .1)) (c .before .before .if2 .came)) (c .key-place .ensures)
+    let args = c .before .before .before .before .before .before .args in
+    λ t e. old-sought (args .b) (args .records .now) (args .text .now) (args .key .now) (args .k) (args .place) t e (c .before .before .if1 .left)
+    (c .before .holder-of .ensures) (c .key-place .ensures)
 
 pub old-place-spec : {M : Type 1} → statement M
-old-place-spec = tie.close (tie.spec returns add-key-place key-place-requires returns-2)
+old-place-spec = tie.close (tie.spec returns holder-of-requires cast-key-place add-key-place key-place-requires returns-2)
