@@ -48,23 +48,23 @@ opens-bang at-epilog = refl
 opens-bang in-text = refl
 
 -- ---- comments
-bang-dash : (pl : Place) → step (misc bang whole pl) 0x2D ≡ state.go Stay (misc dash whole pl)
+pub bang-dash : (pl : Place) → step (misc bang whole pl) 0x2D ≡ state.go Stay (misc dash whole pl)
 unfolding step inMisc
 bang-dash pl = refl
 
-dash-opens : (pl : Place) → step (misc dash whole pl) 0x2D ≡ state.go Mark (misc remark0 whole pl)
+pub dash-opens : (pl : Place) → step (misc dash whole pl) 0x2D ≡ state.go Mark (misc remark0 whole pl)
 unfolding step inMisc
 dash-opens pl = refl
 
-first-dash : (pl : Place) → step (misc remark0 whole pl) 0x2D ≡ state.go Stay (misc remark1 whole pl)
+pub first-dash : (pl : Place) → step (misc remark0 whole pl) 0x2D ≡ state.go Stay (misc remark1 whole pl)
 unfolding step inMisc
 first-dash pl = refl
 
-second-dash : (pl : Place) → step (misc remark1 whole pl) 0x2D ≡ state.go Stay (misc remark2 whole pl)
+pub second-dash : (pl : Place) → step (misc remark1 whole pl) 0x2D ≡ state.go Stay (misc remark2 whole pl)
 unfolding step inMisc
 second-dash pl = refl
 
-dash-ends : (pl : Place) → step (misc remark2 whole pl) 0x3E ≡ state.go Comment (resume pl)
+pub dash-ends : (pl : Place) → step (misc remark2 whole pl) 0x3E ≡ state.go Comment (resume pl)
 unfolding step inMisc
 dash-ends pl = refl
 
@@ -85,7 +85,7 @@ remark-char {m = m} r pl c e =
     (char-takes (misc m whole pl) (λ bs p. misc remark0 p pl) (misc-carries remark0 pl) anyChar Stay (λ b. state.no) c
     (λ h. remark-takes r pl c (eqb-false c 0x2D (not-true _ (p .1)))) (λ b h. remark-takes r pl b (omega arith)) (p .0) (in-scalar c (p .0)))
 
-remark-reads : {s : List ℕ} → Remark s → (pl : Place) → Reads (misc remark0 whole pl) s (misc remark0 whole pl)
+pub remark-reads : {s : List ℕ} → Remark s → (pl : Place) → Reads (misc remark0 whole pl) s (misc remark0 whole pl)
 remark-reads no-remark pl = reads-none
 remark-reads (plain {c = c} e h) pl = reads-char (remark-char after-char pl c e) (remark-reads h pl)
 remark-reads (dashed {c = c} e h) pl = reads-byte (omega arith) (first-dash pl) (reads-char (remark-char after-dash pl c e) (remark-reads h pl))

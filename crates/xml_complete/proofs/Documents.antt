@@ -31,13 +31,13 @@ pub data Outside : State → State → Place → Type 0 where
   is-prolog : Outside prolog (lt before) before
   is-epilog : Outside epilog (lt state.after) state.after
 
-outside-opens : {s v : State} {pl : Place} → Outside s v pl → Opens s v pl
+pub outside-opens : {s v : State} {pl : Place} → Outside s v pl → Opens s v pl
 outside-opens is-fresh = at-fresh
 outside-opens is-marked = at-marked
 outside-opens is-prolog = at-prolog
 outside-opens is-epilog = at-epilog
 
-resumed : {s v : State} {pl : Place} → Outside s v pl → Outside (resume pl) (lt pl) pl
+pub resumed : {s v : State} {pl : Place} → Outside s v pl → Outside (resume pl) (lt pl) pl
 resumed is-fresh = is-prolog
 resumed is-marked = is-prolog
 resumed is-prolog = is-prolog
@@ -50,10 +50,10 @@ outside-space is-marked c e = space-cases (λ c. step marked c ≡ state.go Stay
 outside-space is-prolog c e = prolog-space c e
 outside-space is-epilog c e = epilog-space c e
 
-abbrev Out : Place → State → Type 0
+abbrev pub Out : Place → State → Type 0
 Out pl u = (v : State) × Outside u v pl
 
-spaces-out : {s v : State} {pl : Place} → Outside s v pl → {w : List ℕ} → Spaces w → (u : State) × Out pl u × Reads s w u
+pub spaces-out : {s v : State} {pl : Place} → Outside s v pl → {w : List ℕ} → Spaces w → (u : State) × Out pl u × Reads s w u
 spaces-out {s = s} {v = v} o no-char = (s, (v, o), reads-none)
 spaces-out {pl = pl} o (a-char {c = c} e h) = (
   resume pl,
@@ -86,7 +86,7 @@ pub data First : State → Type 0 where
   first-fresh : First fresh
   first-marked : First marked
 
-first-outside : {s : State} → First s → Outside s ltFirst before
+pub first-outside : {s : State} → First s → Outside s ltFirst before
 first-outside first-fresh = is-fresh
 first-outside first-marked = is-marked
 
@@ -109,12 +109,12 @@ prolog-tells {s = s} f (declared {d = d} {m = ms} h m) =
     }
 
 -- ---- documents
-before-begins : {u v : State} → Outside u v before → Begins v []
+pub before-begins : {u v : State} → Outside u v before → Begins v []
 before-begins is-fresh = at-first
 before-begins is-marked = at-first
 before-begins is-prolog = at-root
 
-after-ends : {u v : State} → Outside u v state.after → u ≡ epilog
+pub after-ends : {u v : State} → Outside u v state.after → u ≡ epilog
 after-ends is-epilog = refl
 
 all-events : (qs qt es rs rt l : List Event) {ps ms : List Event} → qs ++ qt ≡ ps → rs ++ rt ≡ ms → (qs ++ ((qt ++ es) ++ rs)) ++ (rt ++ l) ≡ ps ++ (es ++ (ms ++ l))

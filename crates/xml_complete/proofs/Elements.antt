@@ -25,7 +25,7 @@ use Rattle.xml_complete.proofs.Comments.{Opens, in-text, opens-step, op
 use Rattle.xml_complete.proofs.Instructions.{misc-tells}
 
 -- ---- beside elements
-ampersand-opens : (k : Brackets) (n : List ℕ) (ns : List (List ℕ)) → step (text k whole n ns) 0x26 ≡ state.go TextMark (ref ampersand whole (content n ns))
+pub ampersand-opens : (k : Brackets) (n : List ℕ) (ns : List (List ℕ)) → step (text k whole n ns) 0x26 ≡ state.go TextMark (ref ampersand whole (content n ns))
 unfolding step inText
 ampersand-opens k n ns = refl
 
@@ -34,11 +34,11 @@ bracket-opens : (n : List ℕ) (ns : List (List ℕ)) →
 unfolding step inMisc
 bracket-opens n ns = refl
 
-section-ends : (n : List ℕ) (ns : List (List ℕ)) → step (section b2 whole n ns) 0x3E ≡ state.go state.CData (text b0 whole n ns)
+pub section-ends : (n : List ℕ) (ns : List (List ℕ)) → step (section b2 whole n ns) 0x3E ≡ state.go state.CData (text b0 whole n ns)
 unfolding step inSection
 section-ends n ns = refl
 
-opening-reads : (n : List ℕ) (ns : List (List ℕ)) → Reads (lt (inside n ns)) (0x21 ∷ 0x5B ∷ 0x43 ∷ 0x44 ∷ 0x41 ∷ 0x54 ∷ 0x41 ∷ []) (literal 0x5B [] (toSection n ns))
+pub opening-reads : (n : List ℕ) (ns : List (List ℕ)) → Reads (lt (inside n ns)) (0x21 ∷ 0x5B ∷ 0x43 ∷ 0x44 ∷ 0x41 ∷ 0x54 ∷ 0x41 ∷ []) (literal 0x5B [] (toSection n ns))
 opening-reads n ns =
     reads-byte (omega arith) (opens-bang (in-text {k = b0}))
     (reads-byte (omega arith) (bracket-opens n ns)

@@ -112,7 +112,7 @@ query-ends : (pl : Place) → step (misc piQuery whole pl) 0x3E ≡ state.go Pi 
 unfolding step inMisc
 query-ends pl = refl
 
-instruction-reads : {i : List ℕ} → Instruction i → {pl : Place} {s : State} → Aims x0 pl s → (u : State) × Closes pl u × Reads s i u
+pub instruction-reads : {i : List ℕ} → Instruction i → {pl : Place} {s : State} → Aims x0 pl s → (u : State) × Closes pl u × Reads s i u
 instruction-reads (bare t) {pl = pl} a =
     let p = target-reads t a in
     (p .0, closes (ended-query (p .1)) (close-ends pl), p .2)

@@ -70,15 +70,15 @@ space-goes (chars {c = c} {s = s} e h) {d = d} a n ns =
     }
 
 -- ---- a key and its `=`
-key-equals : (n : List ℕ) (ns : List (List ℕ)) → step (tag key whole n ns) 0x3D ≡ state.go Key (tag quote whole n ns)
+pub key-equals : (n : List ℕ) (ns : List (List ℕ)) → step (tag key whole n ns) 0x3D ≡ state.go Key (tag quote whole n ns)
 unfolding step inTag char crosses
 key-equals n ns = refl
 
-key-spaces : (n : List ℕ) (ns : List (List ℕ)) (c : ℕ) → isSpace c ≡ true → step (tag key whole n ns) c ≡ state.go Key (tag keyEq whole n ns)
+pub key-spaces : (n : List ℕ) (ns : List (List ℕ)) (c : ℕ) → isSpace c ≡ true → step (tag key whole n ns) c ≡ state.go Key (tag keyEq whole n ns)
 unfolding step inTag char crosses
 key-spaces n ns c e = space-cases (λ c. step (tag key whole n ns) c ≡ state.go Key (tag keyEq whole n ns)) refl refl refl refl c e
 
-space-equals : (n : List ℕ) (ns : List (List ℕ)) → step (tag keyEq whole n ns) 0x3D ≡ state.go Stay (tag quote whole n ns)
+pub space-equals : (n : List ℕ) (ns : List (List ℕ)) → step (tag keyEq whole n ns) 0x3D ≡ state.go Stay (tag quote whole n ns)
 unfolding step inTag
 space-equals n ns = refl
 
@@ -93,12 +93,12 @@ equal-goes (a-char {c = c} {s = s} e h) d n ns f =
     (goes-byte (omega arith) (space-equals n ns) (marks k u) (f (k ++ (0x3D ∷ [])))))
 
 -- ---- a value in its quotes
-quote-opens : (q : Quote) (n : List ℕ) (ns : List (List ℕ)) → step (tag quote whole n ns) (mark q) ≡ state.go Mark (tag (value q) whole n ns)
+pub quote-opens : (q : Quote) (n : List ℕ) (ns : List (List ℕ)) → step (tag quote whole n ns) (mark q) ≡ state.go Mark (tag (value q) whole n ns)
 unfolding step inTag
 quote-opens single n ns = refl
 quote-opens double n ns = refl
 
-quote-closes : (q : Quote) (n : List ℕ) (ns : List (List ℕ)) → step (tag (value q) whole n ns) (mark q) ≡ state.go Value (tag valueEnd whole n ns)
+pub quote-closes : (q : Quote) (n : List ℕ) (ns : List (List ℕ)) → step (tag (value q) whole n ns) (mark q) ≡ state.go Value (tag valueEnd whole n ns)
 unfolding step inTag
 quote-closes single n ns = refl
 quote-closes double n ns = refl

@@ -70,7 +70,7 @@ to-slash (at-name e) n ns = refl
 to-slash (at-gap e f) n ns = refl
 to-slash (at-value e f) n ns = refl
 
-to-shut : (n : List ℕ) (ns : List (List ℕ)) → step (tag slash whole n ns) 0x3E ≡ state.go Empty (shut ns)
+pub to-shut : (n : List ℕ) (ns : List (List ℕ)) → step (tag slash whole n ns) 0x3E ≡ state.go Empty (shut ns)
 unfolding step inTag
 to-shut n ns = refl
 
@@ -101,23 +101,23 @@ ending-step : (c : ℕ) (n : List ℕ) (ns : List (List ℕ)) → step (ending (
 unfolding step
 ending-step c n ns = rw (eq-eqb c c refl) refl
 
-ending-stays : (n : List ℕ) (ns : List (List ℕ)) → Stays (ending n ns) n (ending [] ns)
+pub ending-stays : (n : List ℕ) (ns : List (List ℕ)) → Stays (ending n ns) n (ending [] ns)
 ending-stays [] ns = there
 ending-stays (c ∷ n) ns = stay (ending-step c n ns) (ending-stays n ns)
 
-slash-ends : (n : List ℕ) (ns : List (List ℕ)) → step (lt (inside n ns)) 0x2F ≡ state.go Mark (ending n ns)
+pub slash-ends : (n : List ℕ) (ns : List (List ℕ)) → step (lt (inside n ns)) 0x2F ≡ state.go Mark (ending n ns)
 unfolding step inLt char crosses
 slash-ends n ns = refl
 
-name-ends : (ns : List (List ℕ)) → step (ending [] ns) 0x3E ≡ state.go NameEnd (shut ns)
+pub name-ends : (ns : List (List ℕ)) → step (ending [] ns) 0x3E ≡ state.go NameEnd (shut ns)
 unfolding step
 name-ends ns = refl
 
-name-spaces : (ns : List (List ℕ)) (c : ℕ) → isSpace c ≡ true → step (ending [] ns) c ≡ state.go state.Name (endSpace ns)
+pub name-spaces : (ns : List (List ℕ)) (c : ℕ) → isSpace c ≡ true → step (ending [] ns) c ≡ state.go state.Name (endSpace ns)
 unfolding step
 name-spaces ns c e = rw e refl
 
-space-ends : (ns : List (List ℕ)) → step (endSpace ns) 0x3E ≡ state.go End (shut ns)
+pub space-ends : (ns : List (List ℕ)) → step (endSpace ns) 0x3E ≡ state.go End (shut ns)
 unfolding step
 space-ends ns = refl
 
