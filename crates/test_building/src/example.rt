@@ -142,25 +142,34 @@ fn count_of(run: Run, records: &mut [u32], text: &mut [u8], field: NumberField, 
     on(run, set_number(run.builder, records, text, field, n))
 }
 
-// Message, type and description of a main or a run, which is the last record.
+// Message, type and description of a main or a run.
 fn reason(
     run: Run,
     records: &mut [u32],
     text: &mut [u8],
+    element: Element,
     message: &[u8],
     ty: &[u8],
     s: &[u8],
 ) -> Run {
-    let a = text_of(
+    let a = text_of(run, records, text, element, TextField::Message, message);
+    let b = text_of(a, records, text, element, TextField::Ty, ty);
+    text_of(b, records, text, element, TextField::Description, s)
+}
+
+fn clocked(run: Run, records: &mut [u32], text: &mut [u8], element: Element) -> Run {
+    let a = on(
         run,
-        records,
-        text,
-        Element::Last,
-        TextField::Message,
-        message,
+        set_timestamp(run.builder, records, text, element, moment(9)),
     );
-    let b = text_of(a, records, text, Element::Last, TextField::Ty, ty);
-    text_of(b, records, text, Element::Last, TextField::Description, s)
+    time_of(a, records, text, element, 1, 500000000)
+}
+
+// Outputs, timestamp and time: what suites, cases and runs have alike.
+fn filled(run: Run, records: &mut [u32], text: &mut [u8], element: Element) -> Run {
+    let a = text_of(run, records, text, element, TextField::SystemOut, b"o");
+    let b = text_of(a, records, text, element, TextField::SystemErr, b"e");
+    clocked(b, records, text, element)
 }
 
 // The report with its UUID.
@@ -196,12 +205,12 @@ fn lab(run: Run, records: &mut [u32], text: &mut [u8]) -> Run {
     extra_of(c, records, text, Holder::Suite, b"hostname", b"bench\x01-7")
 }
 
-fn environment(run: Run, records: &mut [u32], text: &mut [u8]) -> Run {
-    let a = property_of(run, records, text, Holder::Suite, b"env", b"ci");
+// An output that isn't UTF-8.
+fn noisy(run: Run, records: &mut [u32], text: &mut [u8]) -> Run {
     on(
-        a,
+        run,
         set_output_lossy(
-            a.builder,
+            run.builder,
             records,
             text,
             Element::Suite,
@@ -211,7 +220,13 @@ fn environment(run: Run, records: &mut [u32], text: &mut [u8]) -> Run {
     )
 }
 
-fn passed(run: Run, records: &mut [u32], text: &mut [u8]) -> Run {
+fn environment(run: Run, records: &mut [u32], text: &mut [u8]) -> Run {
+    let a = property_of(run, records, text, Holder::Suite, b"env", b"ci");
+    let b = filled(a, records, text, Element::Suite);
+    noisy(b, records, text)
+}
+
+fn classed(run: Run, records: &mut [u32], text: &mut [u8]) -> Run {
     let a = case_of(run, records, text, b"success-case", Outcome::Success);
     let b = text_of(
         a,
@@ -224,6 +239,25 @@ fn passed(run: Run, records: &mut [u32], text: &mut [u8]) -> Run {
     count_of(b, records, text, NumberField::Assertions, 5000000000)
 }
 
+fn passed(run: Run, records: &mut [u32], text: &mut [u8]) -> Run {
+    let a = classed(run, records, text);
+    filled(a, records, text, Element::Case)
+}
+
+// What only a run has, and what it has like others.
+fn traced(run: Run, records: &mut [u32], text: &mut [u8]) -> Run {
+    let a = text_of(
+        run,
+        records,
+        text,
+        Element::Last,
+        TextField::StackTrace,
+        b"at wait()",
+    );
+    let b = filled(a, records, text, Element::Last);
+    time_of(b, records, text, Element::Last, 0, 62500000)
+}
+
 // A case that passed in the second run.
 fn flaky(run: Run, records: &mut [u32], text: &mut [u8]) -> Run {
     let a = case_of(run, records, text, b"flaky-case", Outcome::Success);
@@ -232,11 +266,12 @@ fn flaky(run: Run, records: &mut [u32], text: &mut [u8]) -> Run {
         b,
         records,
         text,
+        Element::Last,
         b"first try",
         b"timeout",
         b"it took too long",
     );
-    time_of(c, records, text, Element::Last, 0, 62500000)
+    traced(c, records, text)
 }
 
 // A failure; its extra and property stand before it.
@@ -248,6 +283,7 @@ fn failed(run: Run, records: &mut [u32], text: &mut [u8]) -> Run {
         c,
         records,
         text,
+        Element::Last,
         b"ranking differs",
         b"assert",
         b"donor 2 before donor 1",
@@ -279,13 +315,14 @@ fn broken(run: Run, records: &mut [u32], text: &mut [u8]) -> Run {
 
 fn skipped(run: Run, records: &mut [u32], text: &mut [u8]) -> Run {
     let a = case_of(run, records, text, b"skipped-case", Outcome::Skipped);
-    text_of(
+    reason(
         a,
         records,
         text,
         Element::Status,
-        TextField::Message,
         b"not today",
+        b"plan",
+        b"the lab is closed",
     )
 }
 
@@ -311,4 +348,9 @@ pub fn build_report(records: &mut [u32], text: &mut [u8]) -> Run {
     let b = first_suite(a, records, text);
     let c = second_suite(b, records, text);
     on(c, finish_report(c.builder, records, text))
+}
+
+// An extra of the last case, which comes too late.
+pub fn go_on(run: Run, records: &mut [u32], text: &mut [u8]) -> Run {
+    extra_of(run, records, text, Holder::Case, b"line", b"7")
 }

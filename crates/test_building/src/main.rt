@@ -1,10 +1,11 @@
-// A report built from nothing, listed and written: two suites, a flaky case, a failure and an error with runs. Then the same in areas
-// that just suffice, and in areas with one record or one byte less.
+// A report built from nothing, listed and written: two suites, a flaky case, a failure and an error with runs, and each field that an
+// element has. Then the same in areas that just suffice, and in areas with one record or one byte less; and a call behind the end.
 mod example;
 mod tell;
 
 use area::least;
 use example::build_report;
+use example::go_on;
 use lister::list;
 use refusal::Verdict;
 use tell::say;
@@ -55,4 +56,7 @@ fn main() {
     if 0 < bytes {
         try_areas(b"one byte less: ", records, bytes - 1);
     }
+    let late = go_on(run, &mut words, &mut text);
+    say(b"behind the end: ");
+    tell_run(late, &words, &text);
 }

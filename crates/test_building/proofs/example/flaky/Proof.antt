@@ -24,24 +24,24 @@ slice-aggregate-reason-3 c = search needs
 reason-requires : tie.Need-reason-requires
 reason-requires c κs = search needs
 
-time-of-requires : tie.Need-time-of-requires
-time-of-requires c κs = search needs
+traced-requires : tie.Need-traced-requires
+traced-requires c κs = search needs
 
 same-length : tie.Need-same-length
 same-length c =
     let at-reason = c .before .before .before .before .before .before .before .before .before .before .before in
     let at-rerun-of = at-reason .before .before .before .before .before .before .before .before .before .before in
     let case-of = at-rerun-of .before .before .before .before .before .before .before .case-of in
-    let time-of = c .before .before .before .before .time-of in
-    time-of .kept .1 .0 ∙ at-reason .reason .kept .1 .0 ∙ at-rerun-of .rerun-of .kept .1 .0 ∙ case-of .kept .1 .0
+    let traced = c .before .before .before .before .traced in
+    traced .kept .1 .0 ∙ at-reason .reason .kept .1 .0 ∙ at-rerun-of .rerun-of .kept .1 .0 ∙ case-of .kept .1 .0
 
 same-length-2 : tie.Need-same-length-2
 same-length-2 c =
     let at-reason = c .before .before .before .before .before .before .before .before .before .before .before in
     let at-rerun-of = at-reason .before .before .before .before .before .before .before .before .before .before in
     let case-of = at-rerun-of .before .before .before .before .before .before .before .case-of in
-    let time-of = c .before .before .before .before .time-of in
-    time-of .kept .1 .1 .0 ∙ at-reason .reason .kept .1 .1 .0 ∙ at-rerun-of .rerun-of .kept .1 .1 .0 ∙ case-of .kept .1 .1 .0
+    let traced = c .before .before .before .before .traced in
+    traced .kept .1 .1 .0 ∙ at-reason .reason .kept .1 .1 .0 ∙ at-rerun-of .rerun-of .kept .1 .1 .0 ∙ case-of .kept .1 .1 .0
 
 returns : tie.Need-returns
 returns c = search needs
@@ -57,7 +57,7 @@ flaky-spec =
     slice-aggregate-reason-2
     slice-aggregate-reason-3
     reason-requires
-    time-of-requires
+    traced-requires
     same-length
     same-length-2
     returns)
