@@ -2,3 +2,4 @@ pub mod Conditions
 pub mod Apart
 pub mod Cases
 pub mod Kept
+pub mod Limits

@@ -1,7 +1,9 @@
 -- What a plain report may have, and the places of what it may not have (rule W15): reports with a status, a field or a key each.
 -- Definitions only.
+use Prim.Native.Nat.{ℕ}
 use mathlib.Core.List.{List, [], _∷_, _++_, map}
 use mathlib.Core.Option.{Option, none, some}
+use lib.ListN.{replicate}
 use Rattle.names.specs.Bytes.{bytes}
 use Rattle.timestamp.specs.declared.Moment.{Moment}
 use Rattle.tree_report.specs.Report.{Text, Duration, Pair, NonSuccessKind, failure, error, flaky, rerun, TestRerun, Reason, TestCaseStatus, success, nonSuccess, skipped, TestCase, TestSuite, Report}
@@ -208,3 +210,17 @@ unplain =
     ∷ statused (nonSuccess failure noReason flaky [])
     ∷ statused (nonSuccess error fullReason flaky [])
     ∷ [])))))))
+
+-- ---- at the limits: cases without fields, runs without fields of one case, a suite's name of so many bytes
+unfoldable pub manyCases : ℕ → Report
+manyCases n = ofSuite (ofCases (replicate n (ofStatus (success []))))
+
+unfoldable pub manyRuns : ℕ → Report
+manyRuns n = statused (success (replicate n (bareRun failure)))
+
+abbrev pub suiteNamed : Text → TestSuite
+suiteNamed n =
+    record { name = n; counts = noCounts; timestamp = none; time = none; cases = []; properties = []; systemOut = none; systemErr = none; extra = [] }
+
+unfoldable pub longName : ℕ → Report
+longName n = ofSuite (suiteNamed (replicate n 0x6E))
