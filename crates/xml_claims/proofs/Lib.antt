@@ -6,4 +6,5 @@ pub mod Exact
 pub mod MiscStar
 pub mod Before
 pub mod Verdicts
+pub mod Placed
 pub mod Tokenizing

@@ -24,6 +24,7 @@ use Rattle.xml_claims.proofs.Exact.{doctype-told, exact-accepted, exact
 use Rattle.xml_claims.proofs.Verdicts.{document-told, bad-told, two-before}
 use Rattle.xml_claims.proofs.Before.{bad-due, doctype-due}
 use Rattle.xml_claims.proofs.MiscStar.{misc-star}
+use Rattle.xml_claims.proofs.Placed.{table-placed, records-begin, fewest}
 
 room-words : (words : ℕ) → roomOf words * 5 ≤ words
 unfolding roomOf
@@ -225,6 +226,7 @@ pub tokenizing : Tokenizing
 tokenizing = record {
   accepts = λ s e a n m. accepts s e a n m;
   resolves = λ s e a n m h w. table-right s e a n m h w;
+  placed = λ s e a n m h w. table-placed s e a n m h w;
   passes = λ s e a n m h. table-good s e a n m h;
   zeroEvents = λ s e a n m h. zero-events s e a n m h;
   zeroAttributes = λ s e a n m h. zero-attributes s e a n m h;
@@ -232,6 +234,8 @@ tokenizing = record {
   numbers = λ s e a k q h. numbers s e a k q h;
   eleven = λ s e a q. eleven s e a q;
   sixteen = λ s e a q. sixteen-due s e a q;
+  begins = λ p t w. records-begin p t w;
+  fewest = λ p t w. fewest p t w;
   eighteen = λ s e a q. eighteen s e a q;
   nineteen = λ s e a q. nineteen s e a q;
   earlier = λ s k q d f. two-before s k q d f;

@@ -8,14 +8,17 @@
 --   documentOf, tableEvents (crate xml_grammar: Events)                 the events of a derivation, resolved
 --   WellFormed, FirstBad, Doctype (crate xml_grammar: Documents)        bytes that are a document, the first bad byte, `<!DOCTYPE`
 --   checkOf, resolve (crate table: Table, Event)                        refusal 11 of a table; a table's events with bytes and attributes
+--   eventWords, attributeWords (crate xml_places: Places)               the words of a derivation's table, with the place of each byte run
 --   Result, roomOf, tokens (crate xml_machine: Tokens)                  what the call answers and leaves in its areas: the promise of the call
---   dueIn (crate xml_tokens: Due), due, openRun (Tokens), step (Machine)  the records that are due in some bytes: believed for refusal 16 alone,
---                                                                       and there only for sources that aren't documents
+--   dueIn (crate xml_tokens: Due), due, openRun (Tokens), step (Machine)  the records that are due in some bytes
+--   Begun (crate xml_places: Begun)                                     records that begin with those that are due
+-- `dueIn` stands in refusal 16 alone, for sources that aren't documents. Which records are due there the grammar says, by `begins`; believed
+-- of it is only how soon they are: that none comes due later than at the last byte of what it tells of.
 --
 -- `tokens` takes the lengths of both areas and not what these held before: no claim depends on old contents.
 use Prim.Native.Nat.{ℕ, _+_, _-_, _*_, _≤_, _<_}
 use mathlib.Core.Path.{_≡_}
-use mathlib.Core.List.{List}
+use mathlib.Core.List.{List, _++_}
 use mathlib.Core.Logic.{_⊎_, _↔_}
 use lib.ListN.{length, take, drop, replicate}
 use Rattle.refusal.specs.Refusal.{nowhere}
@@ -27,6 +30,8 @@ use Rattle.xml_grammar.specs.Grammar.{Miscs}
 use Rattle.xml_grammar.specs.Documents.{WellFormed, eventsOf, FirstBad, Doctype}
 use Rattle.xml_machine.specs.Tokens.{Answer, done-with, refused, roomOf, tokens}
 use Rattle.xml_tokens.specs.Due.{dueIn, eventsDue, attributesDue, attributesIn}
+use Rattle.xml_places.specs.Places.{eventsPlaced, attributesPlaced, eventWords, attributeWords}
+use Rattle.xml_places.specs.Begun.{Begun}
 use Rattle.xml_claims.specs.MiscStar.{MiscStar}
 
 -- ---- what the claims speak of
@@ -68,6 +73,8 @@ pub record Tokenizing : Type 0 where
   pub accepts : (s : List ℕ) (e a n m : ℕ) → (answerTo s e a ≡ done-with n m) ↔ ((length s ≤ mostBytes) × Fits s e a × Documented s n m)
   -- A. The table of an accepted document resolves to the events of its derivation, whichever is taken.
   pub resolves : (s : List ℕ) (e a n m : ℕ) → answerTo s e a ≡ done-with n m → (w : WellFormed s) → resolve (eventTable s e a n) (attributeTable s e a m) s ≡ eventsOf w
+  -- A. Its words are those of the derivation: kinds, places and lengths, first attributes and their numbers; marks, keys and values (rules N3, N4).
+  pub placed : (s : List ℕ) (e a n m : ℕ) → answerTo s e a ≡ done-with n m → (w : WellFormed s) → (eventTable s e a n ≡ eventWords w) × (attributeTable s e a m ≡ attributeWords w)
   -- A. It passes refusal 11.
   pub passes : (s : List ℕ) (e a n m : ℕ) → answerTo s e a ≡ done-with n m → checkOf (eventTable s e a n) (attributeTable s e a m) s ≡ Good
   -- A. Behind it both areas are zero.
@@ -80,6 +87,11 @@ pub record Tokenizing : Type 0 where
   pub eleven : (s : List ℕ) (e a q : ℕ) → (answerTo s e a ≡ refused 11 q) ↔ ((mostBytes < length s) × (q ≡ nowhere))
   -- B. 16 comes exactly where a record that is due before the byte of 18 or 19, or in a document at all, no longer fits (rule N9).
   pub sixteen : (s : List ℕ) (e a q : ℕ) → (answerTo s e a ≡ refused 16 q) ↔ ((length s ≤ mostBytes) × Overflows s e a × (q ≡ nowhere))
+  -- B. What is due in some bytes, be they those before the byte of 18 or 19, begins the records of every document that begins with these bytes;
+  -- but for a run of text that is broken off, which is the beginning of a Text there.
+  pub begins : (p t : List ℕ) (w : WellFormed (p ++ t)) → Begun (dueIn p) (eventsPlaced w) (attributesPlaced w)
+  -- B. So where 16 comes before the byte of 18 or 19, no document that begins with the bytes before it fits either.
+  pub fewest : (p t : List ℕ) (w : WellFormed (p ++ t)) → (length (eventsDue (dueIn p)) ≤ length (eventsOf w)) × (length (attributesDue (dueIn p)) ≤ attributesIn (eventsOf w))
   -- B. 18 comes exactly with the first byte that no document of any length has behind the bytes before it, or with the length where only
   -- more is missing (rule N6).
   pub eighteen : (s : List ℕ) (e a q : ℕ) → (answerTo s e a ≡ refused 18 q) ↔ ((length s ≤ mostBytes) × Fits s e a × FirstBad s q × NoDoctype s)

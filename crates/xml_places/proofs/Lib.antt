@@ -6,3 +6,4 @@ pub mod Tags
 pub mod Elements
 pub mod Documents
 pub mod Placed
+pub mod Broken

@@ -30,7 +30,7 @@ takes-long (takes e h) = omega arith
 pub name-long : {v : State} {ns : List (List ℕ)} → Begins v ns → {n : List ℕ} → Name n → 0 < size n
 name-long o i = takes-long (name-here o i)
 
-unless-some : (a n : ℕ) → 0 < n → unless0 a n ≡ a
+pub unless-some : (a n : ℕ) → 0 < n → unless0 a n ≡ a
 unless-some a zero l = absurd (omega arith)
 unless-some a (suc n) l = ap (λ (z : Bool). cond z 0 a) (eqb·suc-zero n)
 
