@@ -33,8 +33,6 @@ use Rattle.write_moment.specs.Written as moment
 use Rattle.write_uuid.specs.Written as uuid
 use Rattle.write_report.specs.Written as write
 use Rattle.write_table.specs.Laid as laid
-use Rattle.public_cases.specs.Cases as public
-use Rattle.public_cases.proofs.Cases.{proved-cases as public-cases}
 use Rattle.round_elements.specs.Plain as plain
 use Rattle.round_cases.specs.Conditions.{withinLimits, conditions}
 use Rattle.round_cases.proofs.Apart.{apart}
@@ -76,7 +74,3 @@ proved-cases =
     one-lost refl refl refl refl (apart refl) (
     one-lost refl refl refl refl (apart refl) (
     no-case))))))))))))
-
--- the cases that the rules name, and these
-pub all-proved-cases : public.All public.cases × All cases
-all-proved-cases = (public-cases, proved-cases)

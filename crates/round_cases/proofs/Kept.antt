@@ -35,10 +35,11 @@ use Rattle.write_report.specs.Written as write
 use Rattle.write_table.specs.Laid as laid
 use Rattle.round_elements.specs.Plain as plain
 use Rattle.public_cases.specs.Cases as public
+use Rattle.public_cases.proofs.Cases.{proved-cases as public-cases}
 use Rattle.tree_report.specs.Report.{Report}
 use Rattle.round_cases.specs.Cases.{All, no-case, one-kept, cases}
-use Rattle.round_cases.specs.Kept.{keptCases, unplain}
-use Rattle.round_cases.proofs.Cases.{all-proved-cases}
+use Rattle.round_cases.specs.Kept.{keptCases, plainKeys, unplain}
+use Rattle.round_cases.proofs.Cases.{proved-cases}
 
 pub kept-cases : All keptCases
 unfolding utf8.need utf8.low utf8.high chars.encode codeFrom sameBytes keys tags
@@ -85,9 +86,20 @@ kept-cases =
     one-kept refl refl refl (
     one-kept refl refl refl (
     one-kept refl refl refl (
-    no-case))))))))))))))))))))))))))
+    one-kept refl refl refl (
+    no-case)))))))))))))))))))))))))))
+
+pub keys-plain : encode.every (λ (r : Report). plain.sound r && plain.plain r) plainKeys ≡ true
+unfolding utf8.need utf8.low utf8.high sameBytes digits.digit digits.places digits.decimal encode.fitsRow escape.written
+    write.serializeProperties write.serializeOutputs write.serializeElements write.serializeTestCase write.serializeTestSuite write.declaration write.serializeReport
+    write.numbered write.written laid.itemsOf laid.eventWords laid.attributeWords laid.laidBytes laid.laidOut plain.plain plain.sound
+keys-plain = refl
 
 -- sound, but not plain
 pub none-plain : encode.every (λ (r : Report). plain.sound r && not (plain.plain r)) unplain ≡ true
 unfolding utf8.need utf8.low utf8.high sameBytes isLeap monthLength stamp.inRange encode.fitsRow plain.plain plain.sound
 none-plain = refl
+
+-- the cases that the rules name, and these
+pub all-proved-cases : public.All public.cases × All cases × All keptCases
+all-proved-cases = (public-cases, proved-cases, kept-cases)

@@ -172,7 +172,8 @@ full =
     }
 
 -- ---- the table, with a case for each condition but the last: a report over the limits is too long to be computed. It isn't lost in
--- `deserialize`, which knows no limits, but in the calls: writing refuses it (16), and reading refuses a table of its events (11)
+-- `deserialize`, which knows no limits, but in the calls: writing refuses it (16), and reading refuses a table of its events (11).
+-- What a plain report may have is in Kept.antt, and the limits' border in proofs/Limits.antt
 abbrev pub cases : List Case
 cases =
     kept full

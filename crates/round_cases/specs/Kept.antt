@@ -56,6 +56,10 @@ ofSuite s = ofSuites (s ∷ [])
 abbrev pub ofCase : TestCase → Report
 ofCase c = ofSuite (ofCases (c ∷ []))
 
+abbrev pub suiteNamed : Text → TestSuite
+suiteNamed n =
+    record { name = n; counts = noCounts; timestamp = none; time = none; cases = []; properties = []; systemOut = none; systemErr = none; extra = [] }
+
 abbrev pub statused : TestCaseStatus → Report
 statused s = ofCase (ofStatus s)
 
@@ -94,7 +98,7 @@ keyed ks = map (λ (k : Text). record { key = k; value = bytes "v" }) ks
 
 abbrev pub otherKeys : List Text
 otherKeys =
-    bytes "" ∷ bytes "k" ∷ bytes "kk" ∷ bytes "l" ∷ bytes "Name" ∷ bytes "nam" ∷ bytes "names" ∷ bytes "times"
+    bytes "" ∷ bytes "k" ∷ bytes "K" ∷ bytes "kk" ∷ bytes "l" ∷ bytes "Name" ∷ bytes "nam" ∷ bytes "names" ∷ bytes "times"
     ∷ bytes "uuid" ∷ bytes "message" ∷ bytes "type" ∷ bytes "value" ∷ bytes "id" ∷ bytes "%" ∷ bytes "'" ∷ bytes "#amp;" ∷ []
 
 abbrev pub keysOnSuite : List Text → Report
@@ -144,10 +148,19 @@ keptCases =
     -- times and timestamps, the least and the greatest
     ∷ kept (at (some (record { seconds = 0; nanos = 0 })) (some (newYear 0)))
     ∷ kept (at (some (record { seconds = 8388607; nanos = 999000000 })) (some (newYear 999000000)))
+    -- names, which are no gathered texts
+    ∷ kept (ofSuites (suiteNamed [] ∷ suiteNamed (bytes " s ") ∷ []))
     -- extras
-    ∷ kept (keysOnSuite (bytes "classname" ∷ bytes "assertions" ∷ otherKeys))
-    ∷ kept (keysOnCase (bytes "tests" ∷ bytes "skipped" ∷ bytes "errors" ∷ bytes "failures" ∷ bytes "disabled" ∷ otherKeys))
+    ∷ kept (keysOnSuite (bytes "classname" ∷ bytes "" ∷ bytes "k" ∷ []))
+    ∷ kept (keysOnCase (bytes "tests" ∷ bytes "'" ∷ bytes "K" ∷ bytes "k" ∷ []))
     ∷ kept oneKey
+    ∷ []
+
+-- ---- plain, with many keys
+abbrev pub plainKeys : List Report
+plainKeys =
+    keysOnSuite (bytes "classname" ∷ bytes "assertions" ∷ otherKeys)
+    ∷ keysOnCase (bytes "tests" ∷ bytes "skipped" ∷ bytes "errors" ∷ bytes "failures" ∷ bytes "disabled" ∷ otherKeys)
     ∷ []
 
 -- ---- one thing at each place where it may stand
@@ -217,10 +230,6 @@ manyCases n = ofSuite (ofCases (replicate n (ofStatus (success []))))
 
 unfoldable pub manyRuns : ℕ → Report
 manyRuns n = statused (success (replicate n (bareRun failure)))
-
-abbrev pub suiteNamed : Text → TestSuite
-suiteNamed n =
-    record { name = n; counts = noCounts; timestamp = none; time = none; cases = []; properties = []; systemOut = none; systemErr = none; extra = [] }
 
 unfoldable pub longName : ℕ → Report
 longName n = ofSuite (suiteNamed (replicate n 0x6E))
