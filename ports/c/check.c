@@ -467,6 +467,7 @@ static void areas(void)
 {
     struct table t = { small_events, small_attributes, small_source, 35, 10, sizeof small_source - 1, 0 }, none = { 0 };
     const char line[] = "refused 14 at testsuites/testsuite[0](\"l\")/system-out: the area for gathering text is too short (event 3)\n";
+    const char most[] = "refused 14 at testsuites/testsuite[0]/system-out: a gathered text is longer than 16777216 bytes (event 3)\n";
     kerzhoma_refusal r;
     kerzhoma_explained e;
     uint8_t *out = room(200);
@@ -490,15 +491,17 @@ static void areas(void)
            && r.event == 3 && r.attribute == KERZHOMA_NONE && zero(r.path + 9, 36), "where scratch is too short");
     for (size_t n = 0; n < sizeof line; n++) {
         uint8_t *exact = room(n);
-        e = kerzhoma_explain(r, OF(t), exact, n);
+        e = kerzhoma_explain(r, 1, OF(t), exact, n);
         if (n < sizeof line - 1)
             expect(e.length == 0 && e.refusal.number == KERZHOMA_REFUSED_OUTPUT && zero(exact, n), "too short for the line");
         else
             expect(e.length == n && e.refusal.number == 0 && memcmp(exact, line, n) == 0, "the line");
         free(exact);
     }
+    e = kerzhoma_explain(r, KERZHOMA_MOST_BYTES, OF(none), out, 200);
+    expect(e.refusal.number == 0 && memcmp(out, most, sizeof most) == 0, "scratch of the limit's size");
     memset(&r, 0xff, sizeof r);
-    e = kerzhoma_explain(r, OF(t), out, 200);
+    e = kerzhoma_explain(r, 0, OF(t), out, 200);
     expect(e.refusal.number == 0 && memcmp(out, "refused 11 at ?/?/?/?/?/?: ", 27) == 0, "a made-up refusal");
     free(out);
 
@@ -508,7 +511,7 @@ static void areas(void)
     expect(kerzhoma_list(NULL, 0, NULL, 0, NULL, 0).refusal.number == KERZHOMA_REFUSED_LAYOUT, "no report to list");
     expect(kerzhoma_write(NULL, 0, NULL, 0, NULL, 0, NULL, 0, NULL, 0).refusal.number == KERZHOMA_REFUSED_LAYOUT, "no report to write");
     expect(kerzhoma_public_listing(OF(none), NULL, 0, NULL, 0, NULL, 0, NULL, 0) == 0, "no public listing");
-    expect(kerzhoma_explain(r, OF(none), NULL, 0).refusal.number == KERZHOMA_REFUSED_OUTPUT, "no line");
+    expect(kerzhoma_explain(r, 0, OF(none), NULL, 0).refusal.number == KERZHOMA_REFUSED_OUTPUT, "no line");
     out = room(10);
     expect(kerzhoma_public_listing(OF(none), NULL, 0, NULL, 0, NULL, 0, out, 10) == 10 && memcmp(out, "(refused)\n", 10) == 0, "(refused)");
     free(out);
@@ -540,10 +543,10 @@ static kerzhoma_tokenized tokenize(const char *s, size_t n, size_t most_events, 
     return t;
 }
 
-static bool says(const char *s, kerzhoma_tokenized t, const char *line)
+static bool says(const char *s, kerzhoma_tokenized t, size_t events, size_t attributes, const char *line)
 {
     uint8_t out[256];
-    size_t n = kerzhoma_explain_xml((const uint8_t *)s, strlen(s), t.number, t.byte, out, sizeof out);
+    size_t n = kerzhoma_explain_xml((const uint8_t *)s, strlen(s), t.number, t.byte, events, attributes, out, sizeof out);
     return n == strlen(line) && memcmp(out, line, n) == 0 && zero(out + n, sizeof out - n);
 }
 
@@ -561,13 +564,19 @@ static void documents(void)
     }
     t = tokenize("<a>\n</b>", 8, 50, 5);
     expect(t.number == 18 && t.byte == 6, "an end tag of another name");
-    expect(says("<a>\n</b>", t, "refused 18 at byte 6, line 2, column 3: from this byte on the document is not well-formed XML\n"), "its line");
+    expect(says("<a>\n</b>", t, 50, 5, "refused 18 at byte 6, line 2, column 3: from this byte on the document is not well-formed XML\n"), "its line");
     t = tokenize("<!DOCTYPE a><a/>", 16, 50, 5);
     expect(t.number == 19 && t.byte == 0, "a document type declaration");
-    expect(says("<!DOCTYPE a><a/>", t, "refused 19 at byte 0, line 1, column 1: a document type declaration is not taken\n"), "its line");
+    expect(says("<!DOCTYPE a><a/>", t, 50, 5, "refused 19 at byte 0, line 1, column 1: a document type declaration is not taken\n"), "its line");
+    t = tokenize("<a/>", 4, 5, 0);
+    expect(t.number == KERZHOMA_REFUSED_OUTPUT && t.byte == KERZHOMA_NONE, "no room for the end");
+    expect(says("<a/>", t, 5, 0, "refused 16: the area for events or attributes is too short\n"), "an area that is too short");
+    expect(says("<a/>", t, 327680, 327679, "refused 16: the area for attributes is too short, or the document has more than 65536 events\n"), "more events");
+    expect(says("<a/>", t, 327679, 327680, "refused 16: the area for events is too short, or the document has more than 65536 attributes\n"), "more attributes");
+    expect(says("<a/>", t, 327680, 327680, "refused 16: the document has more than 65536 events or attributes\n"), "above the limits");
     t = kerzhoma_tokenize(NULL, 0, NULL, 0, NULL, 0);
     expect(t.number == 18 && t.byte == 0, "no document");
-    expect(kerzhoma_explain_xml(NULL, 0, 18, 0, NULL, 0) == 0, "no room for the line");
+    expect(kerzhoma_explain_xml(NULL, 0, 18, 0, 0, 0, NULL, 0) == 0, "no room for the line");
 
     uint32_t *events = room(220), *attributes = room(160), *words = room(4096);
     uint8_t *text = room(64), *scratch = room(64), *out = room(256);

@@ -138,13 +138,19 @@ static void longer(struct areas *a)
     a->out = room(a->out_length *= 2);
 }
 
+/* How long the area was that a table was read into and that was too short. */
+static size_t lent(kerzhoma_refusal why)
+{
+    return why.number == KERZHOMA_REFUSED_RECORDS ? RECORDS : KERZHOMA_MOST_BYTES;
+}
+
 static void explain(const char *name, kerzhoma_refusal why, const struct table *t, struct areas *a)
 {
     kerzhoma_explained e;
 
     for (;;) {
-        e = kerzhoma_explain(why, t->events, t->events_length, t->attributes, t->attributes_length, t->source, t->source_length,
-                             a->out, a->out_length);
+        e = kerzhoma_explain(why, lent(why), t->events, t->events_length, t->attributes, t->attributes_length, t->source,
+                             t->source_length, a->out, a->out_length);
         if (e.refusal.number != KERZHOMA_REFUSED_OUTPUT)
             break;
         longer(a);

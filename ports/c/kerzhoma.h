@@ -161,10 +161,12 @@ kerzhoma_tokenized kerzhoma_tokenize(
 
 /* Puts a line that says why and where a document wasn't tokenized at the front of `out`, and zeros behind it; a newline ends it:
  * `refused 18 at byte 12, line 2, column 5: ..`. Returns its length, or 0 where it doesn't fit; then `out` is zero. 256 bytes are enough.
- * The line holds no text of the document. */
+ * `events` and `attributes` are the lengths in words that kerzhoma_tokenize was lent for them: from 5 * 65,536 on the line of 16 says
+ * that the document has more than the limits allow, and below that an area is too short. The line holds no text of the document. */
 size_t kerzhoma_explain_xml(
     const uint8_t *source, size_t source_length,
     uint32_t number, uint32_t byte,
+    size_t events, size_t attributes,
     uint8_t *out, size_t out_length);
 
 /* ---- reading ---- */
@@ -188,14 +190,18 @@ bool kerzhoma_is_layout(
 
 /* Puts a line that says why and where a table was refused at the front of `out`, and zeros behind it; a newline ends it. `length` is 0
  * where it doesn't fit (16); 4,096 bytes are enough but for very long names. The line may hold a suite's or case's name, so it isn't for
- * the public. Ask only where the number isn't 0: a cause that is none counts as KERZHOMA_CAUSE_BAD_TABLE. */
+ * the public. Ask only where the number isn't 0: a cause that is none counts as KERZHOMA_CAUSE_BAD_TABLE.
+ * `lent` is the length of the area that was too short: with 12 the words of `records`, with 13 and 14 the bytes of `text` and `scratch`,
+ * with 16 the bytes of `out`, and in writing those of `bytes`, or KERZHOMA_MOST_BYTES where `events` or `attributes` is as long as the
+ * limits. From the limits' size on a longer area doesn't help, and the line says what is above the limits. With any other number `lent`
+ * doesn't count. */
 typedef struct kerzhoma_explained {
     size_t length;
     kerzhoma_refusal refusal;
 } kerzhoma_explained;
 
 kerzhoma_explained kerzhoma_explain(
-    kerzhoma_refusal refusal,
+    kerzhoma_refusal refusal, size_t lent,
     const uint32_t *events, size_t events_length,
     const uint32_t *attributes, size_t attributes_length,
     const uint8_t *source, size_t source_length,

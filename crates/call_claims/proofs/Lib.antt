@@ -8,4 +8,5 @@ pub mod ReadCall
 pub mod ListCalls
 pub mod XmlCall
 pub mod Demand1
+pub mod Limits
 mod Examples

@@ -50,19 +50,19 @@ list-ends words text output =
     ends-leaving (within-layout (layout words text) (placing cause.OutputFull output (listingOf words text)) refl (within-placing refl output (listingOf words text)))
     (out-zero (listingAnswer words text output) output (listingOf words text))
 
-pub explain-ends : (t : Table) (r : Refusal) (output : ℕ)
-    → Ends (Late (16 ∷ [])) (explanationIn (t .events) (t .attributes) (t .source) r output ≡ zeros output) (explained (t .events) (t .attributes) (t .source) r output)
+pub explain-ends : (t : Table) (r : Refusal) (lent output : ℕ)
+    → Ends (Late (16 ∷ [])) (explanationIn (t .events) (t .attributes) (t .source) r lent output ≡ zeros output) (explained (t .events) (t .attributes) (t .source) r lent output)
 unfolding explanationIn lineAnswer
-explain-ends t r output =
-    ends-leaving (within-placing refl output (lineOf (t .events) (t .attributes) (t .source) r))
-    (out-zero (lineAnswer (t .events) (t .attributes) (t .source) r output) output (lineOf (t .events) (t .attributes) (t .source) r))
+explain-ends t r lent output =
+    ends-leaving (within-placing refl output (lineOf (t .events) (t .attributes) (t .source) r lent))
+    (out-zero (lineAnswer (t .events) (t .attributes) (t .source) r lent output) output (lineOf (t .events) (t .attributes) (t .source) r lent))
 
-pub explain-xml-ends : (source : List ℕ) (number byte output : ℕ)
-    → Ends (Late (16 ∷ [])) (xmlExplanationIn source number byte output ≡ zeros output) (outcomeOf (xmlLineAnswer source number byte output))
+pub explain-xml-ends : (source : List ℕ) (number byte events attributes output : ℕ)
+    → Ends (Late (16 ∷ [])) (xmlExplanationIn source number byte events attributes output ≡ zeros output) (outcomeOf (xmlLineAnswer source number byte events attributes output))
 unfolding xmlExplanationIn xmlLineAnswer
-explain-xml-ends source number byte output =
-    let f = xmlLine source number byte in
-    ends-leaving (within-placing refl output f) (out-zero (xmlLineAnswer source number byte output) output f)
+explain-xml-ends source number byte events attributes output =
+    let f = xmlLine source number byte events attributes in
+    ends-leaving (within-placing refl output f) (out-zero (xmlLineAnswer source number byte events attributes output) output f)
 
 -- a time, cleared where it doesn't fit
 pub time-text-ends : (out : List ℕ) (seconds nanos : ℕ)

@@ -292,12 +292,13 @@ pub record Demand1 : Type 0 where
   pub listXmlOutput : (d : Document) (a : Areas) (n k : ℕ) → tokensOf d .answer ≡ token.done-with n k → answerTo (tableOf d n k) a ≡ accepted tt
       → Ends (Late (16 ∷ [])) (documentListing d a ≡ refusedText) (listed (documentAreas d a .words) (documentAreas d a .text) (a .output))
   -- Explaining a refusal, also one that was made up, over any table: 16; the output area is zero then.
-  pub explain : (t : Table) (r : Refusal) (output : ℕ)
-      → Ends (Late (16 ∷ [])) (explanationIn (t .events) (t .attributes) (t .source) r output ≡ zeros output)
-      (explained (t .events) (t .attributes) (t .source) r output)
+  pub explain : (t : Table) (r : Refusal) (lent output : ℕ)
+      → Ends (Late (16 ∷ [])) (explanationIn (t .events) (t .attributes) (t .source) r lent output ≡ zeros output)
+      (explained (t .events) (t .attributes) (t .source) r lent output)
   -- Explaining a refusal of tokenizing, also one that was made up: 16; the output area is zero then (rule N14).
-  pub explainXml : (source : List ℕ) (number byte output : ℕ)
-      → Ends (Late (16 ∷ [])) (xmlExplanationIn source number byte output ≡ zeros output) (outcomeOf (xmlLineAnswer source number byte output))
+  pub explainXml : (source : List ℕ) (number byte events attributes output : ℕ)
+      → Ends (Late (16 ∷ [])) (xmlExplanationIn source number byte events attributes output ≡ zeros output)
+      (outcomeOf (xmlLineAnswer source number byte events attributes output))
   -- A time's text from C: 16; the area is zero then.
   pub timeText : (out : List ℕ) (seconds nanos : ℕ)
       → Ends (Late (16 ∷ [])) (whole out (writtenTime seconds nanos) ≡ zeros (length out))

@@ -25,12 +25,12 @@ from-start out f =
     let y : 0 + length f ≡ length f = omega arith in
     rw (z, y) refl
 
-module _ (events attributes source : List ℕ) (r : Refusal) (n : ℕ) where
+module _ (events attributes source : List ℕ) (r : Refusal) (lent n : ℕ) where
   abbrev f : List ℕ
-  f = lineOf events attributes source r
+  f = lineOf events attributes source r lent
 
   abbrev answer : Answer ℕ
-  answer = lineAnswer events attributes source r n
+  answer = lineAnswer events attributes source r lent n
 
   module _ {out : List ℕ} {t : Filled} (z : out ≡ zeros n) (p : Puts (filled (Put 0) out) f t) where
     left-behind : t ≡ (answer, laid (zeros n) f)
@@ -41,7 +41,8 @@ module _ (events attributes source : List ℕ) (r : Refusal) (n : ℕ) where
 
   -- the line was put
   pub whole-line : {out out′ : List ℕ} {m : ℕ} {q : Refusal} → q ≡ noRefusal → out ≡ zeros n → Puts (filled (Put 0) out) f (filled (Put m) out′)
-      → (_≡_ {A = Explained} (record { verdict = Accepted; length = m; refusal = q }) (explainedFrom (explained events attributes source r n))) × (out′ ≡ explanationIn events attributes source r n)
+      → (_≡_ {A = Explained} (record { verdict = Accepted; length = m; refusal = q }) (explainedFrom (explained events attributes source r lent n)))
+      × (out′ ≡ explanationIn events attributes source r lent n)
   unfolding explanationIn
   whole-line {out} {out′} {m} {q} e z p =
       let l = left-behind z p in
@@ -53,7 +54,7 @@ module _ (events attributes source : List ℕ) (r : Refusal) (n : ℕ) where
 
   -- it didn't fit
   pub short-line : {out out′ out″ : List ℕ} {x : Explained} → x ≡ explainedFrom (refused (late cause.OutputFull)) → out ≡ zeros n → Puts (filled (Put 0) out) f (filled Full out′) → out″ ≡ zeros n
-      → (x ≡ explainedFrom (explained events attributes source r n)) × (out″ ≡ explanationIn events attributes source r n)
+      → (x ≡ explainedFrom (explained events attributes source r lent n)) × (out″ ≡ explanationIn events attributes source r lent n)
   unfolding explanationIn
   short-line e z p y =
       let l = left-behind z p in

@@ -32,8 +32,9 @@ fn put_line(
     attributes: &[u32],
     source: &[u8],
     refusal: Refusal,
+    lent: usize,
 ) -> Stored
-    ensures { λ r. ⌜ Puts (filled (Put 0) (now (out .entry))) (lineOf (now (events .entry)) (now (attributes .entry)) (now (source .entry)) refusal) (filled r (now (out .exit))) ⌝ }
+    ensures { λ r. ⌜ Puts (filled (Put 0) (now (out .entry))) (lineOf (now (events .entry)) (now (attributes .entry)) (now (source .entry)) refusal lent) (filled r (now (out .exit))) ⌝ }
 {
     let cause = refusal.cause;
     let path = refusal.path;
@@ -41,7 +42,7 @@ fn put_line(
     let number = put_decimal(out, opened, number_of(cause) as u64);
     let place = put_path(out, number, events, attributes, source, path);
     let colon = put(out, place, b": ");
-    let sentence = put_sentence(out, colon, cause);
+    let sentence = put_sentence(out, colon, cause, lent);
     let table = put_place(out, sentence, refusal.event, refusal.attribute);
     put(out, table, b"\n")
 }
@@ -56,19 +57,21 @@ fn refuse(cause: Cause) -> Explained
     }
 }
 
-// Puts the line at the front of out, and zeros behind it; where it doesn't fit all of out becomes zero (rules E1 and E5).
+// Puts the line at the front of out, and zeros behind it; where it doesn't fit all of out becomes zero (rules E1 and E5). `lent` is the
+// length of the area that was too short, with 12 in words, with 13, 14 and 16 in bytes (rule E6); else it doesn't count.
 pub fn explain(
     refusal: Refusal,
+    lent: usize,
     events: &[u32],
     attributes: &[u32],
     source: &[u8],
     out: &mut [u8],
 ) -> Explained
-    ensures { λ r. ⌜ r ≡ explainedFrom (explained (now (events .entry)) (now (attributes .entry)) (now (source .entry)) refusal (length (now (out .entry)))) ⌝ }
-    ensures { λ r. ⌜ now (out .exit) ≡ explanationIn (now (events .entry)) (now (attributes .entry)) (now (source .entry)) refusal (length (now (out .entry))) ⌝ }
+    ensures { λ r. ⌜ r ≡ explainedFrom (explained (now (events .entry)) (now (attributes .entry)) (now (source .entry)) refusal lent (length (now (out .entry)))) ⌝ }
+    ensures { λ r. ⌜ now (out .exit) ≡ explanationIn (now (events .entry)) (now (attributes .entry)) (now (source .entry)) refusal lent (length (now (out .entry))) ⌝ }
 {
     area::clear(out);
-    let put = put_line(out, events, attributes, source, refusal);
+    let put = put_line(out, events, attributes, source, refusal, lent);
     let Stored::Put(length) = put else {
         area::clear(out);
         return refuse(Cause::OutputFull);

@@ -1,12 +1,13 @@
 // The sentence of a cause, put behind what the output area holds.
 use area::Stored;
+use area::limit;
 use explain_lines::line_in;
 use list_text::put;
 use refusal::Cause;
 ghost use mathlib.Core.Path.{_≡_};
 ghost use Rattle.list_text.specs.inside.Behind.{filled, Puts};
 ghost use Rattle.explain_text.specs.Sentences.{sentence};
-ghost use Rattle.explain_sentence.specs.inside.Place.{placeOf};
+ghost use Rattle.explain_sentence.specs.inside.Place.{placeOf, placeBy};
 
 // The line of a cause's sentence in the table below.
 fn place_of(cause: Cause) -> usize
@@ -38,9 +39,28 @@ fn place_of(cause: Cause) -> usize
     }
 }
 
-// By rule E1.
-pub fn put_sentence(out: &mut [u8], k: Stored, cause: Cause) -> Stored
-    ensures { λ r. ⌜ Puts (filled k (now (out .entry))) (sentence cause) (filled r (now (out .exit))) ⌝ }
+// Another sentence stands for an area that is too short from the limits' size on.
+fn place_by(place: usize, lent: usize) -> usize
+    ensures { λ r. ⌜ r ≡ placeBy place lent ⌝ }
+{
+    if (place == 16) & (lent >= limit::WORDS) {
+        return 22;
+    }
+    if (place == 17) & (lent >= limit::BYTES) {
+        return 23;
+    }
+    if (place == 18) & (lent >= limit::BYTES) {
+        return 24;
+    }
+    if (place == 20) & (lent >= limit::BYTES) {
+        return 25;
+    }
+    place
+}
+
+// By rules E1 and E6.
+pub fn put_sentence(out: &mut [u8], k: Stored, cause: Cause, lent: usize) -> Stored
+    ensures { λ r. ⌜ Puts (filled k (now (out .entry))) (sentence cause lent) (filled r (now (out .exit))) ⌝ }
 {
     let sentences = b"the XML is broken here\n\
         the report ends inside an element that is passed over\n\
@@ -63,6 +83,10 @@ pub fn put_sentence(out: &mut [u8], k: Stored, cause: Cause) -> Stored
         the area for gathering text is too short\n\
         the areas hold no report that this call fits\n\
         the area for output is too short\n\
-        a count would pass 18446744073709551615";
-    put(out, k, line_in(sentences, place_of(cause)))
+        a count would pass 18446744073709551615\n\
+        the report has more than 65536 records\n\
+        the report's texts are longer than 16777216 bytes\n\
+        a gathered text is longer than 16777216 bytes\n\
+        an area for output is too short, or the table has more than 65536 events, 65536 attributes or 16777216 bytes";
+    put(out, k, line_in(sentences, place_by(place_of(cause), lent)))
 }

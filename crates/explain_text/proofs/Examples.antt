@@ -48,25 +48,25 @@ events =
 abbrev attributes : List ℕ
 attributes = (0 ∷ 27 ∷ 4 ∷ 31 ∷ 3 ∷ []) ++ (zeros 150 ++ (0 ∷ 34 ∷ 4 ∷ 38 ∷ 1 ∷ []))
 
-bad-time : lineOf events attributes source (refusal cause.BadTime (root ∷ element 2 0 1 ∷ element 3 3 nowhere ∷ element 16 5 nowhere ∷ []) 12 31)
+bad-time : lineOf events attributes source (refusal cause.BadTime (root ∷ element 2 0 1 ∷ element 3 3 nowhere ∷ element 16 5 nowhere ∷ []) 12 31) 0
     ≡ bytes "refused 5 at testsuites/testsuite[0](\"lab\")/testcase[3]/@time: a time must be digits with at most nine behind the point, under 8388608 seconds (event 12, attribute 31)\n"
 unfolding lineOf pathText elementsText elementText kindNames attributeNames keys indexText nameAt eventAt
     eventOf attributesFrom sameBytes need low high letter listed placeText sentence digit places decimal
 bad-time = refl
 
 -- ---- no events at all: an empty path
-no-report : lineOf [] [] [] (refusal cause.MissingReport [] 0 nowhere) ≡ bytes "refused 8: the report ends before a testsuites element begins (event 0)\n"
+no-report : lineOf [] [] [] (refusal cause.MissingReport [] 0 nowhere) 0 ≡ bytes "refused 8: the report ends before a testsuites element begins (event 0)\n"
 unfolding lineOf pathText elementsText placeText sentence digit places decimal
 no-report = refl
 
 -- ---- a suite before it is named
-unnamed : lineOf events attributes source (refusal cause.MissingAttribute (root ∷ element 2 0 nowhere ∷ element 16 1 nowhere ∷ []) 1 nowhere)
+unnamed : lineOf events attributes source (refusal cause.MissingAttribute (root ∷ element 2 0 nowhere ∷ element 16 1 nowhere ∷ []) 1 nowhere) 0
     ≡ bytes "refused 7 at testsuites/testsuite[0]/@name: this attribute is missing (event 1)\n"
 unfolding lineOf pathText elementsText elementText kindNames attributeNames keys indexText nameAt placeText sentence digit places decimal
 unnamed = refl
 
 -- ---- 4294967295 for both
-nowhere-at-all : lineOf [] [] [] (refusalFrom (late cause.OutputFull)) ≡ bytes "refused 16: the area for output is too short\n"
+nowhere-at-all : lineOf [] [] [] (refusalFrom (late cause.OutputFull)) 0 ≡ bytes "refused 16: the area for output is too short\n"
 unfolding lineOf pathText elementsText placeText sentence digit places decimal
 nowhere-at-all = refl
 
@@ -92,7 +92,7 @@ no-value = (refl, refl)
 
 -- ---- what no refusal of reading holds
 -- kinds and attributes that aren't there
-unknown : lineOf [] [] [] (refusal cause.XmlFault (element 0 0 0 ∷ element 13 0 0 ∷ element 17 5 0 ∷ element 16 0 0 ∷ element 16 16 0 ∷ []) 4 nowhere)
+unknown : lineOf [] [] [] (refusal cause.XmlFault (element 0 0 0 ∷ element 13 0 0 ∷ element 17 5 0 ∷ element 16 0 0 ∷ element 16 16 0 ∷ []) 4 nowhere) 0
     ≡ bytes "refused 1 at ?/?/?/@?/@?: the XML is broken here (event 4)\n"
 unfolding lineOf pathText elementsText elementText kindNames attributeNames keys indexText placeText sentence digit places decimal
 unknown = refl
@@ -103,17 +103,36 @@ unfolding elementText kindNames indexText nameAt eventAt eventOf digit places de
 no-event = (refl, refl)
 
 -- a path of nine elements is one of six, and an attribute without an event isn't shown
-nine : lineOf [] [] [] (record { cause = cause.NotUtf8; path = record { elements = root ∷ root ∷ root ∷ root ∷ root ∷ element 5 2 0 ∷ []; len = 9 }; event = nowhere; attribute = 3 })
+nine : lineOf [] [] [] (record { cause = cause.NotUtf8; path = record { elements = root ∷ root ∷ root ∷ root ∷ root ∷ element 5 2 0 ∷ []; len = 9 }; event = nowhere; attribute = 3 }) 0
     ≡ bytes "refused 2 at testsuites/testsuites/testsuites/testsuites/testsuites/property[2]: the text is not UTF-8\n"
 unfolding lineOf pathText elementsText elementText kindNames indexText placeText sentence digit places decimal
 nine = refl
 
 -- ---- the area: the line has 45 bytes, of which one is the newline
-fits : (explained [] [] [] (refusalFrom (late cause.OutputFull)) 45 ≡ accepted 45)
-    × (explanationIn [] [] [] (refusalFrom (late cause.OutputFull)) 46 ≡ bytes "refused 16: the area for output is too short\n" ++ (0 ∷ []))
+fits : (explained [] [] [] (refusalFrom (late cause.OutputFull)) 0 45 ≡ accepted 45)
+    × (explanationIn [] [] [] (refusalFrom (late cause.OutputFull)) 0 46 ≡ bytes "refused 16: the area for output is too short\n" ++ (0 ∷ []))
 unfolding explanationIn lineAnswer lineOf pathText elementsText placeText sentence digit places decimal
 fits = (refl, refl)
 
-too-short : (explained [] [] [] (refusalFrom (late cause.OutputFull)) 44 ≡ refused (late cause.OutputFull)) × (explanationIn [] [] [] (refusalFrom (late cause.OutputFull)) 44 ≡ zeros 44)
+too-short : (explained [] [] [] (refusalFrom (late cause.OutputFull)) 0 44 ≡ refused (late cause.OutputFull)) × (explanationIn [] [] [] (refusalFrom (late cause.OutputFull)) 0 44 ≡ zeros 44)
 unfolding explanationIn lineAnswer lineOf pathText elementsText placeText sentence digit places decimal
 too-short = (refl, refl)
+
+-- ---- areas of nearly the limits' size, and of the limits' size (rule E6)
+most-records : (sentence cause.RecordsSpent 2097151 ≡ bytes "the area for records is too short") × (sentence cause.RecordsSpent 2097152 ≡ bytes "the report has more than 65536 records")
+unfolding sentence
+most-records = (refl, refl)
+
+most-text : (sentence cause.TextFull 16777215 ≡ bytes "the area for texts is too short") × (sentence cause.TextFull 16777216 ≡ bytes "the report's texts are longer than 16777216 bytes")
+unfolding sentence
+most-text = (refl, refl)
+
+most-scratch : (sentence cause.ScratchFull 16777215 ≡ bytes "the area for gathering text is too short")
+    × (sentence cause.ScratchFull 16777216 ≡ bytes "a gathered text is longer than 16777216 bytes")
+unfolding sentence
+most-scratch = (refl, refl)
+
+most-output : (sentence cause.OutputFull 16777215 ≡ bytes "the area for output is too short")
+    × (sentence cause.OutputFull 16777216 ≡ bytes "an area for output is too short, or the table has more than 65536 events, 65536 attributes or 16777216 bytes")
+unfolding sentence
+most-output = (refl, refl)

@@ -6,7 +6,7 @@ use mathlib.Core.Bool.{Bool, true, false, cond, not, _&&_, and-eq-true-iff}
 use mathlib.Core.Option.{Option, none, some}
 use native.Mathlib.Omega.{arith}
 use borrow.Author.Tests.{ne-eqb, not-true}
-use lib.Dec.{eqb}
+use lib.Dec.{leb, eqb}
 use lib.ListN.{length}
 use Rattle.refusal.specs.Refusal.{nowhere, number}
 use Rattle.refusal.specs.declared.Cause.{Cause}
@@ -15,6 +15,7 @@ use Rattle.refusal.specs.declared.Cause.the-variants.{UnknownEntity, FaultyAttr
 use Rattle.refusal.specs.declared.PathElement.{PathElement}
 use Rattle.refusal.specs.declared.Refusal.{Refusal}
 use Rattle.area.specs.Area.{firstAt}
+use Rattle.area.specs.Limits.{mostWords, mostBytes}
 use Rattle.names.specs.Bytes.{bytes}
 use Rattle.names.specs.Keys.{keys}
 use Rattle.digits.specs.Digits.{lastDigits, places, decimal}
@@ -83,30 +84,34 @@ flat-escaped : (s : List ℕ) → flat (escaped s) ≡ true
 flat-escaped [] = refl
 flat-escaped (b ∷ s) = join (listed b) (escaped s) (flat-listed b) (flat-escaped s)
 
-flat-sentence : (c : Cause) → flat (sentence c) ≡ true
+flat-within : (b : Bool) (s t : List ℕ) → flat s ≡ true → flat t ≡ true → flat (cond b t s) ≡ true
+flat-within true s t p q = q
+flat-within false s t p q = p
+
+flat-sentence : (c : Cause) (lent : ℕ) → flat (sentence c lent) ≡ true
 unfolding sentence
-flat-sentence XmlFault = refl
-flat-sentence EofInSkip = refl
-flat-sentence NotUtf8 = refl
-flat-sentence BadInteger = refl
-flat-sentence BadTimestamp = refl
-flat-sentence BadTime = refl
-flat-sentence BadUuid = refl
-flat-sentence MissingAttribute = refl
-flat-sentence MissingReport = refl
-flat-sentence EofInElement = refl
-flat-sentence StatusRule = refl
-flat-sentence UnknownEntity = refl
-flat-sentence FaultyAttribute = refl
-flat-sentence RepeatedKey = refl
-flat-sentence BadReference = refl
-flat-sentence BadTable = refl
-flat-sentence RecordsSpent = refl
-flat-sentence TextFull = refl
-flat-sentence ScratchFull = refl
-flat-sentence NotLayout = refl
-flat-sentence OutputFull = refl
-flat-sentence CountLimit = refl
+flat-sentence XmlFault lent = refl
+flat-sentence EofInSkip lent = refl
+flat-sentence NotUtf8 lent = refl
+flat-sentence BadInteger lent = refl
+flat-sentence BadTimestamp lent = refl
+flat-sentence BadTime lent = refl
+flat-sentence BadUuid lent = refl
+flat-sentence MissingAttribute lent = refl
+flat-sentence MissingReport lent = refl
+flat-sentence EofInElement lent = refl
+flat-sentence StatusRule lent = refl
+flat-sentence UnknownEntity lent = refl
+flat-sentence FaultyAttribute lent = refl
+flat-sentence RepeatedKey lent = refl
+flat-sentence BadReference lent = refl
+flat-sentence BadTable lent = refl
+flat-sentence RecordsSpent lent = flat-within (leb mostWords lent) _ _ refl refl
+flat-sentence TextFull lent = flat-within (leb mostBytes lent) _ _ refl refl
+flat-sentence ScratchFull lent = flat-within (leb mostBytes lent) _ _ refl refl
+flat-sentence NotLayout lent = refl
+flat-sentence OutputFull lent = flat-within (leb mostBytes lent) _ _ refl refl
+flat-sentence CountLimit lent = refl
 
 abbrev allFlat : List (List ℕ) → Bool
 allFlat [] = true
@@ -158,14 +163,14 @@ module _ (events attributes source : List ℕ) where
       join mark (elementText events attributes source e ++ elementsText events attributes source (bytes "/") es) p
       (join (elementText events attributes source e) (elementsText events attributes source (bytes "/") es) (flat-element e) (flat-elements (bytes "/") es refl))
 
-  pub one-line : (r : Refusal) → suc (firstAt 10 (lineOf events attributes source r)) ≡ length (lineOf events attributes source r)
+  pub one-line : (r : Refusal) (lent : ℕ) → suc (firstAt 10 (lineOf events attributes source r lent)) ≡ length (lineOf events attributes source r lent)
   unfolding lineOf pathText
-  one-line r =
+  one-line r lent =
       let path = pathText events attributes source (r .path) in
-      let said = sentence (r .cause) ++ (placeText (r .event) (r .attribute) ++ bytes "\n") in
+      let said = sentence (r .cause) lent ++ (placeText (r .event) (r .attribute) ++ bytes "\n") in
       before (bytes "refused ") (decimal (number (r .cause)) ++ (path ++ (bytes ": " ++ said))) refl
       (before (decimal (number (r .cause))) (path ++ (bytes ": " ++ said)) (flat-decimal (number (r .cause)))
       (before path (bytes ": " ++ said) (flat-elements (bytes " at ") (elementsOf (r .path)) refl)
       (before (bytes ": ") said refl
-      (before (sentence (r .cause)) (placeText (r .event) (r .attribute) ++ bytes "\n") (flat-sentence (r .cause))
+      (before (sentence (r .cause) lent) (placeText (r .event) (r .attribute) ++ bytes "\n") (flat-sentence (r .cause) lent)
       (before (placeText (r .event) (r .attribute)) (bytes "\n") (flat-place (r .event) (r .attribute)) refl)))))

@@ -134,20 +134,20 @@ module _ (events attributes source : List ℕ) where
   unfoldable pub pathText : Path → List ℕ
   pathText p = elementsText (bytes " at ") (elementsOf p)
 
-  -- ---- the line (rule E1)
-  unfoldable pub lineOf : Refusal → List ℕ
-  lineOf r =
+  -- ---- the line (rule E1); of an area that was too short so many words or bytes were lent (rule E6)
+  unfoldable pub lineOf : Refusal → (lent : ℕ) → List ℕ
+  lineOf r lent =
       bytes "refused "
-      ++ (decimal (number (r .cause)) ++ (pathText (r .path) ++ (bytes ": " ++ (sentence (r .cause) ++ (placeText (r .event) (r .attribute) ++ bytes "\n")))))
+      ++ (decimal (number (r .cause)) ++ (pathText (r .path) ++ (bytes ": " ++ (sentence (r .cause) lent ++ (placeText (r .event) (r .attribute) ++ bytes "\n")))))
 
   -- how many bytes the line has, or 16: an area of n bytes is too short (rule E5)
-  unfoldable pub lineAnswer : Refusal → ℕ → Answer ℕ
-  lineAnswer r n = placing cause.OutputFull n (lineOf r)
+  unfoldable pub lineAnswer : Refusal → (lent n : ℕ) → Answer ℕ
+  lineAnswer r lent n = placing cause.OutputFull n (lineOf r lent)
 
   -- the same with all that a refusal carries
-  abbrev pub explained : Refusal → ℕ → Outcome ℕ
-  explained r n = outcomeOf (lineAnswer r n)
+  abbrev pub explained : Refusal → (lent n : ℕ) → Outcome ℕ
+  explained r lent n = outcomeOf (lineAnswer r lent n)
 
   -- the area afterwards: the line with zeros behind it, or zeros (rule E5)
-  unfoldable pub explanationIn : Refusal → ℕ → List ℕ
-  explanationIn r n = outputFor (lineAnswer r n) n (lineOf r)
+  unfoldable pub explanationIn : Refusal → (lent n : ℕ) → List ℕ
+  explanationIn r lent n = outputFor (lineAnswer r lent n) n (lineOf r lent)

@@ -21,12 +21,12 @@ from-start out f =
     let y : 0 + length f ≡ length f = omega arith in
     rw (z, y) refl
 
-module _ (source : List ℕ) (number byte n : ℕ) where
+module _ (source : List ℕ) (number byte events attributes n : ℕ) where
   abbrev f : List ℕ
-  f = xmlLine source number byte
+  f = xmlLine source number byte events attributes
 
   abbrev answer : Answer ℕ
-  answer = xmlLineAnswer source number byte n
+  answer = xmlLineAnswer source number byte events attributes n
 
   module _ {out : List ℕ} {t : Filled} (z : out ≡ zeros n) (p : Puts (filled (Put 0) out) f t) where
     left-behind : t ≡ (answer, laid (zeros n) f)
@@ -40,14 +40,14 @@ module _ (source : List ℕ) (number byte n : ℕ) where
     answered = ap (λ (x : Filled). x .0) (left-behind z p)
 
     -- the line was put
-    pub whole-line : {m : ℕ} → k ≡ Put m → (storedAnswer cause.OutputFull k ≡ answer) × (out′ ≡ xmlExplanationIn source number byte n)
+    pub whole-line : {m : ℕ} → k ≡ Put m → (storedAnswer cause.OutputFull k ≡ answer) × (out′ ≡ xmlExplanationIn source number byte events attributes n)
     unfolding xmlExplanationIn
     whole-line {m} e =
         let a : gives m ≡ answer = sym (ap (storedAnswer cause.OutputFull) e) ∙ answered in
         (answered, ap (λ (x : Filled). x .1) (left-behind z p) ∙ ap (λ (x : Answer ℕ). outputFor x n f) a)
 
     -- it didn't fit
-    pub short-line : {out″ : List ℕ} → k ≡ Full → out″ ≡ zeros n → (storedAnswer cause.OutputFull k ≡ answer) × (out″ ≡ xmlExplanationIn source number byte n)
+    pub short-line : {out″ : List ℕ} → k ≡ Full → out″ ≡ zeros n → (storedAnswer cause.OutputFull k ≡ answer) × (out″ ≡ xmlExplanationIn source number byte events attributes n)
     unfolding xmlExplanationIn
     short-line e y =
         let a : refuses cause.OutputFull ≡ answer = sym (ap (storedAnswer cause.OutputFull) e) ∙ answered in

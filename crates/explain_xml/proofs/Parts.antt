@@ -10,7 +10,7 @@ use Rattle.refusal.specs.Refusal.{nowhere}
 use Rattle.names.specs.Bytes.{bytes}
 use Rattle.digits.specs.Digits.{decimal}
 use Rattle.explain_spot.specs.Spots.{lineBehind, columnBehind}
-use Rattle.explain_xml.specs.XmlExplanation.{spotText, xmlSentence, xmlLine}
+use Rattle.explain_xml.specs.XmlExplanation.{holdsMost, spotText, xmlSentence, xmlLine}
 
 module _ (source : List ℕ) (byte : ℕ) where
   pub no-spot : byte ≡ nowhere → [] ≡ spotText source byte
@@ -24,7 +24,8 @@ module _ (source : List ℕ) (byte : ℕ) where
       let t : s ≡ take byte source = e ∙ ap (λ (n : ℕ). take n source) a in
       sym (rw (ne-eqb byte nowhere h) (rw (l, c, t) refl))
 
-  pub line-parts : (number at : ℕ) → at ≡ byte
-      → bytes "refused " ++ (decimal number ++ (spotText source byte ++ (bytes ": " ++ (xmlSentence number (leb (length source) at) ++ bytes "\n")))) ≡ xmlLine source number byte
+  pub line-parts : (number at events attributes : ℕ) {many-events many-attributes : Bool} → at ≡ byte → many-events ≡ holdsMost events → many-attributes ≡ holdsMost attributes
+      → bytes "refused " ++ (decimal number ++ (spotText source byte ++ (bytes ": " ++ (xmlSentence number (leb (length source) at) many-events many-attributes ++ bytes "\n"))))
+      ≡ xmlLine source number byte events attributes
   unfolding xmlLine
-  line-parts number at e = ap (λ (n : ℕ). bytes "refused " ++ (decimal number ++ (spotText source byte ++ (bytes ": " ++ (xmlSentence number (leb (length source) n) ++ bytes "\n"))))) e
+  line-parts number at events attributes e f g = rw (e, f, g) refl

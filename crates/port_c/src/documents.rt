@@ -69,18 +69,20 @@ pub extern "C" fn kerzhoma_list_xml(
     xml_call::list_xml(source, events, attributes, records, text, scratch, out)
 }
 
-// How many bytes the line has; 0 where it doesn't fit.
+// How many bytes the line has; 0 where it doesn't fit. `events` and `attributes` are the words that tokenizing was lent.
 #[no_mangle]
 pub extern "C" fn kerzhoma_explain_xml(
     source: &[u8],
     number: u32,
     byte: u32,
+    events: usize,
+    attributes: usize,
     out: &mut [u8],
 ) -> usize
-    ensures { λ r. ⌜ r ≡ count (xmlLineAnswer (now (source .entry)) number byte (length (now (out .entry)))) ⌝ }
-    ensures { λ _. ⌜ now (out .exit) ≡ xmlExplanationIn (now (source .entry)) number byte (length (now (out .entry))) ⌝ }
+    ensures { λ r. ⌜ r ≡ count (xmlLineAnswer (now (source .entry)) number byte events attributes (length (now (out .entry)))) ⌝ }
+    ensures { λ _. ⌜ now (out .exit) ≡ xmlExplanationIn (now (source .entry)) number byte events attributes (length (now (out .entry))) ⌝ }
 {
-    let stored = explain_xml::explain_xml(source, number, byte, out);
+    let stored = explain_xml::explain_xml(source, number, byte, events, attributes, out);
     match stored {
         Stored::Put(n) => n,
         Stored::Full => 0,

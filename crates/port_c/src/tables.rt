@@ -131,19 +131,20 @@ pub extern "C" fn kerzhoma_write(
     }
 }
 
-// The refusal may be made up.
+// The refusal may be made up. `lent` is the length of the area that was too short.
 #[no_mangle]
 pub extern "C" fn kerzhoma_explain(
     refusal: KRefusal,
+    lent: usize,
     events: &[u32],
     attributes: &[u32],
     source: &[u8],
     out: &mut [u8],
 ) -> KExplained
-    ensures { λ r. ⌜ r ≡ explainedPort (explained (now (events .entry)) (now (attributes .entry)) (now (source .entry)) (plainRefusal refusal) (length (now (out .entry)))) ⌝ }
-    ensures { λ _. ⌜ now (out .exit) ≡ explanationIn (now (events .entry)) (now (attributes .entry)) (now (source .entry)) (plainRefusal refusal) (length (now (out .entry))) ⌝ }
+    ensures { λ r. ⌜ r ≡ explainedPort (explained (now (events .entry)) (now (attributes .entry)) (now (source .entry)) (plainRefusal refusal) lent (length (now (out .entry)))) ⌝ }
+    ensures { λ _. ⌜ now (out .exit) ≡ explanationIn (now (events .entry)) (now (attributes .entry)) (now (source .entry)) (plainRefusal refusal) lent (length (now (out .entry))) ⌝ }
 {
-    let answer = explain::explain(to_refusal(refusal), events, attributes, source, out);
+    let answer = explain::explain(to_refusal(refusal), lent, events, attributes, source, out);
     let verdict = answer.verdict;
     let why = answer.refusal;
     KExplained {

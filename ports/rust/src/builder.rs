@@ -1,6 +1,7 @@
 //! Reports made from nothing, forward through the areas.
 #![forbid(unsafe_code)]
 
+use crate::refusal::Lent;
 use crate::{sys, Areas, FlakyOrRerun, NonSuccessKind, Outcome, Refusal, Timestamp, Tree};
 use std::time::Duration;
 
@@ -77,6 +78,10 @@ pub struct ReportBuilder<'a> {
     at: sys::Builder,
 }
 
+fn lent(areas: &Areas) -> Lent {
+    Lent { records: areas.records.len(), text: areas.text.len(), ..Lent::default() }
+}
+
 impl<'a> ReportBuilder<'a> {
     pub fn new(areas: &'a mut Areas, name: &str) -> Result<Self, Refusal> {
         let built = sys::new_report(&mut areas.records, &mut areas.text, name.as_bytes());
@@ -90,7 +95,7 @@ impl<'a> ReportBuilder<'a> {
     }
 
     fn begun(areas: &'a mut Areas, built: sys::Built) -> Result<Self, Refusal> {
-        Refusal::result(built.refusal)?;
+        Refusal::result(built.refusal, lent(areas))?;
         Ok(ReportBuilder { areas, at: built.builder })
     }
 
@@ -98,7 +103,7 @@ impl<'a> ReportBuilder<'a> {
     fn step(&mut self, call: impl FnOnce(sys::Builder, &mut [u32], &mut [u8]) -> sys::Built) -> Result<(), Refusal> {
         let built = call(self.at, &mut self.areas.records, &mut self.areas.text);
         self.at = built.builder;
-        Refusal::result(built.refusal)
+        Refusal::result(built.refusal, lent(self.areas))
     }
 
     fn put_text(&mut self, element: u32, field: u32, s: &str) -> Result<(), Refusal> {

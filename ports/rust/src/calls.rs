@@ -2,6 +2,7 @@
 #![forbid(unsafe_code)]
 
 use crate::limits::{self, ENTRY};
+use crate::refusal::Lent;
 use crate::table::LINE;
 use crate::{sys, Areas, Refusal, Table, TableBuf, Tree};
 
@@ -24,7 +25,8 @@ use crate::{sys, Areas, Refusal, Table, TableBuf, Tree};
 /// ```
 pub fn read<'a>(table: &Table<'_>, areas: &'a mut Areas) -> Result<Tree<'a>, Refusal> {
     let Areas { records, text, scratch } = areas;
-    Refusal::result(sys::read(table.events, table.attributes, table.source, records, text, scratch))?;
+    let lent = Lent { records: records.len(), text: text.len(), scratch: scratch.len(), out: 0 };
+    Refusal::result(sys::read(table.events, table.attributes, table.source, records, text, scratch), lent)?;
     Tree::over(records, text)
 }
 
@@ -61,7 +63,7 @@ pub fn list(tree: &Tree<'_>) -> Result<String, Refusal> {
 /// 16 where the area is too short; all of it is zero then.
 pub fn list_into(tree: &Tree<'_>, out: &mut [u8]) -> Result<usize, Refusal> {
     let listing = sys::list(tree.records(), tree.text().as_bytes(), out);
-    Refusal::result(listing.refusal)?;
+    Refusal::result(listing.refusal, Lent { out: out.len(), ..Lent::default() })?;
     Ok(listing.length)
 }
 
@@ -140,7 +142,10 @@ pub fn write_into<'o>(
     tree: &Tree<'_>, events: &'o mut [u32], attributes: &'o mut [u32], bytes: &'o mut [u8],
 ) -> Result<Table<'o>, Refusal> {
     let writing = sys::write(tree.records(), tree.text().as_bytes(), events, attributes, bytes);
-    Refusal::result(writing.refusal)?;
+    // where one of them is as long as the limits, these may be too short
+    let most = events.len() >= limits::EVENTS * ENTRY || attributes.len() >= limits::ATTRIBUTES * ENTRY;
+    let out = if most { limits::BYTES } else { bytes.len() };
+    Refusal::result(writing.refusal, Lent { out, ..Lent::default() })?;
     let front = |n: usize, len: usize| n.min(len);
     let (m, n) = (front(writing.events * ENTRY, events.len()), front(writing.attributes * ENTRY, attributes.len()));
     let k = front(writing.bytes, bytes.len());
@@ -171,7 +176,7 @@ pub fn explain(refusal: &Refusal, table: &Table<'_>) -> String {
     let mut size = 4096;
     loop {
         let mut out = vec![0; size];
-        let explained = sys::explain(refusal.told(), table.events, table.attributes, table.source, &mut out);
+        let explained = sys::explain(refusal.told(), refusal.lent(), table.events, table.attributes, table.source, &mut out);
         if explained.refusal.number == 0 {
             return text_of(out, explained.length);
         }

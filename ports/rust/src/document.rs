@@ -13,6 +13,9 @@ use std::{error, fmt};
 pub struct XmlRefusal {
     number: u32,
     byte: u32,
+    // how many words events and attributes were lent
+    events: usize,
+    attributes: usize,
 }
 
 impl XmlRefusal {
@@ -57,7 +60,9 @@ impl error::Error for XmlRefusal {}
 /// ```
 pub fn tokenize(source: &[u8]) -> Result<TableBuf, XmlRefusal> {
     let (mut events, mut attributes) = entries(source);
-    let table = tokenize_into(source, &mut events, &mut attributes)?;
+    // both areas are as long as the document can need, so that 16 comes only where the limits are too short
+    let above = |refusal| XmlRefusal { events: limits::EVENTS * ENTRY, attributes: limits::ATTRIBUTES * ENTRY, ..refusal };
+    let table = tokenize_into(source, &mut events, &mut attributes).map_err(above)?;
     let (m, n) = (table.events.len(), table.attributes.len());
     events.truncate(m);
     attributes.truncate(n);
@@ -84,14 +89,15 @@ pub fn tokenize_into<'o>(
 ) -> Result<Table<'o>, XmlRefusal> {
     let told = sys::tokenize(source, events, attributes);
     if told.number != 0 {
-        return Err(XmlRefusal { number: told.number, byte: told.byte });
+        return Err(XmlRefusal { number: told.number, byte: told.byte, events: events.len(), attributes: attributes.len() });
     }
     let words = |n: u32, len: usize| (n as usize * ENTRY).min(len);
     let (m, n) = (words(told.events, events.len()), words(told.attributes, attributes.len()));
     Ok(Table::new(&events[..m], &attributes[..n], source))
 }
 
-/// A document's refusal in words: one line with byte, line and column, ended by a newline. It holds no text of the document.
+/// A document's refusal in words: one line with byte, line and column, ended by a newline. It holds no text of the document. That of 16
+/// says whether an area was too short or the document has more events or attributes than the limits allow.
 ///
 /// ```
 /// use kerzhoma::{explain_xml, tokenize};
@@ -105,7 +111,7 @@ pub fn tokenize_into<'o>(
 /// ```
 pub fn explain_xml(refusal: &XmlRefusal, source: &[u8]) -> String {
     let mut out = [0; 256];
-    let length = sys::explain_xml(source, refusal.number, refusal.byte, &mut out);
+    let length = sys::explain_xml(source, refusal.number, refusal.byte, refusal.events, refusal.attributes, &mut out);
     String::from_utf8_lossy(out.get(..length).unwrap_or_default()).into_owned()
 }
 

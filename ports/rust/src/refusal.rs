@@ -215,20 +215,43 @@ impl fmt::Display for PathElement {
 pub struct Refusal {
     told: sys::Refusal,
     cause: Cause,
+    // how long the area was that was too short, if one was
+    lent: usize,
+}
+
+/// How long the areas of a call were: words of records, bytes of text, scratch and output.
+#[derive(Clone, Copy, Default)]
+pub(crate) struct Lent {
+    pub records: usize,
+    pub text: usize,
+    pub scratch: usize,
+    pub out: usize,
+}
+
+impl Lent {
+    fn short(self, number: u32) -> usize {
+        match number {
+            12 => self.records,
+            13 => self.text,
+            14 => self.scratch,
+            16 => self.out,
+            _ => 0,
+        }
+    }
 }
 
 impl Refusal {
     /// None where the call accepts.
-    pub(crate) fn of(told: sys::Refusal) -> Option<Self> {
+    pub(crate) fn of(told: sys::Refusal, lent: Lent) -> Option<Self> {
         if told.number == 0 {
             return None;
         }
         let row = (told.cause as usize).checked_sub(1).and_then(|i| CAUSES.get(i));
-        Some(Refusal { told, cause: row.map_or(Cause::BadTable, |r| r.0) })
+        Some(Refusal { told, cause: row.map_or(Cause::BadTable, |r| r.0), lent: lent.short(told.number) })
     }
 
-    pub(crate) fn result(told: sys::Refusal) -> Result<(), Self> {
-        match Self::of(told) {
+    pub(crate) fn result(told: sys::Refusal, lent: Lent) -> Result<(), Self> {
+        match Self::of(told, lent) {
             Some(refusal) => Err(refusal),
             None => Ok(()),
         }
@@ -244,11 +267,15 @@ impl Refusal {
             event: NOWHERE,
             attribute: NOWHERE,
         };
-        Refusal { told, cause }
+        Refusal { told, cause, lent: 0 }
     }
 
     pub(crate) fn told(&self) -> sys::Refusal {
         self.told
+    }
+
+    pub(crate) fn lent(&self) -> usize {
+        self.lent
     }
 
     /// 1 to 17, 20 or 21, by docs/REFUSALS.md.
@@ -292,7 +319,7 @@ impl fmt::Display for Refusal {
     /// The line of [`explain`](crate::explain) for a table without events, which has no names, and without its newline.
     fn fmt(&self, f: &mut fmt::Formatter<'_>) -> fmt::Result {
         let mut out = [0; 1024];
-        let explained = sys::explain(self.told, &[], &[], &[], &mut out);
+        let explained = sys::explain(self.told, self.lent, &[], &[], &[], &mut out);
         let line = String::from_utf8_lossy(out.get(..explained.length).unwrap_or_default());
         f.write_str(line.trim_end())
     }

@@ -125,7 +125,8 @@ extern "C" {
         out_len: usize,
     ) -> usize;
     fn kerzhoma_explain_xml(
-        source: *const u8, source_len: usize, number: u32, byte: u32, out: *mut u8, out_len: usize,
+        source: *const u8, source_len: usize, number: u32, byte: u32, events: usize, attributes: usize, out: *mut u8,
+        out_len: usize,
     ) -> usize;
     fn kerzhoma_read(
         events: *const u32, events_len: usize, attributes: *const u32, attributes_len: usize, source: *const u8, source_len: usize,
@@ -145,8 +146,8 @@ extern "C" {
         attributes: *mut u32, attributes_len: usize, bytes: *mut u8, bytes_len: usize,
     ) -> Writing;
     fn kerzhoma_explain(
-        refusal: Refusal, events: *const u32, events_len: usize, attributes: *const u32, attributes_len: usize, source: *const u8,
-        source_len: usize, out: *mut u8, out_len: usize,
+        refusal: Refusal, lent: usize, events: *const u32, events_len: usize, attributes: *const u32, attributes_len: usize,
+        source: *const u8, source_len: usize, out: *mut u8, out_len: usize,
     ) -> Explained;
     fn kerzhoma_time_text(out: *mut u8, out_len: usize, seconds: u32, nanos: u32) -> usize;
     fn kerzhoma_add_case(counts: Counts, outcome: u32) -> Counted;
@@ -237,8 +238,8 @@ pub fn list_xml(
     }
 }
 
-pub fn explain_xml(source: &[u8], number: u32, byte: u32, out: &mut [u8]) -> usize {
-    unsafe { kerzhoma_explain_xml(source.as_ptr(), source.len(), number, byte, out.as_mut_ptr(), out.len()) }
+pub fn explain_xml(source: &[u8], number: u32, byte: u32, events: usize, attributes: usize, out: &mut [u8]) -> usize {
+    unsafe { kerzhoma_explain_xml(source.as_ptr(), source.len(), number, byte, events, attributes, out.as_mut_ptr(), out.len()) }
 }
 
 pub fn read(
@@ -310,10 +311,11 @@ pub fn write(records: &[u32], text: &[u8], events: &mut [u32], attributes: &mut 
     }
 }
 
-pub fn explain(refusal: Refusal, events: &[u32], attributes: &[u32], source: &[u8], out: &mut [u8]) -> Explained {
+pub fn explain(refusal: Refusal, lent: usize, events: &[u32], attributes: &[u32], source: &[u8], out: &mut [u8]) -> Explained {
     unsafe {
         kerzhoma_explain(
             refusal,
+            lent,
             events.as_ptr(),
             events.len(),
             attributes.as_ptr(),

@@ -1,6 +1,7 @@
 //! Small values: counts, timestamps, statuses.
 #![forbid(unsafe_code)]
 
+use crate::refusal::Lent;
 use crate::{sys, Refusal};
 use std::{fmt, time::Duration};
 
@@ -63,7 +64,7 @@ impl Counts {
     }
 
     fn of(counted: sys::Counted) -> Result<Self, Refusal> {
-        Refusal::result(counted.refusal)?;
+        Refusal::result(counted.refusal, Lent::default())?;
         let c = counted.counts;
         Ok(Counts {
             tests: c.tests,

@@ -312,6 +312,40 @@ fn limits_are_told_as_11() {
     assert_eq!(cause(0, 0, SOURCE + 1, &mut areas), Cause::BadTable);
 }
 
+// What the limits don't allow: the words of 12, 13 and 14 say so where a longer area wouldn't help. The last event stands there many times, with
+// the same bytes and attributes.
+#[test]
+fn above_the_limits() {
+    let said = |make: &dyn Fn(&mut TableBuilder), times: usize, mut areas: Areas| {
+        let mut builder = TableBuilder::new();
+        builder.start("testsuites");
+        builder.start("testsuite").attribute("name", "s");
+        make(&mut builder);
+        let mut table = builder.finish();
+        let last = table.events[table.events.len() - 5..].to_vec();
+        table.events.extend(last.repeat(times - 1));
+        explain(&read(&table.as_table(), &mut areas).unwrap_err(), &table.as_table())
+    };
+    use kerzhoma::limits::{BYTES, RECORDS};
+    let long = "a".repeat(1 << 20);
+    let records = |t: &mut TableBuilder| {
+        t.empty("testcase").attribute("name", "a").attribute("x", "b");
+    };
+    let text = |t: &mut TableBuilder| {
+        t.empty("testcase").attribute("name", &long);
+    };
+    let scratch = |t: &mut TableBuilder| {
+        t.start("system-out");
+        t.text(&long);
+    };
+    assert!(said(&records, 40_000, Areas::new(RECORDS - 1, 1 << 20, 0)).contains(": the area for records is too short ("));
+    assert!(said(&records, 40_000, Areas::full()).contains(": the report has more than 65536 records ("));
+    assert!(said(&text, 17, Areas::new(99, BYTES - 1, 0)).contains(": the area for texts is too short ("));
+    assert!(said(&text, 17, Areas::full()).contains(": the report's texts are longer than 16777216 bytes ("));
+    assert!(said(&scratch, 17, Areas::new(99, 99, BYTES - 1)).contains(": the area for gathering text is too short ("));
+    assert!(said(&scratch, 17, Areas::full()).contains(": a gathered text is longer than 16777216 bytes ("));
+}
+
 // Long names: the area for the line grows.
 #[test]
 fn long_names_are_explained() {

@@ -174,7 +174,7 @@ fn a_table_of_the_limits_size() {
     // written it would have more events than a table may
     let ran = run(&["write", path.to_str().unwrap(), "-o", "-"], b"");
     assert_eq!((ran.status, ran.out.len()), (1, 0));
-    assert_eq!(ran.err, "kerzhoma: refused 16: the area for output is too short\n");
+    assert_eq!(ran.err, "kerzhoma: refused 16: an area for output is too short, or the table has more than 65536 events, 65536 attributes or 16777216 bytes\n");
     fs::remove_file(path).unwrap();
 }
 
@@ -241,6 +241,12 @@ fn documents_that_are_refused() {
     long.resize(16_777_217, b' ');
     let explained = run(&["explain", "--xml", "-"], &long);
     assert_eq!((explained.status, text(&explained)), (1, "refused 11: the document is longer than 16777216 bytes\n"));
+    // an event more than the limit
+    let mut many = b"<a>".to_vec();
+    many.extend_from_slice(&b"<b/>".repeat(65_534));
+    many.extend_from_slice(b"</a>");
+    let explained = run(&["explain", "--xml", "-"], &many);
+    assert_eq!((explained.status, text(&explained)), (1, "refused 16: the document has more than 65536 events or attributes\n"));
     assert_eq!(run(&["list", "--xml", "no such file.xml"], b"").status, 2);
 }
 

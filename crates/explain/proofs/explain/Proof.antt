@@ -35,7 +35,7 @@ returns c =
     let a = c .before .before .before .before .before .before .before .before .before .before .before .before .before .before .before .before .before .before .before .args in
     let l : length (put-line .last .0) ≡ length (a .out .now) = search needs in
     let p = rw (enum-told-step .given .1) at (put-line .ensures) in
-    short-line (a .events .now) (a .attributes .now) (a .source .now) (a .refusal) (length (a .out .now))
+    short-line (a .events .now) (a .attributes .now) (a .source .now) (a .refusal) (a .lent) (length (a .out .now))
     (c .refuse .ensures) (clear .ensures) p (c .before .before .before .clear2 .ensures ∙ ap zeros l)
 
 no-refusal-requires : tie.Need-no-refusal-requires
@@ -50,7 +50,7 @@ returns-2 c =
     let put-line = c .before .before .before .before .before .before .put-line in
     let a = c .before .before .before .before .before .before .before .before .before .before .before .before .before .before .before .before .args in
     let p = rw (c .before .before .put .given .1) at (put-line .ensures) in
-    whole-line (a .events .now) (a .attributes .now) (a .source .now) (a .refusal) (length (a .out .now)) (c .no-refusal .ensures) (clear .ensures) p
+    whole-line (a .events .now) (a .attributes .now) (a .source .now) (a .refusal) (a .lent) (length (a .out .now)) (c .no-refusal .ensures) (clear .ensures) p
 
 pub explain-spec : {M : Type 1} → statement M
 explain-spec =

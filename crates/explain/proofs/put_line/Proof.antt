@@ -64,7 +64,7 @@ returns c =
     .before .before .before .before .before .before .before .before .before .before .before .before .before .before .before .before .before .before .args in
     other (more (put .ensures) (more (at-put-decimal .put-decimal .ensures)
     (more (at-put-path .put-path .ensures) (more (at-put2 .put2 .ensures) (more (put-sentence .ensures) (more (put-place .ensures) (c .before .before .put3 .ensures)))))))
-    (line-parts (a .events .now) (a .attributes .now) (a .source .now) (a .refusal) (at-number-of .number-of .ensures))
+    (line-parts (a .events .now) (a .attributes .now) (a .source .now) (a .refusal) (a .lent) (at-number-of .number-of .ensures))
 
 pub put-line-spec : {M : Type 1} → statement M
 put-line-spec =

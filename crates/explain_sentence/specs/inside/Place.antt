@@ -1,5 +1,8 @@
 -- The places of the sentences in the code's table. Definitions only.
 use Prim.Native.Nat.{ℕ}
+use mathlib.Core.Bool.{cond, _&&_}
+use lib.Dec.{leb, eqb}
+use Rattle.area.specs.Limits.{mostWords, mostBytes}
 use Rattle.refusal.specs.declared.Cause.{Cause}
 use Rattle.refusal.specs.declared.Cause.the-variants.{XmlFault, EofInSkip, NotUtf8, BadInteger, BadTimestamp, BadTime, BadUuid, MissingAttribute, MissingReport, EofInElement, StatusRule}
 use Rattle.refusal.specs.declared.Cause.the-variants.{UnknownEntity, FaultyAttribute, RepeatedKey, BadReference, BadTable, RecordsSpent, TextFull, ScratchFull, NotLayout, OutputFull, CountLimit}
@@ -27,3 +30,9 @@ placeOf ScratchFull = 18
 placeOf NotLayout = 19
 placeOf OutputFull = 20
 placeOf CountLimit = 21
+
+-- of a sentence on an area that was lent with so many words or bytes
+abbrev pub placeBy : ℕ → ℕ → ℕ
+placeBy place lent =
+    cond (eqb place 16 && leb mostWords lent) 22
+    (cond (eqb place 17 && leb mostBytes lent) 23 (cond (eqb place 18 && leb mostBytes lent) 24 (cond (eqb place 20 && leb mostBytes lent) 25 place)))

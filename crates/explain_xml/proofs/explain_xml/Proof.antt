@@ -25,13 +25,24 @@ same-length : tie.Need-same-length
 same-length c = search needs
 
 returns : tie.Need-returns
-returns c = whole-line (c .before .before .before .before .before .before .before .before .before .before .before .before .args .source .now) (c .before .before .before .before .before .before .before .before .before .before .before .before .args .number) (c .before .before .before .before .before .before .before .before .before .before .before .before .args .byte) (length (c .before .before .before .before .before .before .before .before .before .before .before .before .args .out .now)) (c .before .before .before .before .put-line .result) (c .before .before .before .before .before .before .before .before .clear .ensures) (c .before .before .before .before .put-line .ensures) (c .enum-told .given .1)
+returns c =
+    let args = c .before .before .before .before .before .before .before .before .before .before .before .before .args in
+    let clear = c .before .before .before .before .before .before .before .before .clear in
+    let put-line = c .before .before .before .before .put-line in
+    whole-line (args .source .now) (args .number) (args .byte) (args .events) (args .attributes)
+    (length (args .out .now)) (put-line .result) (clear .ensures) (put-line .ensures) (c .enum-told .given .1)
 
 same-length-2 : tie.Need-same-length-2
 same-length-2 c = search needs
 
 returns-2 : tie.Need-returns-2
-returns-2 c = short-line (c .before .before .before .before .before .before .before .before .before .before .before .before .before .before .before .before .args .source .now) (c .before .before .before .before .before .before .before .before .before .before .before .before .before .before .before .before .args .number) (c .before .before .before .before .before .before .before .before .before .before .before .before .before .before .before .before .args .byte) (length (c .before .before .before .before .before .before .before .before .before .before .before .before .before .before .before .before .args .out .now)) (c .before .before .before .before .before .before .before .before .put-line .result) (c .before .before .before .before .before .before .before .before .before .before .before .before .clear .ensures) (c .before .before .before .before .before .before .before .before .put-line .ensures) (c .before .before .before .before .enum-told2 .given .1) (c .before .before .clear2 .ensures ∙ ap zeros (c .before .before .before .before .before .before .before .before .put-line .kept .0 ∙ c .before .before .before .before .before .before .before .before .before .before .before .before .clear .kept .0))
+returns-2 c =
+    let args = c .before .before .before .before .before .before .before .before .before .before .before .before .before .before .before .before .args in
+    let clear = c .before .before .before .before .before .before .before .before .before .before .before .before .clear in
+    let put-line = c .before .before .before .before .before .before .before .before .put-line in
+    let enum-told2 = c .before .before .before .before .enum-told2 in
+    short-line (args .source .now) (args .number) (args .byte) (args .events) (args .attributes) (length (args .out .now)) (put-line .result)
+    (clear .ensures) (put-line .ensures) (enum-told2 .given .1) (c .before .before .clear2 .ensures ∙ ap zeros (put-line .kept .0 ∙ clear .kept .0))
 
 pub explain-xml-spec : {M : Type 1} → statement M
 explain-xml-spec =

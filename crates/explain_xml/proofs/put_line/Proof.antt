@@ -8,6 +8,12 @@ use Rattle.explain_xml.proofs.put_line.Tie as tie
 wide-requires : tie.Need-wide-requires
 wide-requires c κs = search needs
 
+holds-most-requires : tie.Need-holds-most-requires
+holds-most-requires c κs = search needs
+
+holds-most-requires-2 : tie.Need-holds-most-requires-2
+holds-most-requires-2 c κs = search needs
+
 slice-aggregate-put : tie.Need-slice-aggregate-put
 slice-aggregate-put c = search needs
 
@@ -36,16 +42,36 @@ put-requires-3 : tie.Need-put-requires-3
 put-requires-3 c κs = search needs
 
 same-length : tie.Need-same-length
-same-length c = c .before .before .put3 .kept .0 ∙ c .before .before .before .before .before .before .before .put-sentence .kept .0 ∙ c .before .before .before .before .before .before .before .before .before .before .before .put2 .kept .0 ∙ c .before .before .before .before .before .before .before .before .before .before .before .before .before .before .before .before .put-spot .kept .0 ∙ c .before .before .before .before .before .before .before .before .before .before .before .before .before .before .before .before .before .before .before .before .put-decimal .kept .0 ∙ c .before .before .before .before .before .before .before .before .before .before .before .before .before .before .before .before .before .before .before .before .before .before .before .before .put .kept .0
+same-length c =
+    let at-put-spot = c .before .before .before .before .before .before .before .before .before .before .before .before .before .before .before .before in
+    let at-put-decimal = at-put-spot .before .before .before .before in
+    let put = at-put-decimal .before .before .before .before .put in
+    let put2 = c .before .before .before .before .before .before .before .before .before .before .before .put2 in
+    let put-sentence = c .before .before .before .before .before .before .before .put-sentence in
+    c .before .before .put3 .kept .0 ∙ put-sentence .kept .0 ∙ put2 .kept .0 ∙ at-put-spot .put-spot .kept .0 ∙ at-put-decimal .put-decimal .kept .0 ∙ put .kept .0
 
 returns : tie.Need-returns
-returns c = other (more (c .before .before .before .before .before .before .before .before .before .before .before .before .before .before .before .before .before .before .before .before .before .before .before .before .put .ensures) (more (c .before .before .before .before .before .before .before .before .before .before .before .before .before .before .before .before .before .before .before .before .put-decimal .ensures) (more (c .before .before .before .before .before .before .before .before .before .before .before .before .before .before .before .before .put-spot .ensures) (more (c .before .before .before .before .before .before .before .before .before .before .before .put2 .ensures) (more (c .before .before .before .before .before .before .before .put-sentence .ensures) (c .before .before .put3 .ensures)))))) (line-parts (c .before .before .before .before .before .before .before .before .before .before .before .before .before .before .before .before .before .before .before .before .before .before .before .before .before .before .before .before .before .before .args .source .now) (c .before .before .before .before .before .before .before .before .before .before .before .before .before .before .before .before .before .before .before .before .before .before .before .before .before .before .before .before .before .before .args .byte) (c .before .before .before .before .before .before .before .before .before .before .before .before .before .before .before .before .before .before .before .before .before .before .before .before .before .before .before .before .before .before .args .number) (c .before .before .before .before .before .before .before .before .before .before .before .before .before .before .before .before .before .before .before .before .before .before .before .before .before .before .before .wide .result) (c .before .before .before .before .before .before .before .before .before .before .before .before .before .before .before .before .before .before .before .before .before .before .before .before .before .before .before .wide .ensures))
+returns c =
+    let at-put-spot = c .before .before .before .before .before .before .before .before .before .before .before .before .before .before .before .before in
+    let at-put-decimal = at-put-spot .before .before .before .before in
+    let at-put = at-put-decimal .before .before .before .before in
+    let at-holds-most2 = at-put .before .before .before in
+    let at-holds-most = at-holds-most2 .before in
+    let at-wide = at-holds-most .before in
+    let args = at-wide .before .before .before .args in
+    let put2 = c .before .before .before .before .before .before .before .before .before .before .before .put2 in
+    let put-sentence = c .before .before .before .before .before .before .before .put-sentence in
+    other (more (at-put .put .ensures) (more (at-put-decimal .put-decimal .ensures)
+    (more (at-put-spot .put-spot .ensures) (more (put2 .ensures) (more (put-sentence .ensures) (c .before .before .put3 .ensures)))))) (line-parts (args .source .now) (args .byte)
+    (args .number) (at-wide .wide .result) (args .events) (args .attributes) (at-wide .wide .ensures) (at-holds-most .holds-most .ensures) (at-holds-most2 .holds-most2 .ensures))
 
 pub put-line-spec : {M : Type 1} → statement M
 put-line-spec =
     tie.close
     (tie.spec
     wide-requires
+    holds-most-requires
+    holds-most-requires-2
     slice-aggregate-put
     put-requires
     put-decimal-requires

@@ -48,10 +48,31 @@ put-decimal-requires-3 : tie.Need-put-decimal-requires-3
 put-decimal-requires-3 c κs = search needs
 
 same-length : tie.Need-same-length
-same-length c = c .before .before .put-decimal3 .kept .0 ∙ c .before .before .before .before .before .before .put3 .kept .0 ∙ c .before .before .before .before .before .before .before .before .before .before .before .put-decimal2 .kept .0 ∙ c .before .before .before .before .before .before .before .before .before .before .before .before .before .before .before .put2 .kept .0 ∙ c .before .before .before .before .before .before .before .before .before .before .before .before .before .before .before .before .before .before .before .before .put-decimal .kept .0 ∙ c .before .before .before .before .before .before .before .before .before .before .before .before .before .before .before .before .before .before .before .before .before .before .before .before .put .kept .0
+same-length c =
+    let at-put2 = c .before .before .before .before .before .before .before .before .before .before .before .before .before .before .before in
+    let at-put-decimal = at-put2 .before .before .before .before .before in
+    let put = at-put-decimal .before .before .before .before .put in
+    let put-decimal2 = c .before .before .before .before .before .before .before .before .before .before .before .put-decimal2 in
+    let put3 = c .before .before .before .before .before .before .put3 in
+    c .before .before .put-decimal3 .kept .0 ∙ put3 .kept .0 ∙ put-decimal2 .kept .0 ∙ at-put2 .put2 .kept .0 ∙ at-put-decimal .put-decimal .kept .0 ∙ put .kept .0
 
 returns-2 : tie.Need-returns-2
-returns-2 c = other (more (c .before .before .before .before .before .before .before .before .before .before .before .before .before .before .before .before .before .before .before .before .before .before .before .before .put .ensures) (more (c .before .before .before .before .before .before .before .before .before .before .before .before .before .before .before .before .before .before .before .before .put-decimal .ensures) (more (c .before .before .before .before .before .before .before .before .before .before .before .before .before .before .before .put2 .ensures) (more (c .before .before .before .before .before .before .before .before .before .before .before .put-decimal2 .ensures) (more (c .before .before .before .before .before .before .put3 .ensures) (c .before .before .put-decimal3 .ensures)))))) (spot-parts (c .before .before .before .before .before .before .before .before .before .before .before .before .before .before .before .before .before .before .before .before .before .before .before .before .before .before .before .before .before .before .before .before .before .before .args .source .now) (c .before .before .before .before .before .before .before .before .before .before .before .before .before .before .before .before .before .before .before .before .before .before .before .before .before .before .before .before .before .before .before .before .before .before .args .byte) (c .before .before .before .before .before .before .before .before .before .before .before .before .before .before .before .before .before .before .before .before .before .before .before .before .before .before .before .before .before .before .before .if1 .left) (c .before .before .before .before .before .before .before .before .before .before .before .before .before .before .before .before .before .before .before .before .before .before .before .before .before .before .before .before .before .before .wide .result) (c .before .before .before .before .before .before .before .before .before .before .before .before .before .before .before .before .before .before .before .before .before .before .before .before .before .before .before .before .line-behind .result) (c .before .before .before .before .before .before .before .before .before .before .before .before .before .before .before .before .before .before .before .before .before .before .before .before .before .before .before .column-behind .result) (c .before .before .before .before .before .before .before .before .before .before .before .before .before .before .before .before .before .before .before .before .before .before .before .before .before .before .before .before .before .before2 .result .now) (c .before .before .before .before .before .before .before .before .before .before .before .before .before .before .before .before .before .before .before .before .before .before .before .before .before .before .before .before .before .before .wide .ensures) (c .before .before .before .before .before .before .before .before .before .before .before .before .before .before .before .before .before .before .before .before .before .before .before .before .before .before .before .before .before .before2 .ensures) (c .before .before .before .before .before .before .before .before .before .before .before .before .before .before .before .before .before .before .before .before .before .before .before .before .before .before .before .before .line-behind .ensures) (c .before .before .before .before .before .before .before .before .before .before .before .before .before .before .before .before .before .before .before .before .before .before .before .before .before .before .before .column-behind .ensures))
+returns-2 c =
+    let at-put2 = c .before .before .before .before .before .before .before .before .before .before .before .before .before .before .before in
+    let at-put-decimal = at-put2 .before .before .before .before .before in
+    let at-put = at-put-decimal .before .before .before .before in
+    let at-column-behind = at-put .before .before .before in
+    let at-line-behind = at-column-behind .before in
+    let at-before2 = at-line-behind .before in
+    let at-wide = at-before2 .before in
+    let at-if1 = at-wide .before in
+    let args = at-if1 .before .before .before .args in
+    let put-decimal2 = c .before .before .before .before .before .before .before .before .before .before .before .put-decimal2 in
+    let put3 = c .before .before .before .before .before .before .put3 in
+    other (more (at-put .put .ensures)
+    (more (at-put-decimal .put-decimal .ensures) (more (at-put2 .put2 .ensures) (more (put-decimal2 .ensures) (more (put3 .ensures) (c .before .before .put-decimal3 .ensures))))))
+    (spot-parts (args .source .now) (args .byte) (at-if1 .if1 .left) (at-wide .wide .result) (at-line-behind .line-behind .result) (at-column-behind .column-behind .result)
+    (at-before2 .before2 .result .now) (at-wide .wide .ensures) (at-before2 .before2 .ensures) (at-line-behind .line-behind .ensures) (at-column-behind .column-behind .ensures))
 
 pub put-spot-spec : {M : Type 1} → statement M
 put-spot-spec =

@@ -28,8 +28,8 @@ returns c =
     let n = length (a .out .now) in
     let same = c .before .before .before .before .before .before .to-refusal .ensures in (
       ap (λ (k : KRefusal). record { length = x .result .length; refusal = k }) (c .from-refusal .ensures)
-          ∙ ap portExplained (x .ensures .0 ∙ ap (λ (q : Refusal). explainedFrom (explained (a .events .now) (a .attributes .now) (a .source .now) q n)) same),
-      x .ensures .1 ∙ ap (λ (q : Refusal). explanationIn (a .events .now) (a .attributes .now) (a .source .now) q n) same,
+          ∙ ap portExplained (x .ensures .0 ∙ ap (λ (q : Refusal). explainedFrom (explained (a .events .now) (a .attributes .now) (a .source .now) q (a .lent) n)) same),
+      x .ensures .1 ∙ ap (λ (q : Refusal). explanationIn (a .events .now) (a .attributes .now) (a .source .now) q (a .lent) n) same,
     )
 
 pub kerzhoma-explain-spec : {M : Type 1} → statement M
