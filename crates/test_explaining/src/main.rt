@@ -22,12 +22,12 @@ fn say_number(n: u32) {
     say(b" ");
 }
 
-// The line, with a table of one Start whose name is `lab`.
-fn tell_line(refusal: Refusal) {
+// The line, with a table of one Start whose name is `lab`; `lent` is the length of the area that was too short.
+fn tell_line(refusal: Refusal, lent: usize) {
     let mut out = [7u8; 512];
     let events = [0u32, 0, 0, 0, 1];
     let attributes = [0u32, 0, 4, 4, 3];
-    let told = explain(refusal, &events, &attributes, b"namelab", &mut out);
+    let told = explain(refusal, lent, &events, &attributes, b"namelab", &mut out);
     say(front(&out, told.length));
 }
 
@@ -36,7 +36,7 @@ fn tell(refusal: Refusal) {
     let k = from_refusal(Verdict::Refused, refusal);
     say_number(k.cause);
     say_number(k.number);
-    tell_line(to_refusal(k));
+    tell_line(to_refusal(k), 0);
 }
 
 fn tell_cause(cause: Cause) {
@@ -72,6 +72,21 @@ fn tell_area_causes() {
     tell_cause(Cause::NotLayout);
     tell_cause(Cause::OutputFull);
     tell_cause(Cause::CountLimit);
+}
+
+// An area one short of the limit's size, and one of that size.
+fn tell_limit(cause: Cause, limit: usize)
+    requires { ⌜ 1 ≤ limit ⌝ }
+{
+    tell_line(refuse_late(cause), limit - 1);
+    tell_line(refuse_late(cause), limit);
+}
+
+fn tell_limits() {
+    tell_limit(Cause::RecordsSpent, 2097152);
+    tell_limit(Cause::TextFull, 16777216);
+    tell_limit(Cause::ScratchFull, 16777216);
+    tell_limit(Cause::OutputFull, 16777216);
 }
 
 fn element(kind: u32, index: u32, event: u32) -> PathElement {
@@ -136,4 +151,5 @@ fn main() {
     tell_attributes(12);
     tell_unnamed(3, NOWHERE);
     tell_unnamed(1, 31);
+    tell_limits();
 }

@@ -47,16 +47,16 @@ from-first {s = s} f {cs = cs} h at m e =
     let l = last-run 0 (p .to) (0 + length (documentAttributes at h)) (q .marks) in
     let es : List Rec = numbered 0 (p .events) in (
       ap (λ (z : List ℕ). eventsDue (dueFrom z s at 0 m) ++ eof) (sym b)
-      ∙ ap (λ (z : List Rec). z ++ eof) (q .goes .events [])
-      ∙ append-assoc es _ eof
-      ∙ ap (λ (z : List Rec). es ++ z) (l .0)
-      ∙ ap (λ (z : ℕ). es ++ (runAt z (p .to) ++ eof)) (q .marked)
-      ∙ sym (numbered-end (p .events) (p .mark) (p .to))
-      ∙ ap (numbered 0) (p .all),
+          ∙ ap (λ (z : List Rec). z ++ eof) (q .goes .events [])
+          ∙ append-assoc es _ eof
+          ∙ ap (λ (z : List Rec). es ++ z) (l .0)
+          ∙ ap (λ (z : ℕ). es ++ (runAt z (p .to) ++ eof)) (q .marked)
+          ∙ sym (numbered-end (p .events) (p .mark) (p .to))
+          ∙ ap (numbered 0) (p .all),
       ap (λ (z : List ℕ). attributesDue (dueFrom z s at 0 m)) (sym b)
-      ∙ q .goes .attributes []
-      ∙ ap (λ (z : List Rec). documentAttributes at h ++ z) (l .1)
-      ∙ append-nil (documentAttributes at h),
+          ∙ q .goes .attributes []
+          ∙ ap (λ (z : List Rec). documentAttributes at h ++ z) (l .1)
+          ∙ append-nil (documentAttributes at h),
     )
 
 -- the byte-order mark puts nothing
