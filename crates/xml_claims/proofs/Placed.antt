@@ -17,21 +17,9 @@ use Rattle.xml_tokens.proofs.Tables.{Accepted, is-accepted, due-events, due-att
 use Rattle.xml_places.specs.Places.{eventsPlaced, attributesPlaced, eventWords, attributeWords}
 use Rattle.xml_places.specs.Begun.{GoesOn, Begun}
 use Rattle.xml_places.proofs.Placed.{due-placed}
-use Rattle.xml_places.proofs.Broken.{open-on, Split, split}
+use Rattle.xml_places.proofs.Broken.{events-append, attributes-append, run-none, open-on, Split, split}
 use Rattle.xml_claims.proofs.Exact.{reaches}
 use Rattle.xml_claims.proofs.Verdicts.{document-told}
-
-events-append : (ds es : List Due) → eventsDue (ds ++ es) ≡ eventsDue ds ++ eventsDue es
-events-append [] es = refl
-events-append (nothing ∷ ds) es = events-append ds es
-events-append (event r ∷ ds) es = ap (λ (l : List Rec). r ∷ l) (events-append ds es)
-events-append (attribute r ∷ ds) es = events-append ds es
-
-attributes-append : (ds es : List Due) → attributesDue (ds ++ es) ≡ attributesDue ds ++ attributesDue es
-attributes-append [] es = refl
-attributes-append (nothing ∷ ds) es = attributes-append ds es
-attributes-append (event r ∷ ds) es = attributes-append ds es
-attributes-append (attribute r ∷ ds) es = ap (λ (l : List Rec). r ∷ l) (attributes-append ds es)
 
 -- ---- the table
 abbrev eof : Due
@@ -87,11 +75,6 @@ module _ (p t : List ℕ) (w : WellFormed (p ++ t)) where
   run-few nothing rest g = omega arith
   run-few (event (rec k at n first count)) rest (more, r, e) = let z = ap length e in omega arith
   run-few (attribute r) rest g = absurd g
-
-  run-none : (d : Due) (rest : List Rec) → GoesOn d rest → attributesDue (d ∷ []) ≡ []
-  run-none nothing rest g = refl
-  run-none (event r) rest g = refl
-  run-none (attribute r) rest g = absurd g
 
   fewer : Begun (dueIn p) (eventsPlaced w) (attributesPlaced w) →
       (length (eventsDue (dueIn p)) ≤ length (eventsPlaced w)) × (length (attributesDue (dueIn p)) ≤ length (attributesPlaced w))

@@ -15,7 +15,7 @@ use Rattle.xml_machine.specs.State.{State, fresh, marked, ltFirst, heading, dec
 use Rattle.xml_machine.specs.Machine.{begun, char, follow, angle, inText, inSpace, step}
 use Rattle.xml_machine.specs.Runs.{after, run}
 use Rattle.xml_machine.specs.Tokens.{Rec, rec, unless0, over, Marks, marking, marksBy, Due, nothing, event, attribute, textDue, due, openRun}
-use Rattle.xml_tokens.specs.Due.{counted, dueBy, dueFrom, eventsDue}
+use Rattle.xml_tokens.specs.Due.{counted, dueBy, dueFrom, eventsDue, attributesDue}
 use Rattle.xml_places.specs.Begun.{GoesOn}
 use Rattle.xml_places.proofs.Tags.{unless-some}
 
@@ -160,3 +160,22 @@ split (b ∷ p) t s u at count m e = by (step s b) refl e (λ w n k f. split p t
           here = ap (λ (o : Next). dueBy o s at count m (λ v n k. dueFrom p v (at + 1) n k)) i ∙ ap (λ (ds : List Due). d ∷ ds) (r .here);
           on = ap (λ (o : Next). dueBy o s at count m (λ v n k. dueFrom (p ++ t) v (at + 1) n k)) i ∙ ap (λ (ds : List Due). d ∷ ds) (r .on);
         }
+
+-- ---- what is due, joined
+pub events-append : (ds es : List Due) → eventsDue (ds ++ es) ≡ eventsDue ds ++ eventsDue es
+events-append [] es = refl
+events-append (nothing ∷ ds) es = events-append ds es
+events-append (event r ∷ ds) es = ap (λ (l : List Rec). r ∷ l) (events-append ds es)
+events-append (attribute r ∷ ds) es = events-append ds es
+
+pub attributes-append : (ds es : List Due) → attributesDue (ds ++ es) ≡ attributesDue ds ++ attributesDue es
+attributes-append [] es = refl
+attributes-append (nothing ∷ ds) es = attributes-append ds es
+attributes-append (event r ∷ ds) es = attributes-append ds es
+attributes-append (attribute r ∷ ds) es = ap (λ (l : List Rec). r ∷ l) (attributes-append ds es)
+
+-- a run of text is no attribute
+pub run-none : (d : Due) (rest : List Rec) → GoesOn d rest → attributesDue (d ∷ []) ≡ []
+run-none nothing rest g = refl
+run-none (event r) rest g = refl
+run-none (attribute r) rest g = absurd g

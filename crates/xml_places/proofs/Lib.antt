@@ -7,3 +7,4 @@ pub mod Elements
 pub mod Documents
 pub mod Placed
 pub mod Broken
+pub mod Examples
