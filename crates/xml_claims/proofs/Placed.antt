@@ -1,19 +1,19 @@
 -- The words of an accepted document's table are those of its derivation, and what is due in the first bytes of a document begins its records.
 -- Assumes nothing.
 use Prim.Native.Nat.{ℕ, _+_, _*_, _≤_}
-use mathlib.Core.Path.{_≡_, refl, sym, ap, _∙_}
+use mathlib.Core.Path.{_≡_, sym, ap, _∙_}
 use mathlib.Core.List.{List, [], _∷_, _++_, append-assoc, append-nil}
 use native.Mathlib.Omega.{arith}
 use lib.ListN.{length, take, length-append}
 use Rattle.table.specs.Kinds as kind
 use Rattle.xml_grammar.specs.Documents.{WellFormed, eventsOf}
 use Rattle.xml_machine.specs.State.{State, fresh}
-use Rattle.xml_machine.specs.Runs.{Verdict, verdict}
-use Rattle.xml_machine.specs.Tokens.{Rec, rec, noMarks, Due, nothing, event, attribute, openRun, done-with, Result, resulting, flat, tokens}
+use Rattle.xml_machine.specs.Runs.{Verdict}
+use Rattle.xml_machine.specs.Tokens.{Rec, rec, noMarks, Due, nothing, event, attribute, openRun, done-with, resulting, flat, tokens}
 use Rattle.xml_tokens.specs.Due.{dueFrom, dueIn, eventsDue, attributesDue, attributesIn}
 use Rattle.xml_tokens.proofs.Rooms.{lastDue, allDue}
 use Rattle.xml_tokens.proofs.Flat.{laid-front}
-use Rattle.xml_tokens.proofs.Tables.{Accepted, is-accepted, due-events, due-attributes}
+use Rattle.xml_tokens.proofs.Tables.{is-accepted, due-events, due-attributes}
 use Rattle.xml_places.specs.Places.{eventsPlaced, attributesPlaced, eventWords, attributeWords}
 use Rattle.xml_places.specs.Begun.{GoesOn, Begun}
 use Rattle.xml_places.proofs.Placed.{due-placed}

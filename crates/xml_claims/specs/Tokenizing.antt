@@ -12,8 +12,8 @@
 --   Result, roomOf, tokens (crate xml_machine: Tokens)                  what the call answers and leaves in its areas: the promise of the call
 --   dueIn (crate xml_tokens: Due), due, openRun (Tokens), step (Machine)  the records that are due in some bytes
 --   Begun (crate xml_places: Begun)                                     records that begin with those that are due
--- `dueIn` stands in refusal 16 alone, for sources that aren't documents. Which records are due there the grammar says, by `begins`; believed
--- of it is only how soon they are: that none comes due later than at the last byte of what it tells of.
+-- `dueIn` stands in refusal 16 alone, for sources that aren't documents. Which records come due there the grammar says, by `begins`; believed
+-- of `dueIn` is only at which byte each of them does (rule N9).
 --
 -- `tokens` takes the lengths of both areas and not what these held before: no claim depends on old contents.
 use Prim.Native.Nat.{ℕ, _+_, _-_, _*_, _≤_, _<_}

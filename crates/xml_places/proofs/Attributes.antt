@@ -1,6 +1,6 @@
 -- Attributes, from a tag's name or a value to the next. Assumes nothing.
 use Prim.Native.Nat.{ℕ, _+_, _-_, _<_}
-use mathlib.Core.Path.{_≡_, refl, sym, ap, _∙_, subst}
+use mathlib.Core.Path.{_≡_, refl, ap, subst}
 use mathlib.Core.List.{List, [], _∷_, _++_}
 use mathlib.Core.Bool.{true}
 use native.Mathlib.Omega.{arith}
@@ -126,7 +126,8 @@ attributes-goes (grammar.attribute {w = w} {k = k} {x = x} {y = y} {v = v} {a = 
       place = subst (λ (d : ℕ). At from to j (z .mode) (z .end) d (z .marks)) more (z .place);
       goes =
           goes-with refl (ap (λ (d : ℕ). rec 0 b d (unless0 u (size v)) (size v) ∷ xs) wide)
-          (subst (λ (d : ℕ). Goes (spot (tag o whole n ns) at count m) (w ++ (k ++ (x ++ (0x3D ∷ (y ++ (mark q ∷ (v ++ (mark q ∷ r)))))))) (spot (tag (z .mode) whole n ns) (z .end) d (z .marks)) [] (rec 0 b (c - b) (unless0 u (size v)) (size v) ∷ xs)) more
+          (subst (λ (d : ℕ). Goes (spot (tag o whole n ns) at count m) (w ++ (k ++ (x ++ (0x3D ∷ (y ++ (mark q ∷ (v ++ (mark q ∷ r))))))))
+          (spot (tag (z .mode) whole n ns) (z .end) d (z .marks)) [] (rec 0 b (c - b) (unless0 u (size v)) (size v) ∷ xs)) more
           (goes-then (p .goes)
           (goes-then (goes-here {cs = k} (key-here i n ns) b count (p .marks))
           (equal-goes e n ns c count (marking b (p .marks)) (value-goes f g n ns (c + size x + 1) count l (z .goes))))));

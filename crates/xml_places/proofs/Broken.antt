@@ -1,5 +1,5 @@
 -- What is due in the first bytes of a source stays due, and a run of text that is broken off goes on. Assumes nothing.
-use Prim.Native.Nat.{ℕ, zero, suc, _+_, _-_, _*_, _≤_, _<_, max}
+use Prim.Native.Nat.{ℕ, _+_, _-_, _*_, _≤_, _<_, max}
 use mathlib.Core.Path.{_≡_, refl, sym, ap, _∙_, subst}
 use mathlib.Core.List.{List, [], _∷_, _++_}
 use mathlib.Core.Bool.{Bool, true, false, cond, _&&_}
@@ -11,7 +11,8 @@ use Rattle.table.specs.Kinds as kind
 use Rattle.xml_chars.specs.Chars.{Range, meets, anyChar, isSpace}
 use Rattle.xml_chars.specs.Bytes.{Left, one, two, three, Part, whole, part, fits}
 use Rattle.xml_machine.specs.State as state
-use Rattle.xml_machine.specs.State.{State, fresh, marked, ltFirst, heading, decl, literal, prolog, epilog, text, lt, misc, section, ref, tag, ending, endSpace, Place, Stay, EndText, TextMark, Next, Brackets, b0, b1, b2}
+use Rattle.xml_machine.specs.State.{State, fresh, marked, ltFirst, heading, decl, literal, prolog, epilog, text, lt, misc, section}
+use Rattle.xml_machine.specs.State.{ref, tag, ending, endSpace, Place, Stay, EndText, TextMark, Next, Brackets, b0, b1, b2}
 use Rattle.xml_machine.specs.Machine.{begun, char, follow, angle, inText, inSpace, step}
 use Rattle.xml_machine.specs.Runs.{after, run}
 use Rattle.xml_machine.specs.Tokens.{Rec, rec, unless0, over, Marks, marking, marksBy, Due, nothing, event, attribute, textDue, due, openRun}

@@ -5,9 +5,7 @@ use mathlib.Core.List.{List, [], _∷_, _++_, append-assoc, append-nil}
 use mathlib.Core.Bool.{Bool, cond}
 use native.Mathlib.Omega.{arith}
 use borrow.Author.Tests.{le-ltb}
-use lib.ListN.{length}
 use Rattle.table.specs.Kinds as kind
-use Rattle.xml_chars.specs.Bytes.{utf8}
 use Rattle.xml_grammar.specs.Grammar as grammar
 use Rattle.xml_grammar.specs.Grammar.{Miscs, last-space, Prolog, undeclared, declared, Document, document}
 use Rattle.xml_machine.specs.State.{State, prolog, epilog, Place, before}
@@ -17,7 +15,6 @@ use Rattle.xml_complete.proofs.Declarations.{declaration-reads}
 use Rattle.xml_complete.proofs.Documents.{Outside, is-prolog, is-epilog, outside-opens, resumed, Out, spaces-out, First, first-fresh, first-marked, first-outside, before-begins, after-ends}
 use Rattle.xml_tokens.specs.Due.{eventsDue}
 use Rattle.xml_places.specs.Places.{size, pieceAt, miscAt, miscsAt, elementAt, elementAttributes, prologAt, documentAt, documentAttributes}
-use Rattle.xml_places.proofs.Going.{size-append}
 use Rattle.xml_places.proofs.Putting.{Puts, puts-long, puts-then, puts-these, puts-from, puts-reads, runAt}
 use Rattle.xml_places.proofs.Markup.{run-space, query-puts, misc-puts}
 use Rattle.xml_places.proofs.Elements.{Stretch, joined, element-puts}

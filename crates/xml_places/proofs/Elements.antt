@@ -13,7 +13,7 @@ use Rattle.xml_machine.specs.Tokens.{Rec}
 use Rattle.xml_complete.proofs.Names.{Begins, within}
 use Rattle.xml_complete.proofs.CharacterData.{text-reads}
 use Rattle.xml_complete.proofs.Comments.{Opens, in-text, opens-step}
-use Rattle.xml_places.specs.Places.{size, tagAt, textAt, attributesAt, elementAttributes, contentAttributes, besideAt, elementAt, contentAt}
+use Rattle.xml_places.specs.Places.{size, tagAt, attributesAt, elementAttributes, contentAttributes, besideAt, elementAt, contentAt}
 use Rattle.xml_places.proofs.Putting.{Puts, puts-long, puts-then, puts-these, puts-reads, puts-text, runAt}
 use Rattle.xml_places.proofs.Markup.{run-data, puts-end, beside-puts}
 use Rattle.xml_places.proofs.Tags.{name-long, start-puts, empty-puts, end-puts}
@@ -56,7 +56,8 @@ mutual
       sym (append-assoc (p .events) (runAt (p .mark) (p .to)) (tagAt kind.end (p .to + 1 + 1) n 0 ∷ []))
       ∙ ap (λ (z : List Rec). z ++ (tagAt kind.end (p .to + 1 + 1) n 0 ∷ [])) (p .all)
       ∙ ap (λ (z : ℕ). contentAt to j ++ (tagAt kind.end z n 0 ∷ [])) two in
-      subst (λ (z : List ℕ). Puts s x at z (shut ns) (at + size z) (at + size z) (runAt x at ++ (tagAt kind.start (at + 1) n (length xs) ∷ (contentAt to j ++ t))) (xs ++ contentAttributes to j)) (sym q)
+      subst (λ (z : List ℕ). Puts s x at z (shut ns) (at + size z) (at + size z) (runAt x at ++ (tagAt kind.start (at + 1) n (length xs) ∷ (contentAt to j ++ t))) (xs ++ contentAttributes to j))
+      (sym q)
       (puts-end
       (puts-then (puts-text (omega arith) (opens-step o))
       (start-puts b i h (at + 1) (at + 1)

@@ -2,19 +2,19 @@
 use Prim.Native.Nat.{ℕ, _+_}
 use mathlib.Core.Path.{_≡_, refl, sym, ap, _∙_}
 use mathlib.Core.List.{List, [], _∷_, _++_, append-nil}
-use mathlib.Core.Bool.{true}
 use native.Mathlib.Omega.{arith}
-use lib.ListN.{getD, length}
+use lib.ListN.{getD}
 use Rattle.names.specs.Bytes.{bytes}
 use Rattle.utf8.specs.Characters.{encode}
 use Rattle.table.specs.Event.{eventOf, eventAt, attributesFrom, resolveFrom, resolve}
-use Rattle.table.specs.Table.{checkFrom, checkEvent, goodSizes, goodShape, goodAttribute, badFrom, checkOf}
+use Rattle.table.specs.Table.{checkFrom, checkEvent, goodSizes, goodShape, badFrom, checkOf}
 use Rattle.table.specs.declared.Checked.the-variants.{Good}
 use Rattle.xml_chars.specs.Chars.{crosses, single}
-use Rattle.xml_grammar.specs.Grammar.{no-char, a-char, chars, Name, name-of, Value, no-value, value-char, no-attribute, attribute, CharData, data-of, last-space, comment, plain, no-remark, Remark, misc, empty, pair, last-data, child, undeclared, document}
+use Rattle.xml_grammar.specs.Grammar.{no-char, a-char, chars, Name, name-of, Value, no-value, value-char, no-attribute, attribute, CharData, data-of}
+use Rattle.xml_grammar.specs.Grammar.{last-space, comment, plain, no-remark, Remark, misc, empty, pair, last-data, undeclared, document}
 use Rattle.xml_grammar.specs.Events.{elementOf, contentOf}
 use Rattle.xml_grammar.specs.Documents.{unmarked, marked, WellFormed, eventsOf}
-use Rattle.xml_machine.specs.Tokens.{Rec, rec, Due, nothing, event}
+use Rattle.xml_machine.specs.Tokens.{Rec, rec, Due}
 use Rattle.xml_tokens.specs.Due.{attributesDue}
 use Rattle.xml_places.specs.Places.{elementAttributes, contentAttributes, elementAt, contentAt, eventsPlaced, attributesPlaced, eventWords}
 use Rattle.xml_places.specs.Begun.{Begun}

@@ -1,6 +1,6 @@
 -- Texts, comments, instructions, references and sections. Assumes nothing.
 use Prim.Native.Nat.{ℕ, _+_, _<_}
-use mathlib.Core.Path.{_≡_, refl, sym, ap, _∙_}
+use mathlib.Core.Path.{_≡_, refl, ap, _∙_}
 use mathlib.Core.List.{List, [], _∷_, _++_}
 use mathlib.Core.Bool.{Bool, true, cond}
 use native.Mathlib.Omega.{arith}
@@ -9,16 +9,15 @@ use lib.ListN.{length}
 use Rattle.names.specs.Bytes.{bytes}
 use Rattle.utf8.specs.Characters.{isScalar, encode}
 use Rattle.table.specs.Kinds as kind
-use Rattle.table.specs.Event.{Event, Piece, Text}
+use Rattle.table.specs.Event.{Piece, Text}
 use Rattle.xml_chars.specs.Chars.{isIn, anyChar}
 use Rattle.xml_chars.specs.Bytes.{utf8, whole}
 use Rattle.xml_chars.proofs.CharLaws.{in-scalar, low-scalar}
 use Rattle.xml_grammar.specs.Grammar as grammar
 use Rattle.xml_grammar.specs.Grammar.{Many, no-char, a-char, lacks, Spaces, inData, Remark, Referred, Misc, comment, instruction, Beside, reference, aside}
-use Rattle.xml_machine.specs.State as state
-use Rattle.xml_machine.specs.State.{State, text, Brackets, b0, Place, inside, content, toSection}
+use Rattle.xml_machine.specs.State.{State, text, Brackets, b0, Place, content, toSection}
 use Rattle.xml_machine.specs.Machine.{resume}
-use Rattle.xml_machine.specs.Tokens.{Rec, over, Due, event, nothing}
+use Rattle.xml_machine.specs.Tokens.{Rec, over, event, nothing}
 use Rattle.xml_machine.specs.inside.Saying.{textSaid}
 use Rattle.xml_complete.proofs.Reading.{Reads}
 use Rattle.xml_complete.proofs.Spaces.{space-ascii}
@@ -31,7 +30,8 @@ use Rattle.xml_complete.proofs.Instructions.{Closes, closes, asks, asks-aims, a
 use Rattle.xml_complete.proofs.Elements.{ampersand-opens, section-ends, opening-reads}
 use Rattle.xml_tokens.specs.Due.{eventsDue}
 use Rattle.xml_places.specs.Places.{size, pieceAt, textAt, miscAt, besideAt}
-use Rattle.xml_places.proofs.Putting.{Puts, puts-long, puts-then, puts-to, puts-reads, puts-stay, puts-mark, puts-text, puts-text-mark, puts-ref, puts-comment, puts-instruction, puts-section, runAt, over-piece}
+use Rattle.xml_places.proofs.Putting.{Puts, puts-long, puts-then, puts-to, puts-reads, puts-stay, puts-mark, puts-text}
+use Rattle.xml_places.proofs.Putting.{puts-text-mark, puts-ref, puts-comment, puts-instruction, puts-section, runAt, over-piece}
 
 -- ---- a whole run of text
 said-long : (l r : List ℕ) → textSaid l ≡ Piece Text r ∷ [] → 0 < length l

@@ -2,9 +2,6 @@
 use Prim.Native.Nat.{ℕ, _+_}
 use mathlib.Core.Path.{_≡_, refl, sym, ap, _∙_}
 use mathlib.Core.List.{List, [], _∷_, _++_, append-assoc, append-nil}
-use mathlib.Core.Bool.{Bool, true, false, cond}
-use native.Mathlib.Omega.{arith}
-use lib.Dec.{ltb}
 use lib.ListN.{length}
 use Rattle.table.specs.Kinds as kind
 use Rattle.xml_chars.specs.Bytes.{utf8}
@@ -12,13 +9,13 @@ use Rattle.xml_grammar.specs.Grammar.{Document}
 use Rattle.xml_grammar.specs.Documents as documents
 use Rattle.xml_grammar.specs.Documents.{unmarked, WellFormed}
 use Rattle.xml_machine.specs.State as state
-use Rattle.xml_machine.specs.State.{State, fresh, epilog}
+use Rattle.xml_machine.specs.State.{State, epilog}
 use Rattle.xml_machine.specs.Machine.{step}
-use Rattle.xml_machine.specs.Tokens.{Rec, rec, over, Marks, noMarks, marking, Due, nothing, event, textDue}
+use Rattle.xml_machine.specs.Tokens.{Rec, rec, Marks, noMarks, marking, Due, nothing}
 use Rattle.xml_complete.proofs.Documents.{First, first-fresh, first-marked}
 use Rattle.xml_tokens.specs.Due.{dueFrom, dueIn, eventsDue, attributesDue}
 use Rattle.xml_places.specs.Places.{numbered, documentAt, documentAttributes, eventsPlaced, attributesPlaced}
-use Rattle.xml_places.proofs.Putting.{counts, numbered-append, run-counts, run-numbered, run-bare, runAt}
+use Rattle.xml_places.proofs.Putting.{counts, numbered-append, run-numbered, run-bare, runAt}
 use Rattle.xml_places.proofs.Documents.{document-puts}
 
 abbrev eof : List Rec
@@ -29,9 +26,9 @@ abbrev pub Places : List Due → List Rec → List Rec → Type 0
 Places ds es xs = (eventsDue ds ++ (rec kind.eof 0 0 0 0 ∷ []) ≡ es) × (attributesDue ds ≡ xs)
 
 -- behind the last byte the run that is open counts
-last-run : (t to count : ℕ) (m : Marks) → Places (dueFrom [] epilog to count m) (runAt (m .mark) to ++ eof) []
+last-run : (to count : ℕ) (m : Marks) → Places (dueFrom [] epilog to count m) (runAt (m .mark) to ++ eof) []
 unfolding dueFrom
-last-run t to count m = (refl, run-bare (m .mark) to)
+last-run to count m = (refl, run-bare (m .mark) to)
 
 numbered-end : (es : List Rec) (x to : ℕ) → numbered 0 (es ++ (runAt x to ++ eof)) ≡ numbered 0 es ++ (runAt x to ++ eof)
 numbered-end es x to =
@@ -44,7 +41,7 @@ from-first {s = s} f {cs = cs} h at m e =
     let p = document-puts f h at in
     let q = p .puts .ahead 0 m e in
     let b : utf8 cs ++ [] ≡ utf8 cs = append-nil (utf8 cs) in
-    let l = last-run 0 (p .to) (0 + length (documentAttributes at h)) (q .marks) in
+    let l = last-run (p .to) (0 + length (documentAttributes at h)) (q .marks) in
     let es : List Rec = numbered 0 (p .events) in (
       ap (λ (z : List ℕ). eventsDue (dueFrom z s at 0 m) ++ eof) (sym b)
           ∙ ap (λ (z : List Rec). z ++ eof) (q .goes .events [])

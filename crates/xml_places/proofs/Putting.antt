@@ -1,17 +1,16 @@
 -- What is due along characters by their places alone: the mark before and behind them, the first byte and the byte behind. Assumes nothing.
 use Prim.Native.Nat.{ℕ, _+_, _-_, _<_}
 use mathlib.Core.Path.{_≡_, refl, sym, ap, _∙_, subst}
-use mathlib.Core.List.{List, [], _∷_, _++_, append-assoc}
+use mathlib.Core.List.{List, [], _∷_, _++_}
 use mathlib.Core.Bool.{Bool, true, false, cond}
 use native.Mathlib.Omega.{arith}
-use borrow.Author.Tests.{lt-ltb, le-ltb}
 use lib.Dec.{ltb}
 use lib.ListN.{length, length-append}
 use Rattle.table.specs.Kinds as kind
 use Rattle.xml_machine.specs.State as state
-use Rattle.xml_machine.specs.State.{State, Act, Stay, Mark, EndText, TextMark, NameEnd, Ref, Comment, Pi, CData}
+use Rattle.xml_machine.specs.State.{State, Act, Stay, Mark, EndText, TextMark, Ref, Comment, Pi, CData}
 use Rattle.xml_machine.specs.Machine.{step}
-use Rattle.xml_machine.specs.Tokens.{Rec, rec, unless0, over, Marks, noMarks, marking, marksBy, Due, nothing, event, textDue, due}
+use Rattle.xml_machine.specs.Tokens.{Rec, rec, unless0, over, Marks, noMarks, marking, marksBy, nothing, event, textDue, due}
 use Rattle.xml_complete.proofs.Reading.{Reads, reads-none, reads-byte}
 use Rattle.xml_tokens.specs.Due.{counted, eventsDue, attributesDue}
 use Rattle.xml_places.specs.Places.{size, pieceAt, numbered}

@@ -5,7 +5,8 @@ use mathlib.Core.List.{List, [], _∷_, _++_}
 use lib.ListN.{length}
 use Rattle.table.specs.Kinds as kind
 use Rattle.xml_chars.specs.Bytes.{utf8}
-use Rattle.xml_grammar.specs.Grammar.{Attributes, no-attribute, attribute, Misc, comment, instruction, Miscs, last-space, misc, Beside, reference, section, aside, Element, empty, pair, Content, last-data, child, beside, Prolog, undeclared, declared, Document, document}
+use Rattle.xml_grammar.specs.Grammar.{Attributes, no-attribute, attribute, Misc, comment, instruction, Miscs, last-space, misc, Beside, reference, section}
+use Rattle.xml_grammar.specs.Grammar.{aside, Element, empty, pair, Content, last-data, child, beside, Prolog, undeclared, declared, Document, document}
 use Rattle.xml_grammar.specs.Documents.{WellFormed}
 use Rattle.xml_machine.specs.Tokens.{Rec, rec, unless0, flat}
 
