@@ -12,7 +12,7 @@ use Rattle.public_cases.specs.Reports.{noCounts, ofSuites, ofStatus, ofCases}
 use Rattle.round_cases.specs.Cases.{Case, kept, at, newYear, firstRun, secondRun, fullCase}
 
 -- ---- small reports
--- timestamp, time, outputs, extras
+-- timestamp, time, outputs, extras, cases
 abbrev pub aSuite : Option Moment → Option Duration → Option Text → Option Text → List Pair → List TestCase → TestSuite
 aSuite m d out err extra cases =
     record { name = bytes "s"; counts = noCounts; timestamp = m; time = d; cases = cases; properties = []; systemOut = out; systemErr = err; extra = extra }
@@ -207,10 +207,10 @@ keyOn f ks = map (λ (k : Text). f (k ∷ [])) ks
 -- ---- not plain, for one reason each
 abbrev pub unplain : List Report
 unplain =
-    -- within a millisecond
+    -- no whole milliseconds
     timed (record { seconds = 0; nanos = 999999 })
     ++ (stamped (newYear 1000001)
-    -- White_Space at either end
+    -- White_Space at an end, an empty description
     ++ (each described (bytes " d" ∷ bytes "d\n" ∷ [] ∷ [])
     ++ (each printed (bytes "\no" ∷ bytes "o " ∷ bytes " " ∷ [])
     -- keys: an element's own, with `&`, twice
