@@ -1,6 +1,8 @@
 // How what was built is told.
-use crate::example::Run;
 use area::least;
+use build_draft::Builder;
+use refusal::Refusal;
+use refusal::number_of;
 use tree_record::field;
 ghost use Prim.Native.Nat.{_≤_};
 
@@ -28,24 +30,26 @@ fn is_clear(text: &[u8]) -> bool {
     zero
 }
 
-// How many records and bytes are used, or the number of the first refusal and whether the areas are zero.
-pub fn tell_run(run: Run, words: &[u32], text: &[u8]) {
-    let b = run.builder;
-    if run.refused == 0 {
-        say(b"built ");
-        io::print_decimal(1, b.records as u64);
-        say(b" records, ");
-        io::print_decimal(1, b.bytes as u64);
-        say(b" bytes\n");
-        return;
-    }
+// How many records and bytes are used.
+pub fn tell_count(b: Builder) {
+    io::print_decimal(1, b.records as u64);
+    say(b" records, ");
+    io::print_decimal(1, b.bytes as u64);
+    say(b" bytes\n");
+}
+
+// The refusal's number, whether the areas are zero, and the line of the call.
+pub fn tell_refusal(refusal: Refusal, words: &[u32], text: &[u8], line: &[u8]) {
+    let cause = refusal.cause;
     say(b"refused ");
-    io::print_decimal(1, run.refused as u64);
+    io::print_decimal(1, number_of(cause) as u64);
     if is_zero(words, text) {
-        say(b", zero\n");
+        say(b", zero: ");
     } else {
-        say(b", not zero\n");
+        say(b", not zero: ");
     }
+    say(line);
+    say(b"\n");
 }
 
 // The text whose start and length are words o and o + 1 of an entry, cut at the end.
