@@ -48,6 +48,7 @@ class Run:
         self.records = self.bytes = 0
         self.room = (0, 0)
         self.report = None
+        self.ended = False
 
     def text(self, raw, lossy=False):
         try:
@@ -65,7 +66,7 @@ class Run:
 
     def begin(self, name):
         self.records = self.bytes = 0
-        self.report = None
+        self.report, self.ended = None, False
         self.record()
         self.report = self.last = Element("report", suites=[], sums=[0] * 4, disabled=None)
         self.suite = self.case = None
@@ -88,7 +89,7 @@ class Run:
         n = more[0] % 16 if more else 0
         if name in (b"report", b"unnamed"):
             return self.begin(rest if name == b"report" else None)
-        need(self.report)
+        need(self.report and not self.ended)
         if name == b"suite":
             self.sum_up()
             self.record()
@@ -148,7 +149,7 @@ class Run:
             self.case.family = ["flaky", "rerun"][code]
         else:
             self.sum_up()
-            self.suite = self.case = None
+            self.ended = True
 
 
 def esc(s):
@@ -175,7 +176,7 @@ def listing(r):
         for c in s.cases:
             status = c.main.tag if c.main else "success"
             family = "none" if status == "skipped" else c.family
-            # the crate keeps the kind of no runs; the records know it by their runs alone
+            # the crate keeps the kind of no runs too, the records only that of some
             if c.main and status != "skipped" and not c.runs:
                 family = "rerun"
             out += "\n(case %s %s %s %s %s %d" % (

@@ -14,29 +14,45 @@ fn moment(hour: u8) -> Timestamp {
 fn build(areas: &mut Areas) -> Result<(Tree<'_>, usize, usize), Refusal> {
     let mut report = ReportBuilder::new(areas, "my-test-run")?;
     report.set_uuid(0x123e4567_e89b12d3_a4564266_14174000_u128.to_be_bytes())?;
-    report.set_timestamp(moment(8))?.set_time(Duration::from_millis(3250))?;
+    report.set_timestamp(moment(8))?.set_time(Duration::from_micros(3_062_500))?;
 
     let mut suite = report.add_test_suite("lab <1>")?;
     suite.add_extra("hostname", "old")?.add_extra("package", "p & q")?.add_extra("hostname", "bench\x01-7")?;
-    suite.add_property("env", "ci")?.set_system_out_lossy(b"out \xff\xc3\xa9 \xe2\x82")?;
+    suite.add_property("env", "ci")?.add_property("os", "")?;
+    suite.set_timestamp(moment(9))?.set_time(Duration::from_micros(2_062_500))?.set_disabled(1_000_000_000)?;
+    suite.set_system_out_lossy(b"out \xff\xc3\xa9 \xe2\x82")?.set_system_err("the suite's err")?;
 
-    suite.add_test_case("success-case", Outcome::Success)?.set_classname("tissue.typing")?.set_assertions(5_000_000_000)?;
+    let mut case = suite.add_test_case("success-case", Outcome::Success)?;
+    case.set_classname("old")?.set_classname("tissue.typing")?.set_assertions(5_000_000_000)?;
+    case.set_timestamp(moment(7))?.set_time(Duration::from_micros(1_062_500))?;
+    case.add_extra("line", "42")?.add_property("step", "1")?;
+    case.set_system_out("the case's out")?.set_system_err_lossy(b"the case's err \x80")?;
+
     let mut case = suite.add_test_case("flaky-case", Outcome::Success)?;
     let mut run = case.add_rerun(NonSuccessKind::Failure)?;
-    run.set_message("first try")?.set_type("timeout")?.set_description("it took too long")?;
-    run.set_time(Duration::from_micros(62_500))?;
-
-    let mut case = suite.add_test_case("failure-case", Outcome::Failure)?;
-    case.add_extra("line", "42")?.add_property("step", "1")?;
-    case.set_message("ranking differs")?.set_type("assert")?.set_description("donor 2 before donor 1")?;
-    case.add_rerun(NonSuccessKind::Failure)?.set_stack_trace("at rank()")?;
+    run.set_message("first try")?.set_type("timeout")?.set_description("it took too long")?.set_stack_trace("at rank()")?;
+    run.set_system_out("the run's out")?.set_system_err("the run's err")?;
+    run.set_timestamp(moment(6))?.set_time(Duration::from_micros(62_500))?;
     case.add_rerun(NonSuccessKind::Error)?;
 
+    let mut case = suite.add_test_case("failure-case", Outcome::Failure)?;
+    case.add_extra("line", "42")?.add_extra("line", "43")?.add_property("step", "2")?;
+    case.set_message("ranking")?.set_type("assert")?.set_description("donor 2 before donor 1")?;
+    case.add_rerun(NonSuccessKind::Failure)?.set_system_out_lossy(b"\xf0\x9f\x98")?;
+    case.add_rerun(NonSuccessKind::Error)?.set_system_err_lossy(b"\xc0")?.set_description("twice")?;
+    case.set_message("ranking differs")?;
+
     let mut suite = report.add_test_suite("second")?;
-    suite.set_disabled(2)?;
+    suite.set_disabled(2_000_000_000)?;
     let mut case = suite.add_test_case("error-case", Outcome::Error)?;
+    case.set_message("gone")?.set_type("panic")?.set_description("no answer")?;
     case.set_rerun_kind(FlakyOrRerun::Flaky)?.add_rerun(NonSuccessKind::Error)?;
-    suite.add_test_case("skipped-case", Outcome::Skipped)?.set_message("not today")?;
+    let mut case = suite.add_test_case("turned-case", Outcome::Error)?;
+    case.set_rerun_kind(FlakyOrRerun::Flaky)?.add_rerun(NonSuccessKind::Failure)?.set_stack_trace("at main()")?;
+    case.set_rerun_kind(FlakyOrRerun::Rerun)?.add_rerun(NonSuccessKind::Error)?;
+    let mut case = suite.add_test_case("skipped-case", Outcome::Skipped)?;
+    case.set_message("not today")?.set_type("planned")?.set_description("see below")?.set_system_err("\x02")?;
+    report.add_test_suite("empty")?;
 
     let (records, bytes) = report.used();
     Ok((report.finish()?, records, bytes))
@@ -56,25 +72,29 @@ fn events_of(table: &TableBuf) -> String {
     s
 }
 
-fn tried(title: &str, records: usize, bytes: usize) -> String {
+// What is used, or the refusal of the last call.
+fn tried(records: usize, bytes: usize) -> String {
     let mut areas = Areas::new(records, bytes, 0);
     match build(&mut areas) {
-        Ok((_, records, bytes)) => format!("{title}: built {records} records, {bytes} bytes\n"),
+        Ok((_, records, bytes)) => format!("{records} records, {bytes} bytes\n"),
         Err(refusal) => {
-            format!("{title}: refused {}, {}\n", refusal.number(), if areas.is_clear() { "zero" } else { "not zero" })
+            let zero = if areas.is_clear() { "zero" } else { "not zero" };
+            format!("refused {}, {zero}: suite empty\n0 records, 0 bytes\n", refusal.number())
         }
     }
 }
 
+// The stored output begins with this report, and ends with it in areas that just suffice, and in shorter ones.
 #[test]
 fn the_example_is_built() {
     let mut areas = Areas::new(64, 2048, 0);
     let (tree, records, bytes) = build(&mut areas).unwrap();
-    let mut got = listed(&tree).unwrap() + &events_of(&write(&tree).unwrap());
-    got += &tried("just enough", records, bytes);
-    got += &tried("one record less", records - 1, bytes);
-    got += &tried("one byte less", records, bytes - 1);
-    same(&fs::read_to_string(repository("crates/test_building/stdout")).unwrap(), &got);
+    let stored = fs::read(repository("crates/test_building/stdout")).unwrap();
+    let stored = String::from_utf8_lossy(&stored);
+    let begins = format!("{records} records, {bytes} bytes\n") + &listed(&tree).unwrap() + &events_of(&write(&tree).unwrap());
+    same(&stored[..begins.len()], &begins);
+    let ends = tried(records, bytes) + &tried(records - 1, bytes) + &tried(records, bytes - 1);
+    same(&stored[stored.len() - ends.len()..], &ends);
 }
 
 // All calls behind a refusal are refused, and nothing of the report is left.
@@ -114,20 +134,20 @@ fn a_built_report_tells_its_fields() {
     let (tree, ..) = build(&mut areas).unwrap();
     assert_eq!(tree.uuid(), Some(0x123e4567_e89b12d3_a4564266_14174000_u128.to_be_bytes()));
     assert_eq!(tree.timestamp().unwrap().to_string(), "2026-02-28T08:30:59.125+02:00");
-    assert_eq!(tree.time(), Some(Duration::from_millis(3250)));
-    assert_eq!(tree.counts(), Counts { tests: 5, failures: 1, errors: 1, skipped: 1, disabled: Some(2) });
+    assert_eq!(tree.time(), Some(Duration::from_micros(3_062_500)));
+    assert_eq!(tree.counts(), Counts { tests: 6, failures: 1, errors: 2, skipped: 1, disabled: Some(3_000_000_000) });
     let suite = tree.suites().next().unwrap();
     assert_eq!(suite.extras().collect::<Vec<_>>(), [("hostname", "bench-7"), ("package", "p & q")]);
-    assert_eq!(suite.properties().collect::<Vec<_>>(), [Property { name: "env", value: "ci" }]);
+    assert_eq!(suite.properties().collect::<Vec<_>>(), [Property { name: "env", value: "ci" }, Property { name: "os", value: "" }]);
     assert_eq!(suite.system_out(), Some("out \u{fffd}\u{e9} \u{fffd}"));
     let cases: Vec<_> = suite.cases().collect();
     assert_eq!(cases[0].assertions(), Some(5_000_000_000));
     let Status::Success { flaky_runs } = cases[1].status() else { panic!() };
-    assert_eq!(flaky_runs.map(|r| r.time()).collect::<Vec<_>>(), [Some(Duration::from_micros(62_500))]);
+    assert_eq!(flaky_runs.map(|r| r.time()).collect::<Vec<_>>(), [Some(Duration::from_micros(62_500)), None]);
     let Status::NonSuccess { kind, message, reruns, .. } = cases[2].status() else { panic!() };
     assert_eq!((kind, message, reruns.kind), (NonSuccessKind::Failure, Some("ranking differs"), FlakyOrRerun::Rerun));
     assert_eq!(
-        reruns.runs.map(|r| (r.kind(), r.stack_trace())).collect::<Vec<_>>(),
-        [(NonSuccessKind::Failure, Some("at rank()")), (NonSuccessKind::Error, None),]
+        reruns.runs.map(|r| (r.kind(), r.description())).collect::<Vec<_>>(),
+        [(NonSuccessKind::Failure, None), (NonSuccessKind::Error, Some("twice"))]
     );
 }
