@@ -24,7 +24,7 @@ use Rattle.read_content.specs.Content.{withRecords, withTexts, cleaned, keeping
 use Rattle.public_claims.specs.Agree.{blanked}
 use Rattle.public_claims.specs.PublicMachine.{Node, nodesFor, publicAct, Sort, sortOf, unlisted, nodesOf, said, unsaid}
 use Rattle.public_claims.proofs.Holding.{Holds, accept, refusing, bind, weaken, needing, choosing}
-use Rattle.public_claims.proofs.Words.{text-keeps}
+use Rattle.read_report.proofs.Words.{text-keeps}
 use Rattle.public_claims.proofs.View.{look, looks, looks-append, looks-changed, looks-killAll, looks-killKind, look-outputs, look-status}
 use Rattle.public_claims.proofs.Said.{Firm, keeps-firm, Solid, solid-append, solid-changed}
 use Rattle.public_claims.proofs.Elements.{Grew, Adds, report-adds, suite-adds, case-adds, suite-property-adds, case-property-adds, status-adds}

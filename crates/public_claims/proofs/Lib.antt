@@ -1,7 +1,6 @@
 pub mod WorkedListing
 mod Examples
 mod Holding
-mod Words
 mod Codes
 mod View
 mod Said

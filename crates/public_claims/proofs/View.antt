@@ -14,7 +14,7 @@ use Rattle.tree_report.specs.Fields.{kindOf, hasBit, given, textAt, numberAt, f
 use Rattle.read_element.specs.Attributes.{changed}
 use Rattle.read_content.specs.Content.{killed, killAll, killKind}
 use Rattle.public_claims.specs.PublicMachine.{Node, reportNode, suiteNode, caseNode, mainNode, runNode, Sort, aReport, aSuite, aCase, aMain, aRun, unlisted, sortOf}
-use Rattle.public_claims.proofs.Words.{Keeps}
+use Rattle.read_report.proofs.Words.{Keeps}
 
 abbrev pub lookAs : Sort → List ℕ → List ℕ → List Node
 lookAs aReport t r = reportNode (first t r) (counts r) ∷ []

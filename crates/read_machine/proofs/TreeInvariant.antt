@@ -182,7 +182,7 @@ FairEvent (Piece k bytes) = Fair k bytes
 FairEvent Eof = Unit {0}
 FairEvent Fault = Unit {0}
 
-stepped : {rooms : Rooms} (e : Event) (s : Machine) → FairEvent e → Good rooms s → Holds (Good rooms) (step rooms e s)
+pub stepped : {rooms : Rooms} (e : Event) (s : Machine) → FairEvent e → Good rooms s → Holds (Good rooms) (step rooms e s)
 unfolding step
 stepped (Tag k tag j xs) s f g =
     acted (s .control .closed) (s .control .tally) (s .marks) (s .content) j xs (tag-plan (s .control .mode) (s .control .seen) k tag) (g .sound) (g .order)

@@ -108,7 +108,7 @@ module _ (texts z : List ℕ) where
 
   -- ---- by kind
   module _ {r : List ℕ} (k : Kept texts r) where
-    pair-kind : (κ : ℕ) → κ ≤ 14 → sortsOf κ .first ≡ name → sortsOf κ .middle ≡ pair → eqb (kindOf r) κ ≡ true → pairOf (texts ++ z) r ≡ pairOf texts r
+    pub pair-kind : (κ : ℕ) → κ ≤ 14 → sortsOf κ .first ≡ name → sortsOf κ .middle ≡ pair → eqb (kindOf r) κ ≡ true → pairOf (texts ++ z) r ≡ pairOf texts r
     pair-kind κ l p q e =
         let s = kept-at κ l k (eqb-true (kindOf r) κ e) .1 in
         let x = named-same p s .0 in
@@ -123,12 +123,12 @@ module _ (texts z : List ℕ) where
         let w = third-same (status-third st) s in
         λ i. record { message = x i; type = y i; description = w i }
 
-    main-kind : isMain r ≡ true → reasonOf (texts ++ z) r ≡ reasonOf texts r
+    pub main-kind : isMain r ≡ true → reasonOf (texts ++ z) r ≡ reasonOf texts r
     main-kind e =
         let l = leb-true (kindOf r) 8 (and-right (leb 6 (kindOf r)) (leb (kindOf r) 8) e) in
         status-kind (kindOf r) refl (status-of (kindOf r) (both (and-left (leb 6 (kindOf r)) (leb (kindOf r) 8) e) (le-leb (kindOf r) 12 (omega arith))))
 
-    run-kind : isRun r ≡ true → runOf (texts ++ z) r ≡ runOf texts r
+    pub run-kind : isRun r ≡ true → runOf (texts ++ z) r ≡ runOf texts r
     run-kind e =
         let nine = and-left (leb 9 (kindOf r)) (leb (kindOf r) 12) e in
         let h = leb-true 9 (kindOf r) nine in
@@ -152,7 +152,7 @@ module _ (texts z : List ℕ) where
         }
 
 -- ---- lists
-map-same : {A B : Type 0} (f g : A → B) {xs : List A} → Each (λ x. f x ≡ g x) xs → map f xs ≡ map g xs
+pub map-same : {A B : Type 0} (f g : A → B) {xs : List A} → Each (λ x. f x ≡ g x) xs → map f xs ≡ map g xs
 map-same f g done = refl
 map-same f g (more h hs) = ap₂ (λ a b. a ∷ b) h (map-same f g hs)
 
@@ -203,7 +203,7 @@ module _ (texts z : List ℕ) where
       let k = kinds-same m rs in
       λ i. cond (eqb (kindOf m) 8) (skipped (p i)) (nonSuccess (cond (eqb (kindOf m) 6) failure error) (p i) (k i) (q i))
 
-  case-same : (b : Branch) → isCase (b .head) ≡ true → Kept texts (b .head) → Each (Kept texts) (b .below) → caseOf (texts ++ z) b ≡ caseOf texts b
+  pub case-same : (b : Branch) → isCase (b .head) ≡ true → Kept texts (b .head) → Each (Kept texts) (b .below) → caseOf (texts ++ z) b ≡ caseOf texts b
   case-same b e k h =
       let s = kept-at 3 (lit≤ tt) k (eqb-true (kindOf (b .head)) 3 e) .1 in
       let n = named-same texts z refl s in
@@ -225,7 +225,7 @@ module _ (texts z : List ℕ) where
         properties = p i;
       }
 
-  suite-same : (b : Branch) → isSuite (b .head) ≡ true → Kept texts (b .head) → Each (Kept texts) (b .below) → suiteOf (texts ++ z) b ≡ suiteOf texts b
+  pub suite-same : (b : Branch) → isSuite (b .head) ≡ true → Kept texts (b .head) → Each (Kept texts) (b .below) → suiteOf (texts ++ z) b ≡ suiteOf texts b
   suite-same b e k h =
       let s = kept-at 2 (lit≤ tt) k (eqb-true (kindOf (b .head)) 2 e) .1 in
       let n = named-same texts z refl s in
@@ -245,7 +245,7 @@ module _ (texts z : List ℕ) where
         extra = x i;
       }
 
-  head-same : {r : List ℕ} → live r ≡ true → Kept texts r → first (texts ++ z) r ≡ first texts r
+  pub head-same : {r : List ℕ} → live r ≡ true → Kept texts r → first (texts ++ z) r ≡ first texts r
   head-same e (alive f h) = any-first texts z f h
   head-same {r} e (gone l a b) = absurd (let h = ltb-true (kindOf r) 16 e in omega arith)
 
