@@ -15,9 +15,8 @@ use Rattle.tree_counts.specs.Counts.{caseCounts, withSuite, kept}
 use Rattle.write_table.specs.Laid.{fits}
 use Rattle.write_answer.specs.Answer.{Sizes, wrote, eventsLeft, attributesLeft, bytesLeft, writingAnswer, leftFor}
 use Rattle.write_answer.specs.Answer as writing
-use Rattle.public_claims.specs.Demand3.{answerTo}
 use Rattle.port_values.specs.Codes.{outcomeAt}
-use Rattle.call_claims.specs.Demand1.{Late, Ends, completes, WriteZero, codedCase, Demand1}
+use Rattle.call_claims.specs.Demand1.{Late, Ends, completes, WriteZero, codedCase, Demand1, answerTo}
 use Rattle.call_claims.proofs.TokenCall.{tokenize-ends}
 use Rattle.call_claims.proofs.ReadCall.{numbered, read-zero, read-placed}
 use Rattle.call_claims.proofs.LateCalls.{Within, ends, ends-leaving, within-late, within-suite}

@@ -19,7 +19,7 @@ use Rattle.read_element.proofs.Rooms.{Short, lacking}
 use Rattle.read_machine.specs.Machine.{Machine, run, begin}
 use Rattle.read_machine.specs.Reading.{Read, readAs, reading}
 use Rattle.read_machine.proofs.RoomsReading.{areas-suffice}
-use Rattle.public_claims.specs.Demand3.{Table, Areas, answerTo}
+use Rattle.read_report.specs.Answer.{Table, Areas}
 use Rattle.xml_machine.specs.Runs as verdict
 use Rattle.xml_machine.specs.Tokens.{Kept, resulting, roomOf, tokens}
 use Rattle.xml_machine.specs.Tokens as token
@@ -28,6 +28,7 @@ use Rattle.xml_tokens.proofs.Tables.{room-most}
 use Rattle.xml_tokens.proofs.Answers.{Answered, over, short, told, answered}
 use Rattle.xml_tokens.proofs.Answers as due
 use Rattle.explain_xml.specs.XmlExplanation.{holdsMost}
+use Rattle.call_claims.specs.Demand1.{answerTo}
 
 -- ---- reading: an area beyond the limits is worth one of the limits' size
 abbrev cut : Areas → Areas

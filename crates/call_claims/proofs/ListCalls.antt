@@ -21,8 +21,9 @@ use Rattle.list_text.specs.Listing.{listingOf, listingAnswer, outcomeOf, listed
 use Rattle.explain_text.specs.Explanation.{lineOf, lineAnswer, explained, explanationIn}
 use Rattle.explain_xml.specs.XmlExplanation.{xmlLine, xmlLineAnswer, xmlExplanationIn}
 use Rattle.public_claims.specs.PublicListing.{refusedText, written, behindReading, publicListing}
-use Rattle.public_claims.specs.Demand3.{Table, Areas, answerTo, listing}
-use Rattle.call_claims.specs.Demand1.{readNumbers, isOneOf, Placed, Late, Ends, completes, readingOf, ReadZero}
+use Rattle.read_report.specs.Answer.{Table, Areas}
+use Rattle.read_report.specs.Called.{called}
+use Rattle.call_claims.specs.Demand1.{readNumbers, isOneOf, Placed, Late, Ends, completes, ReadZero, answerTo, listing}
 use Rattle.call_claims.proofs.ReadCall.{read-zero, read-placed}
 use Rattle.call_claims.proofs.LateCalls.{Within, ends, ends-leaving, within-late}
 
@@ -98,7 +99,7 @@ module _ (t : Table) (a : Areas) where
   public-ends = ends (answerTo t a) (read-placed t a) not-listed
 
   -- what reading leaves is a layout
-  left-layout : answerTo t a ≡ accepted tt → layout (readingOf t a .words) (readingOf t a .text) ≡ true
+  left-layout : answerTo t a ≡ accepted tt → layout (called t a .words) (called t a .text) ≡ true
   unfolding readAs
   left-layout e =
       let n = a .words in
@@ -108,15 +109,15 @@ module _ (t : Table) (a : Areas) where
       ap (λ (r : Read). layout (r .words) (r .text)) (h .2)
       ∙ reading-layout n m k (resolve (t .events) (t .attributes) (t .source)) (h .0) (resolve-fair (t .events) (t .attributes) (t .source)) (h .1)
 
-  pub output-ends : answerTo t a ≡ accepted tt → Ends (Late (16 ∷ [])) (listing t a ≡ refusedText) (listed (readingOf t a .words) (readingOf t a .text) (a .output))
+  pub output-ends : answerTo t a ≡ accepted tt → Ends (Late (16 ∷ [])) (listing t a ≡ refusedText) (listed (called t a .words) (called t a .text) (a .output))
   unfolding publicListing listingAnswer
   output-ends e = ends-leaving (go (layout words text) (left-layout e)) λ why q. behind-any (answerTo t a) _ (written-refused (listingAnswer words text (a .output)) _ why q)
     where
       words : List ℕ
-      words = readingOf t a .words
+      words = called t a .words
 
       text : List ℕ
-      text = readingOf t a .text
+      text = called t a .text
 
       go : (b : Bool) → b ≡ true → Within (16 ∷ []) (outcomeOf (cond b (placing cause.OutputFull (a .output) (listingOf words text)) (fails cause.NotLayout)))
       go true q = within-placing refl (a .output) (listingOf words text)

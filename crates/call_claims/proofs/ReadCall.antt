@@ -20,8 +20,8 @@ use Rattle.read_element.proofs.Rooms.{IsShort}
 use Rattle.read_machine.specs.Machine.{Machine, run, begin}
 use Rattle.read_machine.specs.Reading.{readAs, reading, deserialize}
 use Rattle.read_machine.proofs.RoomsReading.{reading-refuses}
-use Rattle.public_claims.specs.Demand3.{Table, Areas, answerTo}
-use Rattle.call_claims.specs.Demand1.{allNumbers, readNumbers, isOneOf, Placed, ReadZero}
+use Rattle.read_report.specs.Answer.{Table, Areas}
+use Rattle.call_claims.specs.Demand1.{allNumbers, readNumbers, isOneOf, Placed, answerTo, ReadZero}
 use Rattle.call_claims.proofs.PathsElement.{Told, fine, told, told-path, told-bind}
 use Rattle.call_claims.proofs.Paths.{told-run}
 

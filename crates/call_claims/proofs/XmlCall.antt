@@ -16,12 +16,13 @@ use Rattle.read_machine.specs.Reading.{deserialize}
 use Rattle.read_machine.proofs.RoomsReading.{reading-refuses}
 use Rattle.list_text.specs.Listing.{listed}
 use Rattle.public_claims.specs.PublicListing.{refusedText}
-use Rattle.public_claims.specs.Demand3.{Table, Areas, answerTo, listing}
+use Rattle.read_report.specs.Answer.{Table, Areas}
 use Rattle.xml_machine.specs.Tokens as token
 use Rattle.xml_listing.specs.XmlListing.{listingBy, areasBy, xmlListing, xmlAreas}
 use Rattle.xml_listing.specs.XmlListing as xml
 use Rattle.xml_tokens.proofs.Tables.{table-good}
-use Rattle.call_claims.specs.Demand1.{readNumbers, documentNumbers, tokenNumbers, isOneOf, Placed, Late, Ends, AtByte, Tokenizes, tabled, stops, readingOf, TokensZero}
+use Rattle.read_report.specs.Called.{called}
+use Rattle.call_claims.specs.Demand1.{readNumbers, documentNumbers, tokenNumbers, isOneOf, Placed, Late, Ends, AtByte, Tokenizes, tabled, stops, TokensZero, answerTo, listing}
 use Rattle.call_claims.specs.Demand1.{Document, tokensOf, tableOf, lentOf, documentListing, documentAreas, NotListed}
 use Rattle.call_claims.proofs.TokenCall.{tokenize-ends}
 use Rattle.call_claims.proofs.ReadCall.{not-table, read-zero, read-placed}
@@ -62,15 +63,15 @@ module _ (d : Document) (a : Areas) where
     unfolding xmlListing
     listed-so = ap textBy e
 
-    words-so : documentAreas d a .words ≡ readingOf t a .words
+    words-so : documentAreas d a .words ≡ called t a .words
     unfolding xmlAreas
     words-so = ap (λ (o : token.Answer). leftBy o .words) e
 
-    text-so : documentAreas d a .text ≡ readingOf t a .text
+    text-so : documentAreas d a .text ≡ called t a .text
     unfolding xmlAreas
     text-so = ap (λ (o : token.Answer). leftBy o .text) e
 
-    scratch-so : documentAreas d a .scratch ≡ readingOf t a .scratch
+    scratch-so : documentAreas d a .scratch ≡ called t a .scratch
     unfolding xmlAreas
     scratch-so = ap (λ (o : token.Answer). leftBy o .scratch) e
 

@@ -76,8 +76,8 @@
 --   zeros (crate area: Area)                                    an area that is zero throughout
 --   refusedText (crate public_claims: PublicListing)            `(refused)` and a newline
 --
--- Table, Areas, answerTo and listing are those of demand 3 (crate public_claims: Demand3). Of areas that are lent for results only the lengths count,
--- but for a builder's, which hold what was built so far.
+-- Table and Areas are those of demand 3 (crate read_report: Answer). Of areas that are lent for results only the lengths count, but for a builder's,
+-- which hold what was built so far. What reading and the public listing are on values stands in Calls (crate public_claims).
 use Prim.Native.Nat.{ℕ, _≤_}
 use mathlib.Core.Path.{_≡_}
 use mathlib.Core.List.{List, [], _∷_}
@@ -95,13 +95,14 @@ use Rattle.uuid.specs.declared.Words.{Words}
 use Rattle.tree_counts.specs.declared.Counts.{Counts}
 use Rattle.tree_counts.specs.declared.Outcome.{Outcome as Status}
 use Rattle.tree_counts.specs.Counts.{withSuite, withCase, kept}
-use Rattle.read_machine.specs.Reading.{Read, reading}
+use Rattle.read_report.specs.Answer.{Table, Areas}
+use Rattle.read_report.specs.Called.{called}
 use Rattle.list_text.specs.Listing.{outcomeOf, listed, outputOf}
 use Rattle.time_text.specs.Written.{writtenTime, whole}
 use Rattle.explain_text.specs.Explanation.{explained, explanationIn}
 use Rattle.write_answer.specs.Answer.{wrote, eventsLeft, attributesLeft, bytesLeft}
+use Rattle.public_claims.specs.PublicListing as public
 use Rattle.public_claims.specs.PublicListing.{refusedText}
-use Rattle.public_claims.specs.Demand3.{Table, Areas, answerTo, listing}
 use Rattle.build_draft.specs.declared.Element.{Element}
 use Rattle.build_draft.specs.declared.Holder.{Holder}
 use Rattle.build_draft.specs.declared.TextField.{TextField}
@@ -163,18 +164,22 @@ pub data Tokenizes (Given : ℕ → ℕ → Type 0) (Left : Type 0) : token.Answ
   tabled : {events attributes : ℕ} → Tokenizes Given Left (token.done-with events attributes)
   stops : {n byte : ℕ} → Given n byte → Left → Tokenizes Given Left (token.refused n byte)
 
--- ---- areas behind a refusal, each zero throughout and as long as it was lent
-abbrev pub readingOf : Table → Areas → Read
-readingOf t a = reading (t .events) (t .attributes) (t .source) (a .words) (a .text) (a .scratch)
+-- ---- what reading answers, and what is listed behind it
+abbrev pub answerTo : Table → Areas → Outcome (Unit {0})
+answerTo t a = called t a .outcome
 
+abbrev pub listing : Table → Areas → List ℕ
+listing t a = public.publicListing (t .events) (t .attributes) (t .source) (a .words) (a .text) (a .scratch) (a .output)
+
+-- ---- areas behind a refusal, each zero throughout and as long as it was lent
 pub record TokensZero (n m : ℕ) (r : token.Result) : Type 0 where
   pub events : r .events ≡ zeros n
   pub attributes : r .attributes ≡ zeros m
 
 pub record ReadZero (t : Table) (a : Areas) : Type 0 where
-  pub words : readingOf t a .words ≡ zeros (a .words)
-  pub text : readingOf t a .text ≡ zeros (a .text)
-  pub scratch : readingOf t a .scratch ≡ zeros (a .scratch)
+  pub words : called t a .words ≡ zeros (a .words)
+  pub text : called t a .text ≡ zeros (a .text)
+  pub scratch : called t a .scratch ≡ zeros (a .scratch)
 
 pub record WriteZero (words text : List ℕ) (n m k : ℕ) : Type 0 where
   pub events : eventsLeft words text n m k ≡ zeros n
@@ -281,7 +286,7 @@ pub record Demand1 : Type 0 where
   pub publicListing : (t : Table) (a : Areas) → Ends (Placed readNumbers) (ReadZero t a × (listing t a ≡ refusedText)) (answerTo t a)
   -- and where listing refuses what reading left, which is for 16 only; records and text stay as reading left them.
   pub publicOutput : (t : Table) (a : Areas) → answerTo t a ≡ accepted tt
-      → Ends (Late (16 ∷ [])) (listing t a ≡ refusedText) (listed (readingOf t a .words) (readingOf t a .text) (a .output))
+      → Ends (Late (16 ∷ [])) (listing t a ≡ refusedText) (listed (called t a .words) (called t a .text) (a .output))
   -- So does the public listing of a document: `(refused)` where tokenizing refuses; both tables are zero then, and so are records, text and scratch;
   pub listXml : (d : Document) (a : Areas)
       → Tokenizes (AtByte tokenNumbers) (TokensZero (d .events) (d .attributes) (tokensOf d) × NotListed d a) (tokensOf d .answer)

@@ -12,7 +12,7 @@ use Rattle.read_element.specs.Outcome.{Rooms}
 use Rattle.read_machine.specs.Machine.{Machine, run, begin}
 use Rattle.list_text.specs.Listing.{PublicReport, render, renderedOr}
 use Rattle.public_claims.specs.Agree.{public}
-use Rattle.public_claims.specs.PublicMachine.{reportIn, publicReport, renderedPublic, publicText}
+use Rattle.public_claims.specs.inside.PublicMachine.{reportIn, publicReport, renderedPublic, publicText}
 use Rattle.public_claims.proofs.Trees.{publicOr, report-same}
 use Rattle.public_claims.proofs.Plans.{run-shows}
 use Rattle.public_claims.specs.OwnStatus.{ownStatuses, casesListed, Ruled}

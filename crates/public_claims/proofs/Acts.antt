@@ -22,7 +22,7 @@ use Rattle.read_place.specs.Marks.{Marks, marksAfter, onward}
 use Rattle.read_content.specs.Content.{Content, killed, killAll, killKind, propertyKind, recordOf, wordOf, bitOf, takes, kept, adding}
 use Rattle.read_content.specs.Content.{withRecords, withTexts, cleaned, keeping, isEmpty, describing, outputting, perform}
 use Rattle.public_claims.specs.Agree.{blanked}
-use Rattle.public_claims.specs.PublicMachine.{Node, nodesFor, publicAct, Sort, sortOf, unlisted, nodesOf, said, unsaid}
+use Rattle.public_claims.specs.inside.PublicMachine.{Node, nodesFor, publicAct, Sort, sortOf, unlisted, nodesOf, said, unsaid}
 use Rattle.public_claims.proofs.Holding.{Holds, accept, refusing, bind, weaken, needing, choosing}
 use Rattle.read_report.proofs.Words.{text-keeps}
 use Rattle.public_claims.proofs.View.{look, looks, looks-append, looks-changed, looks-killAll, looks-killKind, look-outputs, look-status}

@@ -6,7 +6,7 @@ use mathlib.Core.Bool.{Bool, true, false, cond}
 use mathlib.Core.Option.{Option}
 use Rattle.tree_report.specs.Report.{Text, Counts, Duration}
 use Rattle.list_text.specs.Listing.{PublicCase, PublicSuite}
-use Rattle.public_claims.specs.PublicMachine.{Node, reportNode, suiteNode, caseNode, mainNode, runNode, isSuiteNode, isCaseNode, upToNext, caseFrom, casesIn, suitesIn, reportIn}
+use Rattle.public_claims.specs.inside.PublicMachine.{Node, reportNode, suiteNode, caseNode, mainNode, runNode, isSuiteNode, isCaseNode, upToNext, caseFrom, casesIn, suitesIn, reportIn}
 use Rattle.public_claims.specs.OwnStatus.{casesOfAll, casesListed}
 use Rattle.public_claims.proofs.Acts.{impossible}
 use Rattle.public_claims.proofs.Rules.{Codes, no-code, main-code, run-code}

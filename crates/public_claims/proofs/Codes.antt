@@ -6,7 +6,7 @@ use mathlib.Core.Bool.{Bool, true, false, cond}
 use borrow.Author.Tests.{eqb-true}
 use lib.Dec.{eqb}
 use Rattle.names.specs.Keys.{isPublic}
-use Rattle.public_claims.specs.PublicMachine.{Said, notListed, fieldOf, say}
+use Rattle.public_claims.specs.inside.PublicMachine.{Said, notListed, fieldOf, say}
 
 -- a key that has none of the fourteen codes
 pub record Other (c : ℕ) : Type 0 where

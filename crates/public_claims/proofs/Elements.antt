@@ -20,8 +20,8 @@ use Rattle.read_keys.proofs.RoleLaws.{Each, role-each}
 use Rattle.tree_put.specs.Put.{blank}
 use Rattle.read_element.specs.Attributes.{Given, Grown, numbered, readAttributes, readElement, complete}
 use Rattle.public_claims.specs.Agree.{blanked}
-use Rattle.public_claims.specs.PublicMachine.{Said, unsaid, fieldOf, say, said, Node, reportNode, suiteNode, caseNode, mainNode, runNode}
-use Rattle.public_claims.specs.PublicMachine.{Sort, aReport, aSuite, aCase, aMain, aRun, unlisted, sortOf, orEmpty, nodesOf, nodesFor}
+use Rattle.public_claims.specs.inside.PublicMachine.{Said, unsaid, fieldOf, say, said, Node, reportNode, suiteNode, caseNode, mainNode, runNode}
+use Rattle.public_claims.specs.inside.PublicMachine.{Sort, aReport, aSuite, aCase, aMain, aRun, unlisted, sortOf, orEmpty, nodesOf, nodesFor}
 use Rattle.public_claims.proofs.Holding.{Holds, accept, bind, needing}
 use Rattle.public_claims.proofs.Codes.{Code, codeOf, blank-same}
 use Rattle.public_claims.proofs.View.{lookAs, looks, sort-main, sort-run}

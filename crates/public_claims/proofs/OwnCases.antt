@@ -22,8 +22,8 @@ use Rattle.read_content.specs.Content.{Content, perform}
 use Rattle.read_machine.specs.Machine.{Machine, act, step, run, begin}
 use Rattle.list_text.specs.Listing.{PublicCase}
 use Rattle.public_claims.specs.Agree.{blanked, public, PublicEvent, PublicTag, PublicEof, PublicFault}
-use Rattle.public_claims.specs.PublicMachine.{Node, caseNode, Said, said, unsaid, Sort, aSuite, aCase, sortOf, orEmpty, nodesOf, nodesFor}
-use Rattle.public_claims.specs.PublicMachine.{publicAct, PublicState, acting, ending, publicStep, publicRun, nodesRead, publicReport, caseFrom}
+use Rattle.public_claims.specs.inside.PublicMachine.{Node, caseNode, Said, said, unsaid, Sort, aSuite, aCase, sortOf, orEmpty, nodesOf, nodesFor}
+use Rattle.public_claims.specs.inside.PublicMachine.{publicAct, PublicState, acting, ending, publicStep, publicRun, nodesRead, publicReport, caseFrom}
 use Rattle.public_claims.specs.OwnStatus.{Spot, atReport, inSuite, inCase, inStatus, over, isStatusName, move, ownAt, leaves, ownFrom}
 use Rattle.public_claims.specs.OwnStatus.{beginsReport, casesFrom, ownStatuses, rule, verdictOf, casesListed, Ruled, no-case, one-case}
 use Rattle.public_claims.proofs.Holding.{Holds, accept, refusing, held, bind, weaken, testing, anything}

@@ -18,7 +18,7 @@ use Rattle.read_path.specs.Paths.{actPlace}
 use Rattle.read_content.specs.Content.{Content, joinPiece, gather, perform}
 use Rattle.read_machine.specs.Machine.{Machine, act, step, run, begin}
 use Rattle.public_claims.specs.Agree.{blanked, public}
-use Rattle.public_claims.specs.PublicMachine.{Node, PublicState, acting, ending, publicStep, publicRun, publicBegin, nodesRead}
+use Rattle.public_claims.specs.inside.PublicMachine.{Node, PublicState, acting, ending, publicStep, publicRun, publicBegin, nodesRead}
 use Rattle.public_claims.proofs.Holding.{Holds, accept, refusing, held, bind, weaken, needing, choosing, anything}
 use Rattle.tree_report.specs.Fields.{kindOf}
 use lib.ListN.{getD}

@@ -12,7 +12,7 @@ use Rattle.tree_report.specs.Report.{Text, Duration}
 use Rattle.tree_status.specs.declared.Tally.{Tally}
 use Rattle.tree_status.specs.Status.{noStatus, tallied, ruled}
 use Rattle.list_text.specs.Listing.{Status, isSuccess, isSkipped, RunKind, noKind, flakyKind, rerunKind, PublicRun}
-use Rattle.public_claims.specs.PublicMachine.{Node, mainNode, runNode, mainsIn, runsIn, runCodesIn, nodeStatus, familyOf, nodeKind, nodeRuns, caseFrom}
+use Rattle.public_claims.specs.inside.PublicMachine.{Node, mainNode, runNode, mainsIn, runsIn, runCodesIn, nodeStatus, familyOf, nodeKind, nodeRuns, caseFrom}
 use Rattle.public_claims.specs.OwnStatus.{verdict, mains, flakies, reruns, mainStatus, ruleFor, rule, verdictOf}
 use Rattle.public_claims.proofs.Acts.{impossible}
 

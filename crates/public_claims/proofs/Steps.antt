@@ -17,7 +17,7 @@ use Rattle.read_keys.specs.Roles.{roleIn, reportRole, suiteRole, caseRole, stat
 use Rattle.tree_record.specs.Record.{marked}
 use Rattle.tree_put.specs.Put.{putText, putCount, putTime}
 use Rattle.read_element.specs.Attributes.{Given}
-use Rattle.public_claims.specs.PublicMachine.{Said, Field, theTests, theFailures, theErrors, theSkipped, theDisabled, fieldOf, say, integerValue, aReport, aSuite, aCase, aRun}
+use Rattle.public_claims.specs.inside.PublicMachine.{Said, Field, theTests, theFailures, theErrors, theSkipped, theDisabled, fieldOf, say, integerValue, aReport, aSuite, aCase, aRun}
 use Rattle.read_report.proofs.Words.{Keeps, keeps-all, pair-keeps, text-keeps, marked-there, marked-first, marked-second, count-there, number-there, text-there}
 use Rattle.public_claims.proofs.View.{keeps-number, keeps-time, keeps-disabled, keeps-counts}
 use Rattle.public_claims.proofs.Codes.{Code, code1, code2, code3, code4, code5, code6, code7, code8, code9, code10, code11, code12, code13, code14, further, Other, field-other}

@@ -13,8 +13,8 @@ use Rattle.tree_report.specs.Fields.{kindOf, live, isSuite, isCase, isMain, isR
 use Rattle.tree_report.specs.ReportOf.{only, until, branches, runOf, kindOfRuns, statusOf, reasonOf, caseOf, suiteOf, reportFrom}
 use Rattle.list_text.specs.Listing.{Status, isFailure, isError, isSkipped, RunKind, noKind, flakyKind, rerunKind, PublicRun, PublicCase, PublicSuite}
 use Rattle.list_text.specs.Listing.{PublicReport, publicRun, kindShown, statusShown, runKindShown, runsShown, publicCase, publicSuite, publicPart}
-use Rattle.public_claims.specs.PublicMachine.{Node, reportNode, suiteNode, caseNode, mainNode, runNode, Sort, aReport, aSuite, aCase, aMain, aRun, unlisted, sortOf, isSuiteNode}
-use Rattle.public_claims.specs.PublicMachine.{isCaseNode, upToNext, mainsIn, runsIn, runCodesIn, nodeStatus, familyOf, nodeKind, nodeRuns, caseFrom, casesIn, suitesIn, reportIn}
+use Rattle.public_claims.specs.inside.PublicMachine.{Node, reportNode, suiteNode, caseNode, mainNode, runNode, Sort, aReport, aSuite, aCase, aMain, aRun, unlisted, sortOf, isSuiteNode}
+use Rattle.public_claims.specs.inside.PublicMachine.{isCaseNode, upToNext, mainsIn, runsIn, runCodesIn, nodeStatus, familyOf, nodeKind, nodeRuns, caseFrom, casesIn, suitesIn, reportIn}
 use Rattle.public_claims.proofs.View.{lookAs, look, looks, sort-dead}
 use Rattle.public_claims.proofs.Said.{Solid}
 use Rattle.public_claims.proofs.Acts.{heads, impossible}

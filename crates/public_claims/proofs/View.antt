@@ -13,7 +13,7 @@ use Rattle.tree_report.specs.Report.{Text, Counts, Duration}
 use Rattle.tree_report.specs.Fields.{kindOf, hasBit, given, textAt, numberAt, first, second, time, counts}
 use Rattle.read_element.specs.Attributes.{changed}
 use Rattle.read_content.specs.Content.{killed, killAll, killKind}
-use Rattle.public_claims.specs.PublicMachine.{Node, reportNode, suiteNode, caseNode, mainNode, runNode, Sort, aReport, aSuite, aCase, aMain, aRun, unlisted, sortOf}
+use Rattle.public_claims.specs.inside.PublicMachine.{Node, reportNode, suiteNode, caseNode, mainNode, runNode, Sort, aReport, aSuite, aCase, aMain, aRun, unlisted, sortOf}
 use Rattle.read_report.proofs.Words.{Keeps}
 
 abbrev pub lookAs : Sort → List ℕ → List ℕ → List Node

@@ -21,7 +21,7 @@ use Rattle.read_state.specs.Control.{orSkip, turn}
 use Rattle.read_rules.specs.Rules.{outputs, atTop, atSuite, atCase, planAt, planEof}
 use Rattle.list_text.specs.Listing.{isFailure, rerunKind, render, renderPublic, header, suiteText, caseText, runText}
 use Rattle.public_claims.specs.Agree.{isPublicKey, PublicEvent, PublicTag, PublicEof}
-use Rattle.public_claims.specs.PublicMachine.{fieldOf, said, sortOf, publicAct, acting, ending, publicStep, publicRun, nodesRead, publicReport, publicText}
+use Rattle.public_claims.specs.inside.PublicMachine.{fieldOf, said, sortOf, publicAct, acting, ending, publicStep, publicRun, nodesRead, publicReport, publicText}
 use Rattle.public_claims.specs.OwnStatus.{ownStatuses, casesFrom, ownFrom, move, rule, verdict}
 
 abbrev twoTests : Counts

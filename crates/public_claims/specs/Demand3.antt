@@ -1,77 +1,56 @@
 -- Demand 3, whole: what is claimed of the public listing. The claims are types; proofs/Demand3.antt has a proof of each. Definitions only.
 --
 -- Whoever wants to be sure of what is claimed reads these definitions, each beside the rules (docs/RULES.md) that it states:
---   tableOf, resolve (crate table: Table, Event)       refusal 11; a table's events with their bytes and attributes
---   reading (crate read_machine: Reading)                   what reading answers and leaves in its areas: the promise of the call
---   deserialize (crate read_machine: Reading)               the report that the rules of reading give for events, with no areas
---   render (crate list_text: Listing)                       the text of a report's listing
---   listingAnswer, outputOf (crate list_text: Listing)      what listing answers and leaves in the output area: the promise of the call
---   refusedText, publicListing (PublicListing)         both calls, one behind the other
---   public, tablesAgree (Agree)                        the public part of a table; when two tables agree
---   publicText (PublicMachine)                         the listing as read from public events alone, with no areas and no private text
---   ownStatuses, rule, Ruled (OwnStatus)               each case's own status elements in a table, the status rule, and both side by side
+--   tableOf, resolve (crate table: Table, Event)                refusal 11; a table's events with their bytes and attributes
+--   deserialize, deserializeIn (crate read_report: Deserialize) the report that the rules of reading give for events, with no areas; and in areas
+--   answerTo (crate read_report: Answer)                        what reading a table answers
+--   render (crate list_text: Listing)                           the text of a report's listing
+--   refusedText (PublicListing)                                 what stands for any refusal
+--   public, tablesAgree (Agree)                                 the public part of a table; when two tables agree
+--   ownStatuses, rule, Ruled (OwnStatus)                        each case's own status elements in a table, the status rule, and both side by side
 --
--- `reading` and `outputOf` take the lengths of the areas and not what these held before: no claim depends on old contents.
+-- That the calls answer and list this, whatever the areas held before, is what Calls claims.
 use Prim.Native.Nat.{ℕ, _<_}
 use mathlib.Core.Path.{_≡_}
 use mathlib.Core.List.{List}
 use mathlib.Core.Bool.{Bool, true, false, cond}
-use mathlib.Core.Option.{some}
 use mathlib.Core.Logic.{_⊎_, _↔_}
 use lib.Dec.{leb}
 use lib.ListN.{length}
 use Rattle.refusal.specs.Refusal.{Refused, Outcome, accepted, refused}
 use Rattle.refusal.specs.declared.Cause.the-variants.{RecordsSpent, TextFull, ScratchFull}
-use Rattle.table.specs.Event.{Event, resolve}
-use Rattle.table.specs.Table.{tableOf}
 use Rattle.tree_report.specs.Report.{Report}
-use Rattle.read_machine.specs.Reading.{reading, deserialize}
+use Rattle.read_report.specs.Deserialize.{deserialize}
+use Rattle.read_report.specs.Answer.{Table, Areas, eventsOf, checked, answerTo}
 use Rattle.list_text.specs.Listing.{PublicCase, publicPart, render}
 use Rattle.public_claims.specs.Agree.{public, tablesAgree}
-use Rattle.public_claims.specs.PublicMachine.{publicText}
 use Rattle.public_claims.specs.OwnStatus.{ownStatuses, casesOfAll, Ruled}
-use Rattle.public_claims.specs.PublicListing.{refusedText, isAccepted, publicListing}
+use Rattle.public_claims.specs.PublicListing.{refusedText, isAccepted}
 
 -- ---- what the claims speak of
--- a table is any words and bytes
-pub record Table : Type 0 where
-  pub events : List ℕ
-  pub attributes : List ℕ
-  pub source : List ℕ
-
--- lengths of areas, any: the record area's words, the bytes of the text area, of scratch and of the output area
-pub record Areas : Type 0 where
-  pub words : ℕ
-  pub text : ℕ
-  pub scratch : ℕ
-  pub output : ℕ
-
-abbrev pub eventsOf : Table → List Event
-eventsOf t = resolve (t .events) (t .attributes) (t .source)
-
--- what reading answers
-abbrev pub answerTo : Table → Areas → Outcome (Unit {0})
-answerTo t a = reading (t .events) (t .attributes) (t .source) (a .words) (a .text) (a .scratch) .outcome
-
 -- reading accepts
 abbrev pub isRead : Table → Areas → Bool
 isRead t a = isAccepted (answerTo t a)
-
--- rule L3
-abbrev pub listing : Table → Areas → List ℕ
-listing t a = publicListing (t .events) (t .attributes) (t .source) (a .words) (a .text) (a .scratch) (a .output)
-
--- rule L2
-abbrev pub Agreeing : Table → Table → Type 0
-Agreeing t u = tablesAgree (t .events) (t .attributes) (t .source) (u .events) (u .attributes) (u .source)
 
 -- a text in an output area of n bytes; `(refused)` if that is too short, 16
 abbrev pub fitted : ℕ → List ℕ → List ℕ
 fitted n f = cond (leb (length f) n) f refusedText
 
+-- listing behind reading (rule L3)
+abbrev pub listedAs : ℕ → Outcome Report → List ℕ
+listedAs n (accepted r) = fitted n (render r)
+listedAs n (refused why) = refusedText
+
+abbrev pub listing : Table → Areas → List ℕ
+listing t a = listedAs (a .output) (answerTo t a)
+
+-- rule L2
+abbrev pub Agreeing : Table → Table → Type 0
+Agreeing t u = tablesAgree (t .events) (t .attributes) (t .source) (u .events) (u .attributes) (u .source)
+
 -- the report that the rules of reading give, whatever the areas
 abbrev pub IsReport : Table → Report → Type 0
-IsReport t r = deserialize (eventsOf t) ≡ accepted (some r)
+IsReport t r = deserialize (eventsOf t) ≡ accepted r
 
 -- all cases of a report, as they are listed and in that order
 abbrev pub casesOf : Report → List PublicCase
@@ -83,7 +62,7 @@ TooShort t a = (r : Report) × IsReport t r × (a .output < length (render r))
 
 -- why reading refuses with r: 11, which comes first (rule T6)
 abbrev pub RefusesTable : Table → Refused → Type 0
-RefusesTable t r = tableOf (t .events) (t .attributes) (t .source) ≡ refused r
+RefusesTable t r = checked t ≡ refused r
 
 -- the rules of reading refuse the table's events, whatever the areas
 abbrev pub RefusesEvents : Table → Refused → Type 0
@@ -103,8 +82,6 @@ pub record Listed (t : Table) (a : Areas) : Type 0 where
 
 -- ---- the claims
 pub record Demand3 : Type 0 where
-  -- A (rule L4). The listing of an accepted table is what the public machine reads from its public events.
-  pub onlyPublic : (t : Table) (a : Areas) → isRead t a ≡ true → listing t a ≡ fitted (a .output) (publicText (public (eventsOf t)))
   -- B (rule L4). Tables that agree, both accepted or both refused by reading, have the same public listing; so with areas of equal lengths, and also where
   -- only the output areas are equally long.
   pub sameListing : (t u : Table) (a b : Areas) → Agreeing t u → isRead t a ≡ isRead u b → a .output ≡ b .output → listing t a ≡ listing u b

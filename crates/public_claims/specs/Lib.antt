@@ -1,5 +1,6 @@
 pub mod Agree
-pub mod PublicMachine
 pub mod OwnStatus
 pub mod PublicListing
 pub mod Demand3
+pub mod Calls
+pub mod inside

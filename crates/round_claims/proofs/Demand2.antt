@@ -3,50 +3,52 @@ use Prim.Native.Nat.{ℕ, _/_, min, _≤_}
 use mathlib.Core.Path.{_≡_, refl, sym, ap, _∙_}
 use mathlib.Core.List.{List}
 use mathlib.Core.Bool.{Bool, true, cond}
-use mathlib.Core.Option.{Option, some}
+use mathlib.Core.Option.{some}
 use mathlib.Core.Logic.{_⊎_, inl, inr}
 use native.Mathlib.Omega.{arith}
 use borrow.Author.Tests.{le-leb}
 use lib.ListN.{length}
-use Rattle.area.specs.Limits.{mostRecords}
+use Rattle.area.specs.Limits.{mostRecords, mostBytes}
 use Rattle.area.specs.Answer.{Answer}
 use Rattle.refusal.specs.Refusal.{number, OfRules, Refused, Outcome, accepted, refused}
 use Rattle.refusal.specs.declared.Cause.the-variants.{BadTable}
-use Rattle.table.specs.Table.{tableOf}
 use Rattle.tree_report.specs.Report.{Report}
 use Rattle.tree_report.specs.Encode.{rowsOf, wordsOf, textOf, fits as fitsAreas}
-use Rattle.tree_report.specs.Layout.{layout}
-use Rattle.tree_report.specs.ReportOf.{reportOf}
 use Rattle.tree_report.proofs.Encode.{encode-layout, encode-report}
 use Rattle.read_element.specs.Outcome.{_>>=_, roomsOf, unlimited}
 use Rattle.read_element.proofs.Rooms.{short-refusal}
 use Rattle.read_machine.specs.Machine.{Machine, run, begin}
-use Rattle.read_machine.specs.Reading.{Read, readAs, reading, deserialize}
+use Rattle.read_machine.specs.Reading.{Read, readAs, reading}
+use Rattle.read_machine.specs.Reading as present
 use Rattle.read_machine.proofs.RoomsNumbers.{run-number, rules-not-short}
-use Rattle.read_machine.proofs.RoomsReading.{table-refuses, reading-accepts, reading-refuses, deserialize-refuses, areas-suffice}
-use Rattle.read_machine.proofs.TreeReading.{reading-layout, reading-report, reading-some, resolve-fair}
+use Rattle.read_machine.proofs.RoomsReading.{table-refuses, reading-refuses, deserialize-refuses, areas-suffice}
+use Rattle.read_report.specs.Deserialize.{Reader, steps, deserialize, deserializeIn}
+use Rattle.read_report.specs.Deserialize as new
+use Rattle.read_report.specs.Answer.{Table, Areas, eventsOf, checked, answerTo, Holds}
+use Rattle.read_report.specs.Called.{called}
+use Rattle.read_report.proofs.Tables.{report-on-values, refused-on-values, refused-over-words, refusal-on-values, refusal-over-words}
+use Rattle.read_report.proofs.Tables.{accepted-over-words, accepted-on-values, accepts-only, run-behind}
 use Rattle.write_report.specs.Written.{written}
 use Rattle.write_table.specs.Laid.{laidOut, fits}
 use Rattle.write_answer.specs.Answer.{Sizes, outcomeOf}
 use Rattle.write_resolved.proofs.Resolved.{resolve-written, table-written}
 use Rattle.list_text.specs.Listing.{render}
-use Rattle.public_claims.specs.PublicListing.{refusedText, isAccepted}
-use Rattle.public_claims.specs.Demand3.{Table, Areas, eventsOf, answerTo, listing, fitted, IsReport, RefusesTable, RefusesEvents, LacksRoom}
-use Rattle.public_claims.proofs.Demand3.{demand-3}
+use Rattle.public_claims.specs.PublicListing.{refusedText}
+use Rattle.public_claims.specs.Demand3.{listing, listedAs, IsReport, RefusesTable, RefusesEvents, LacksRoom}
 use Rattle.round_elements.specs.Plain.{plain, sound}
 use Rattle.round_sound.proofs.Sound.{layout-sound, layout-rows, layout-room}
 use Rattle.round_rooms.proofs.Sufficing.{reading-roomy}
 use Rattle.round_rooms.proofs.Sparing.{reading-spared}
 use Rattle.round_report.proofs.PlainParts.{conditions}
 use Rattle.round_report.proofs.Reports.{read-back}
-use Rattle.round_trip.proofs.OwnTable.{own-bytes, Roomy, own-accepted, own-layout, own-report}
+use Rattle.round_trip.proofs.OwnTable.{own-bytes, Roomy, own-accepted}
 use Rattle.round_trip.proofs.Areas.{sizesOf, write-accepts, events-used, attributes-used, bytes-used}
-use Rattle.round_claims.specs.Demand2.{Holds, Passes, readingOf, Short, Accepted, Suffice, Ample, Longer, Lent, answerOf, inUse, ownTable, Wrote, lentLimits, limits, Back, Placed, Demand2}
+use Rattle.round_claims.specs.Demand2.{Passes, Short, Suffice, Ample, Longer, Lent, answerOf, inUse, ownTable, Wrote, lentLimits, limits, Back, Placed, Demand2}
 use Rattle.round_claims.proofs.Layouts.{words-length, text-length, words-lent, text-lent}
 
 -- ---- either answer
-either : (o : Outcome (Unit {0})) → (o ≡ accepted tt) ⊎ ((why : Refused) × (o ≡ refused why))
-either (accepted u) = inl refl
+either : {A : Type 0} (o : Outcome A) → ((a : A) × (o ≡ accepted a)) ⊎ ((why : Refused) × (o ≡ refused why))
+either (accepted a) = inl (a, refl)
 either (refused why) = inr (why, refl)
 
 both-answers : {A B : Type 0} {o : Outcome A} {a : A} {why : Refused} → o ≡ accepted a → o ≡ refused why → B
@@ -54,6 +56,9 @@ both-answers p q = let z : _≡_ {A = ℕ} 0 1 = cc in absurd (omega arith)
 
 same-refusal : {A : Type 0} {o : Outcome A} {p q : Refused} → o ≡ refused p → o ≡ refused q → p ≡ q
 same-refusal x y = cc
+
+same-report : {o : Outcome Report} {r q : Report} → o ≡ accepted r → o ≡ accepted q → r ≡ q
+same-report x y = cc
 
 -- 12, 13 and 14
 short-number : (why : Refused) → LacksRoom why → 12 ≤ number (why .cause)
@@ -63,63 +68,52 @@ short-number why (inr (inr e)) = let z : number (why .cause) ≡ 14 = ap number 
 
 module _ (t : Table) (a : Areas) where
   refuses-table : (why : Refused) → RefusesTable t why → answerTo t a ≡ refused why
-  unfolding reading readAs _>>=_
-  refuses-table why e = ap (λ (o : Outcome (Unit {0})). readAs (a .words) (a .text) (a .scratch) (o >>= λ _. run (roomsOf (a .words) (a .text) (a .scratch)) (eventsOf t) begin) .outcome) e
+  unfolding answerTo _>>=_
+  refuses-table why e = ap (λ (o : Outcome (Unit {0})). o >>= λ _. deserializeIn (roomsOf (a .words) (a .text) (a .scratch)) (eventsOf t)) e
 
-  passes-table : answerTo t a ≡ accepted tt → Passes t
-  passes-table e = go (either (tableOf (t .events) (t .attributes) (t .source)))
-    where
-      go : Passes t ⊎ ((why : Refused) × RefusesTable t why) → Passes t
-      go (inl h) = h
-      go (inr h) = both-answers e (refuses-table (h .0) (h .1))
+  -- what the call accepts it answers with the report that the rules give
+  answers-with : (r : Report) → called t a .outcome ≡ accepted tt → IsReport t r → answerTo t a ≡ accepted r
+  answers-with r e d =
+      let h = accepted-on-values t a e in
+      h .1 ∙ ap accepted (same-report (accepts-only t a (h .0) (h .1) .1) d)
 
   -- ---- A
-  accepts-only : answerTo t a ≡ accepted tt → Accepted t a
-  unfolding readAs
-  accepts-only e =
-      let n = a .words in
-      let m = a .text in
-      let k = a .scratch in
-      let h = reading-accepts (t .events) (t .attributes) (t .source) n m k e in
-      let fair = resolve-fair (t .events) (t .attributes) (t .source) in
-      let q = reading-some n m k (eventsOf t) (h .0) fair (h .1) in
-      record {
-        passes = passes-table e;
-        report = q .0;
-        given = h .3 ∙ ap accepted (q .1);
-        left = record {
-          whole = ap (λ (r : Read). layout (r .words) (r .text)) (h .2) ∙ reading-layout n m k (eventsOf t) (h .0) fair (h .1);
-          report = ap (λ (r : Read). reportOf (r .words) (r .text)) (h .2) ∙ reading-report n m k (eventsOf t) (h .0) fair (h .1) ∙ q .1;
-        };
-      }
+  abbrev Refuses : Refused → Type 0
+  Refuses why = (RefusesTable t why × (why .cause ≡ BadTable)) ⊎ (LacksRoom why ⊎ (RefusesEvents t why × OfRules (number (why .cause))))
 
-  refuses-for : (why : Refused) → answerTo t a ≡ refused why → (RefusesTable t why × (why .cause ≡ BadTable)) ⊎ (LacksRoom why ⊎ (RefusesEvents t why × OfRules (number (why .cause))))
-  refuses-for = reading-refuses (t .events) (t .attributes) (t .source) (a .words) (a .text) (a .scratch)
+  refuses-for : (why : Refused) → answerTo t a ≡ refused why → Refuses why
+  refuses-for why e = go (reading-refuses (t .events) (t .attributes) (t .source) (a .words) (a .text) (a .scratch) why (refusal-over-words t a why e))
+    where
+      go : (RefusesTable t why × (why .cause ≡ BadTable)) ⊎ (LacksRoom why ⊎ ((present.deserialize (eventsOf t) ≡ refused why) × OfRules (number (why .cause)))) → Refuses why
+      go (inl h) = inl h
+      go (inr (inl h)) = inr (inl h)
+      go (inr (inr h)) = inr (inr (refused-on-values t why (h .0), h .1))
 
-  accepts-all : (r : Report) → Passes t → IsReport t r → (answerTo t a ≡ accepted tt) ⊎ Short t a
+  accepts-all : (r : Report) → Passes t → IsReport t r → (answerTo t a ≡ accepted r) ⊎ Short t a
   accepts-all r p d = go (either (answerTo t a))
     where
-      short : (why : Refused) → answerTo t a ≡ refused why → (RefusesTable t why × (why .cause ≡ BadTable)) ⊎ (LacksRoom why ⊎ (RefusesEvents t why × OfRules (number (why .cause)))) → Short t a
+      short : (why : Refused) → answerTo t a ≡ refused why → Refuses why → Short t a
       short why e (inl h) = both-answers p (h .0)
       short why e (inr (inl h)) = record { why = why; refuses = e; lacks = h }
       short why e (inr (inr h)) = both-answers d (h .0)
 
-      go : (answerTo t a ≡ accepted tt) ⊎ ((why : Refused) × (answerTo t a ≡ refused why)) → (answerTo t a ≡ accepted tt) ⊎ Short t a
-      go (inl e) = inl e
+      go : ((q : Report) × (answerTo t a ≡ accepted q)) ⊎ ((why : Refused) × (answerTo t a ≡ refused why)) → (answerTo t a ≡ accepted r) ⊎ Short t a
+      go (inl h) = inl (h .1 ∙ ap accepted (same-report (accepts-only t a (h .0) (h .1) .1) d))
       go (inr h) = inr (short (h .0) (h .1) (refuses-for (h .0) (h .1)))
 
   -- ---- B
   refuses-only : (why : Refused) → answerTo t a ≡ refused why → (RefusesTable t why × (number (why .cause) ≡ 11)) ⊎ ((RefusesEvents t why × OfRules (number (why .cause))) ⊎ LacksRoom why)
   refuses-only why e = go (refuses-for why e)
     where
-      go : (RefusesTable t why × (why .cause ≡ BadTable)) ⊎ (LacksRoom why ⊎ (RefusesEvents t why × OfRules (number (why .cause))))
-          → (RefusesTable t why × (number (why .cause) ≡ 11)) ⊎ ((RefusesEvents t why × OfRules (number (why .cause))) ⊎ LacksRoom why)
+      go : Refuses why → (RefusesTable t why × (number (why .cause) ≡ 11)) ⊎ ((RefusesEvents t why × OfRules (number (why .cause))) ⊎ LacksRoom why)
       go (inl h) = inl (h .0, ap number (h .1))
       go (inr (inl h)) = inr (inr h)
       go (inr (inr h)) = inr (inl h)
 
   refuses-all : (why : Refused) → Passes t → RefusesEvents t why → (answerTo t a ≡ refused why) ⊎ Short t a
-  refuses-all why p d = let h = deserialize-refuses (t .events) (t .attributes) (t .source) (a .words) (a .text) (a .scratch) why d in go (h .0) (h .1) (h .2)
+  refuses-all why p d =
+      let h = deserialize-refuses (t .events) (t .attributes) (t .source) (a .words) (a .text) (a .scratch) why (refused-over-words t why d) in
+      go (h .0) (refusal-on-values t a (h .0) (h .1)) (h .2)
     where
       go : (q : Refused) → answerTo t a ≡ refused q → (q ≡ why) ⊎ (LacksRoom q ⊎ RefusesTable t q) → (answerTo t a ≡ refused why) ⊎ Short t a
       go q e (inl h) = inl (e ∙ ap refused h)
@@ -127,10 +121,19 @@ module _ (t : Table) (a : Areas) where
       go q e (inr (inr h)) = both-answers p h
 
   -- ---- C
-  areas-enough : Passes t → Suffice t a → answerTo t a ≡ accepted tt
+  ends-with : (y : Reader) → steps unlimited (eventsOf t) new.begin ≡ accepted y → IsReport t (y .draft .report)
+  unfolding deserialize deserializeIn _>>=_
+  ends-with y e = ap (λ (o : Outcome Reader). o >>= λ s. accepted (s .draft .report)) e
+
+  areas-enough : Passes t → (s : Suffice t a) → answerTo t a ≡ accepted (s .last .draft .report)
   unfolding readAs
   areas-enough p h =
-      ap (λ (r : Read). r .outcome) (reading-roomy (t .events) (t .attributes) (t .source) (a .words) (a .text) (a .scratch) (h .last) p (h .ends) (h .records) (h .texts) (h .scratch))
+      let b = run-behind t (h .last) (h .ends) in
+      let x : length (b .machine .content .records) ≤ min (a .words / 32) mostRecords = let e = b .final .records in let l = h .records in omega (arith, e, l) in
+      let y : length (b .machine .content .texts) ≤ min (a .text) mostBytes = let e = b .final .text in let l = h .texts in omega (arith, e, l) in
+      answers-with (h .last .draft .report)
+      (ap (λ (r : Read). r .outcome) (reading-roomy (t .events) (t .attributes) (t .source) (a .words) (a .text) (a .scratch) (b .machine) p (b .ran) x y (h .scratch)))
+      (ends-with (h .last) (h .ends))
 
   run-refuses : (o : Outcome Machine) (why : Refused) → readAs (a .words) (a .text) (a .scratch) o .outcome ≡ refused why → o ≡ refused why
   unfolding readAs
@@ -139,19 +142,22 @@ module _ (t : Table) (a : Areas) where
 
   never-short : Ample t a → ¬ Short t a
   unfolding _>>=_
-  never-short h s = go (either (tableOf (t .events) (t .attributes) (t .source)))
+  never-short h s = go (either (checked t))
     where
       free : Outcome Machine
       free = run unlimited (eventsOf t) begin
 
-      spared : answerTo t a ≡ readAs (a .words) (a .text) (a .scratch) (tableOf (t .events) (t .attributes) (t .source) >>= λ _. free) .outcome
+      refuses : called t a .outcome ≡ refused (s .why)
+      refuses = refusal-over-words t a (s .why) (s .refuses)
+
+      spared : called t a .outcome ≡ readAs (a .words) (a .text) (a .scratch) (checked t >>= λ _. free) .outcome
       spared = ap (λ (r : Read). r .outcome) (reading-spared (t .events) (t .attributes) (t .source) (a .words) (a .text) (a .scratch) (h .records) (h .texts) (h .scratch))
 
-      go : Passes t ⊎ ((why : Refused) × RefusesTable t why) → ⊥
+      go : ((u : Unit {0}) × (checked t ≡ accepted u)) ⊎ ((why : Refused) × RefusesTable t why) → ⊥
       go (inl p) =
-          let e : answerTo t a ≡ readAs (a .words) (a .text) (a .scratch) free .outcome =
-          spared ∙ ap (λ (o : Outcome (Unit {0})). readAs (a .words) (a .text) (a .scratch) (o >>= λ _. free) .outcome) p in
-          rules-not-short (s .why .cause) (run-number (eventsOf t) begin (s .why) (run-refuses free (s .why) (sym e ∙ s .refuses))) (s .lacks)
+          let e : called t a .outcome ≡ readAs (a .words) (a .text) (a .scratch) free .outcome =
+          spared ∙ ap (λ (o : Outcome (Unit {0})). readAs (a .words) (a .text) (a .scratch) (o >>= λ _. free) .outcome) (p .1) in
+          rules-not-short (s .why .cause) (run-number (eventsOf t) begin (s .why) (run-refuses free (s .why) (sym e ∙ refuses))) (s .lacks)
       go (inr q) =
           let z : q .0 ≡ s .why = same-refusal (refuses-table (q .0) (q .1)) (s .refuses) in
           let e : number (s .why .cause) ≡ 11 = ap (λ (w : Refused). number (w .cause)) (sym z) ∙ ap number (table-refuses (t .events) (t .attributes) (t .source) (q .0) (q .1)) in
@@ -163,13 +169,20 @@ module _ (t : Table) (a : Areas) where
   same-answer n m k (accepted s) = refl
   same-answer n m k (refused why) = refl
 
-  longer-alike : (b : Areas) → Longer a b → ¬ Short t a → answerTo t b ≡ answerTo t a
+  called-alike : (b : Areas) → Longer a b → ¬ Short t a → called t b .outcome ≡ called t a .outcome
   unfolding reading
-  longer-alike b l h =
+  called-alike b l h =
       ap (λ (r : Read). r .outcome)
       (areas-suffice (t .events) (t .attributes) (t .source) (a .words) (a .text) (a .scratch) (b .words) (b .text) (b .scratch)
-      (l .words) (l .text) (l .scratch) (λ s. h (let q = short-refusal s in record { why = q .0; refuses = q .1; lacks = q .2 })))
-      ∙ same-answer (b .words) (b .text) (b .scratch) (tableOf (t .events) (t .attributes) (t .source) >>= λ _. run (roomsOf (a .words) (a .text) (a .scratch)) (eventsOf t) begin)
+      (l .words) (l .text) (l .scratch) (λ s. h (let q = short-refusal s in record { why = q .0; refuses = refusal-on-values t a (q .0) (q .1); lacks = q .2 })))
+      ∙ same-answer (b .words) (b .text) (b .scratch) (checked t >>= λ _. run (roomsOf (a .words) (a .text) (a .scratch)) (eventsOf t) begin)
+
+longer-alike : (t : Table) (a b : Areas) → Longer a b → ¬ Short t a → answerTo t b ≡ answerTo t a
+longer-alike t a b l h = go (either (answerTo t a))
+  where
+    go : ((q : Report) × (answerTo t a ≡ accepted q)) ⊎ ((why : Refused) × (answerTo t a ≡ refused why)) → answerTo t b ≡ answerTo t a
+    go (inl q) = answers-with t b (q .0) (called-alike t a b l h ∙ accepted-over-words t a (q .0) (q .1)) (accepts-only t a (q .0) (q .1) .1) ∙ sym (q .1)
+    go (inr q) = refusal-on-values t b (q .0) (called-alike t a b l h ∙ refusal-over-words t a (q .0) (q .1)) ∙ sym (q .1)
 
 -- ---- D
 module _ (words text : List ℕ) (r : Report) (a : Lent) (h : Holds r words text) (f : fits (laidOut (written r)) (a .events) (a .attributes) (a .bytes) ≡ true) where
@@ -189,14 +202,23 @@ module _ (words text : List ℕ) (r : Report) (a : Lent) (h : Holds r words text
         numbers = sizesOf r;
         writes = writes-so;
         whole = whole-table;
-        passes = ap (λ (t : Table). tableOf (t .events) (t .attributes) (t .source)) whole-table ∙ table-written r (a .events) (a .attributes) (a .bytes) f;
+        passes = ap checked whole-table ∙ table-written r (a .events) (a .attributes) (a .bytes) f;
         events = ap eventsOf whole-table ∙ resolve-written r;
       }
 
 -- ---- E
+own-given : (r : Report) → sound r ≡ true → plain r ≡ true → IsReport (ownTable r) r
+own-given r s p = report-on-values (ownTable r) r (ap present.deserialize (resolve-written r) ∙ read-back r s p)
+
+on-lists : (r : Report) → sound r ≡ true → plain r ≡ true → deserialize (written r) ≡ accepted r
+on-lists r s p = ap deserialize (sym (resolve-written r)) ∙ own-given r s p
+
 module _ (r : Report) (p : plain r ≡ true) (s : sound r ≡ true) (n : length (rowsOf r) ≤ mostRecords) where
   limits-room : (output : ℕ) → Roomy r (limits output .words) (limits output .text) (limits output .scratch)
   limits-room output = let l = own-bytes r p in record { records = omega arith; texts = omega arith; pieces = omega arith }
+
+  own-answer : (output : ℕ) → answerTo (ownTable r) (limits output) ≡ accepted r
+  own-answer output = answers-with (ownTable r) (limits output) r (own-accepted r s p (limits-room output)) (own-given r s p)
 
   back : (words text : List ℕ) → Holds r words text → Back words text r
   back words text h =
@@ -205,22 +227,12 @@ module _ (r : Report) (p : plain r ≡ true) (s : sound r ≡ true) (n : length 
       record {
         numbers = sizesOf r;
         writes = writes-so words text r lentLimits h f;
-        reads = λ o. ap (λ (t : Table). answerTo t (limits o)) e ∙ own-accepted r s p (limits-room o);
-        left = λ o. record {
-          whole = ap (λ (t : Table). layout (readingOf t (limits o) .words) (readingOf t (limits o) .text)) e ∙ own-layout r s p (limits-room o);
-          report = ap (λ (t : Table). reportOf (readingOf t (limits o) .words) (readingOf t (limits o) .text)) e ∙ own-report r s p (limits-room o);
-        };
+        reads = λ o. ap (λ (t : Table). answerTo t (limits o)) e ∙ own-answer o;
       }
 
   -- ---- F
   own-listing : (output : ℕ) → length (render r) ≤ output → listing (ownTable r) (limits output) ≡ render r
-  own-listing output h =
-      let l = demand-3 .listed (ownTable r) (limits output) (ap isAccepted (own-accepted r s p (limits-room output))) in
-      let e : deserialize (eventsOf (ownTable r)) ≡ accepted (some r) = ap deserialize (resolve-written r) ∙ read-back r s p in
-      l .shown ∙ ap (λ (q : Report). fitted output (render q)) (same-report (l .read) e) ∙ ap (λ (b : Bool). cond b (render r) refusedText) (le-leb (length (render r)) output h)
-    where
-      same-report : {o : Outcome (Option Report)} {q : Report} → o ≡ accepted (some q) → o ≡ accepted (some r) → q ≡ r
-      same-report x y = cc
+  own-listing output h = ap (listedAs output) (own-answer output) ∙ ap (λ (b : Bool). cond b (render r) refusedText) (le-leb (length (render r)) output h)
 
 -- ---- G
 lays-out : (r : Report) (n m : ℕ) → fitsAreas r n m ≡ true → Placed r n m
@@ -253,7 +265,7 @@ demand-2 =
       neverShort = never-short;
       longer = longer-alike;
       writes = writes-whole;
-      onLists = read-back;
+      onLists = on-lists;
       onAreas = λ words text r w h p. back r p (layout-sound words text r w (h .whole) (h .report)) (layout-rows words text r (h .whole) (h .report)) words text h;
       ownListing = λ words text r output w h p. own-listing r p (layout-sound words text r w (h .whole) (h .report)) (layout-rows words text r (h .whole) (h .report)) output;
       laysOut = lays-out;

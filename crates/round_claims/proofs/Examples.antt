@@ -17,7 +17,8 @@ use Rattle.tree_report.specs.Layout.{goodText, goodTextAt, goodCommon, goodOutp
 use Rattle.tree_report.specs.Layout.{goodRecord, goodOrder, mayEnd, mayFollow, following, recordsFrom, recordsOf, layout}
 use Rattle.tree_report.specs.ReportOf.{only, reportFrom, reportOf}
 use Rattle.round_sound.proofs.Sound.{report-rows}
-use Rattle.round_claims.specs.Demand2.{Holds, Placed}
+use Rattle.read_report.specs.Answer.{Holds}
+use Rattle.round_claims.specs.Demand2.{Placed}
 use Rattle.round_claims.proofs.Demand2.{demand-2}
 
 abbrev noCounts : Counts

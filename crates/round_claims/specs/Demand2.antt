@@ -3,9 +3,9 @@
 --
 -- Whoever wants to be sure that this is what the rules ask for reads these definitions, with docs/RULES.md beside them:
 --   tableOf, resolve (crate table: Table, Event)                 refusal 11; a table's events with their bytes and attributes
---   deserialize (crate read_machine: Reading)                    the report that the rules of reading give for events, with no areas
---   reading (crate read_machine: Reading)                        what reading answers and leaves in its areas: the promise of the call
---   run, begin (crate read_machine: Machine)                     reading event by event, in areas of any length and in unlimited ones
+--   deserialize, deserializeIn (crate read_report: Deserialize)  the report that the rules of reading give for events, with no areas; and in areas
+--   steps, begin (crate read_report: Deserialize)                the same event by event, with the room that is taken
+--   answerTo, Holds (crate read_report: Answer)                  what reading a table answers; when two areas hold a report
 --   pieces (crate round_rooms: Pieces)                           the bytes of the texts that go through scratch
 --   mostRecordsOf, mostTextOf (crate round_rooms: Needs)         the records and bytes of text that a table's events take at most
 --   layout, reportOf (crate tree_report: Layout, ReportOf)       docs/TREE.md: whether two areas are a layout; the report that they hold
@@ -17,51 +17,39 @@
 --   plain, sound (crate round_elements: Plain)                   which reports are read back; what the values of each are
 --   areWords (crate round_sound: Words)                          words of 32 bits, as every lent area of words has
 --   every (crate tree_report: Encode)                            whether each element of a list passes a test
---   render, publicListing (crates list_text, public_claims: Listing, PublicListing)
---                                                                the text of a report's listing; the public listing of a table
+--   render (crate list_text: Listing)                            the text of a report's listing
 --
--- Table, Areas, eventsOf, answerTo, listing, IsReport and the three reasons to refuse are those of demand 3 (crate public_claims:
--- Demand3). Of the areas that are lent only the lengths count: no claim depends on old contents.
+-- listing, IsReport and the three reasons to refuse are those of demand 3 (crate public_claims: Demand3). That the calls answer and list this,
+-- and leave the accepted report in a layout, is what Calls claims there. Of the areas that are lent only the lengths count: no claim depends
+-- on old contents.
 use Prim.Native.Nat.{ℕ, _*_, _/_, min, _≤_}
 use mathlib.Core.Path.{_≡_}
 use mathlib.Core.List.{List}
 use mathlib.Core.Bool.{Bool, true}
-use mathlib.Core.Option.{some}
 use mathlib.Core.Logic.{_⊎_}
 use lib.ListN.{length, take}
 use lib.Dec.{leb}
 use Rattle.area.specs.Limits.{mostEntries, mostRecords, mostWords, mostBytes}
 use Rattle.refusal.specs.Refusal.{number, OfRules, Refused, Outcome, accepted, refused}
-use Rattle.table.specs.Table.{tableOf}
 use Rattle.tree_report.specs.Report.{Report}
 use Rattle.tree_report.specs.Encode.{every, rowsOf, fits as fitsAreas}
-use Rattle.tree_report.specs.Layout.{layout}
-use Rattle.tree_report.specs.ReportOf.{reportOf}
 use Rattle.read_element.specs.Outcome.{unlimited}
-use Rattle.read_machine.specs.Machine.{Machine, run, begin}
-use Rattle.read_machine.specs.Reading.{Read, reading, deserialize}
+use Rattle.read_report.specs.Deserialize.{Reader, steps, begin, deserialize}
+use Rattle.read_report.specs.Answer.{Table, Areas, eventsOf, checked, answerTo, Holds}
 use Rattle.write_report.specs.Written.{written}
 use Rattle.write_table.specs.Laid.{laidOut, fits}
 use Rattle.write_answer.specs.Answer.{Sizes, wrote, eventsLeft, attributesLeft, bytesLeft}
 use Rattle.list_text.specs.Listing.{render}
-use Rattle.public_claims.specs.Demand3.{Table, Areas, eventsOf, answerTo, listing, IsReport, RefusesTable, RefusesEvents, LacksRoom}
+use Rattle.public_claims.specs.Demand3.{listing, IsReport, RefusesTable, RefusesEvents, LacksRoom}
 use Rattle.round_elements.specs.Plain.{plain, sound}
 use Rattle.round_sound.specs.Words.{areWords}
 use Rattle.round_rooms.specs.Pieces.{pieces}
 use Rattle.round_rooms.specs.Needs.{mostRecordsOf, mostTextOf}
 
 -- ---- what the claims speak of
--- two areas are a layout, and r is the report that they hold
-pub record Holds (r : Report) (words text : List ℕ) : Type 0 where
-  pub whole : layout words text ≡ true
-  pub report : reportOf words text ≡ some r
-
 -- 11 lets the table pass
 abbrev pub Passes : Table → Type 0
-Passes t = tableOf (t .events) (t .attributes) (t .source) ≡ accepted tt
-
-abbrev pub readingOf : Table → Areas → Read
-readingOf t a = reading (t .events) (t .attributes) (t .source) (a .words) (a .text) (a .scratch)
+Passes t = checked t ≡ accepted tt
 
 -- reading refuses for lack of room: 12, 13, 14
 pub record Short (t : Table) (a : Areas) : Type 0 where
@@ -69,20 +57,13 @@ pub record Short (t : Table) (a : Areas) : Type 0 where
   pub refuses : answerTo t a ≡ refused why
   pub lacks : LacksRoom why
 
--- a table that reading accepts: what the rules of reading give for it stands in the areas
-pub record Accepted (t : Table) (a : Areas) : Type 0 where
-  pub passes : Passes t
-  pub report : Report
-  pub given : IsReport t report
-  pub left : Holds report (readingOf t a .words) (readingOf t a .text)
-
--- areas that suffice for an accepted table: for the records, dead ones too, and the texts that reading leaves where areas have no
--- limit, and for the pieces of all texts
+-- areas that suffice for an accepted table: for the records and the bytes of text that are taken where areas have no limit, and for the
+-- pieces of all texts
 pub record Suffice (t : Table) (a : Areas) : Type 0 where
-  pub last : Machine
-  pub ends : run unlimited (eventsOf t) begin ≡ accepted last
-  pub records : length (last .content .records) ≤ min (a .words / 32) mostRecords
-  pub texts : length (last .content .texts) ≤ min (a .text) mostBytes
+  pub last : Reader
+  pub ends : steps unlimited (eventsOf t) begin ≡ accepted last
+  pub records : last .draft .used .records ≤ min (a .words / 32) mostRecords
+  pub texts : last .draft .used .text ≤ min (a .text) mostBytes
   pub scratch : pieces (eventsOf t) ≤ min (a .scratch) mostBytes
 
 -- areas that suffice for any table of these events, whatever becomes of it
@@ -135,12 +116,11 @@ lentLimits = record { events = mostEntries * 5; attributes = mostEntries * 5; by
 abbrev pub limits : ℕ → Areas
 limits output = record { words = mostWords; text = mostBytes; scratch = mostBytes; output = output }
 
--- a report comes back: writing accepts, reading what it wrote accepts, and leaves a layout that holds the same report
+-- a report comes back: writing accepts, and reading what it wrote answers with the same report
 pub record Back (words text : List ℕ) (r : Report) : Type 0 where
   pub numbers : Sizes
   pub writes : answerOf words text lentLimits ≡ accepted numbers
-  pub reads : (output : ℕ) → answerTo (inUse words text lentLimits numbers) (limits output) ≡ accepted tt
-  pub left : (output : ℕ) → Holds r (readingOf (inUse words text lentLimits numbers) (limits output) .words) (readingOf (inUse words text lentLimits numbers) (limits output) .text)
+  pub reads : (output : ℕ) → answerTo (inUse words text lentLimits numbers) (limits output) ≡ accepted r
 
 -- bytes, as every lent area of bytes has
 abbrev pub areBytes : List ℕ → Bool
@@ -158,10 +138,10 @@ pub record Placed (r : Report) (manyWords manyBytes : ℕ) : Type 0 where
 
 -- ---- the claims
 pub record Demand2 : Type 0 where
-  -- A. What reading accepts, the rules of reading accept; what it leaves is a layout that holds the report that they give.
-  pub acceptsOnly : (t : Table) (a : Areas) → answerTo t a ≡ accepted tt → Accepted t a
+  -- A. What reading accepts, the rules of reading accept, with the same report.
+  pub acceptsOnly : (t : Table) (a : Areas) (r : Report) → answerTo t a ≡ accepted r → Passes t × IsReport t r
   -- A. What the rules of reading accept, reading accepts, unless 11 refuses the table or room is short.
-  pub acceptsAll : (t : Table) (a : Areas) (r : Report) → Passes t → IsReport t r → (answerTo t a ≡ accepted tt) ⊎ Short t a
+  pub acceptsAll : (t : Table) (a : Areas) (r : Report) → Passes t → IsReport t r → (answerTo t a ≡ accepted r) ⊎ Short t a
   -- B. A refusal is 11, or what the rules of reading refuse with, 1 to 10, 20 or 21, or room is short, 12 to 14.
   pub refusesOnly : (t : Table) (a : Areas) (why : Refused) → answerTo t a ≡ refused why →
       (RefusesTable t why × (number (why .cause) ≡ 11)) ⊎ ((RefusesEvents t why × OfRules (number (why .cause))) ⊎ LacksRoom why)
@@ -169,8 +149,8 @@ pub record Demand2 : Type 0 where
   pub refusesTable : (t : Table) (a : Areas) (why : Refused) → RefusesTable t why → answerTo t a ≡ refused why
   -- B. What the rules of reading refuse, reading refuses alike, unless room is short.
   pub refusesAll : (t : Table) (a : Areas) (why : Refused) → Passes t → RefusesEvents t why → (answerTo t a ≡ refused why) ⊎ Short t a
-  -- C. Where the areas suffice, room isn't short: areas that hold what is left of an accepted table,
-  pub suffices : (t : Table) (a : Areas) → Passes t → Suffice t a → answerTo t a ≡ accepted tt
+  -- C. Where the areas suffice, room isn't short: areas that hold what an accepted table takes,
+  pub suffices : (t : Table) (a : Areas) → Passes t → (s : Suffice t a) → answerTo t a ≡ accepted (s .last .draft .report)
   -- C. and areas that hold as much as a table's events can take, also where it is refused.
   pub neverShort : (t : Table) (a : Areas) → Ample t a → ¬ Short t a
   -- C. Where room isn't short, longer areas get the same answer.
@@ -178,7 +158,7 @@ pub record Demand2 : Type 0 where
   -- D. Writing lays a report's events out as a table, wherever it fits into the areas.
   pub writes : (words text : List ℕ) (r : Report) (a : Lent) → Holds r words text → fits (laidOut (written r)) (a .events) (a .attributes) (a .bytes) ≡ true → Wrote words text r a
   -- E. The theorem on lists: a plain report is read back from its own events (rule W16).
-  pub onLists : (r : Report) → sound r ≡ true → plain r ≡ true → deserialize (written r) ≡ accepted (some r)
+  pub onLists : (r : Report) → sound r ≡ true → plain r ≡ true → deserialize (written r) ≡ accepted r
   -- E. The theorem on areas: so it is through the areas of both calls (rule W16).
   pub onAreas : (words text : List ℕ) (r : Report) → areWords words ≡ true → Holds r words text → plain r ≡ true → Back words text r
   -- F. The public listing of a plain report's own table is the listing of its tree.
