@@ -12,18 +12,15 @@ use Rattle.table.specs.Table as table
 use Rattle.table.specs.Event as event
 use Rattle.table.specs.Event.{Attribute, Start, Empty, End, Event, Tag}
 use Rattle.tree_status.specs.Status.{noStatus}
-use Rattle.tree_record.specs.Record.{marked}
-use Rattle.read_keys.specs.Roles as role
 use Rattle.read_element.specs.Outcome as outcome
-use Rattle.read_element.specs.Attributes as attributes
 use Rattle.read_state.specs.Control as reach
 use Rattle.read_state.specs.Control.{top, case, status, out, Mode, at, gathering, listing, skipping, control}
 use Rattle.read_rules.specs.Rules as rules
 use Rattle.read_place.specs.Marks.{marksAfter}
-use Rattle.read_content.specs.Content as content
-use Rattle.read_machine.specs.Machine as machine
-use Rattle.read_machine.specs.Reading.{reading, deserialize}
-use Rattle.read_spelling.specs.Spelling.{spelledFrom, SameAnswer, SameReading}
+use Rattle.read_report.specs.Deserialize as read
+use Rattle.read_report.specs.Deserialize.{deserialize}
+use Rattle.read_report.specs.Answer.{Table, Areas, answerTo}
+use Rattle.read_spelling.specs.Spelling.{spelledFrom, SameAnswer}
 use Rattle.read_spelling.proofs.Spelled.{spelling}
 
 -- ---- what is spelled out
@@ -90,20 +87,16 @@ within name es =
 
 output-otherwise : SameAnswer (deserialize (within (bytes "system-out") (empty (bytes "system-out")))) (deserialize (within (bytes "system-out") (both (bytes "system-out")))) → ⊥
 unfolding utf8.need utf8.low utf8.high codeFrom sameBytes keys tags
-    role.roleIn role.reportRole role.suiteRole role.roleOf marked
     outcome._>>=_ outcome.there outcome.need outcome.fits
-    attributes.readText attributes.byRole attributes.readAttributes attributes.complete attributes.readElement
     rules.outputs rules.atTop rules.atSuite rules.inText rules.planAt rules.planEof reach.turn marksAfter
-    content.adding content.keeping content.outputting content.perform machine.act machine.step machine.run deserialize
+    read.attributes read.completed read.element read.perform read.act read.step read.steps read.deserializeIn deserialize
 output-otherwise h = h
 
 list-otherwise : SameAnswer (deserialize (within (bytes "properties") (empty (bytes "properties")))) (deserialize (within (bytes "properties") (both (bytes "properties")))) → ⊥
 unfolding utf8.need utf8.low utf8.high codeFrom sameBytes keys tags
-    role.roleIn role.reportRole role.suiteRole role.roleOf marked
     outcome._>>=_ outcome.there outcome.need outcome.fits
-    attributes.readText attributes.byRole attributes.readAttributes attributes.complete attributes.readElement
     rules.atTop rules.atSuite rules.inList rules.planAt rules.planEof reach.turn marksAfter
-    content.adding content.perform machine.act machine.step machine.run deserialize
+    read.attributes read.completed read.element read.perform read.act read.step read.steps read.deserializeIn deserialize
 list-otherwise h = h
 
 -- the suite behind it has no name
@@ -113,11 +106,9 @@ report es = es ++ (Tag Empty (bytes "testsuite") 0 [] ∷ [])
 report-otherwise : SameAnswer (deserialize (report (Tag Empty (bytes "testsuites") 0 named ∷ [])))
     (deserialize (report (Tag Start (bytes "testsuites") 0 named ∷ Tag End (bytes "testsuites") 0 [] ∷ []))) → ⊥
 unfolding utf8.need utf8.low utf8.high codeFrom sameBytes keys tags
-    role.roleIn role.reportRole role.suiteRole role.roleOf marked
     outcome._>>=_ outcome.there outcome.need outcome.fits
-    attributes.readText attributes.byRole attributes.readAttributes attributes.complete attributes.readElement
     rules.atTop rules.planAt rules.planEof reach.turn marksAfter
-    content.adding content.perform machine.act machine.step machine.run deserialize
+    read.attributes read.completed read.element read.perform read.act read.step read.steps read.deserializeIn deserialize
 report-otherwise h = h
 
 -- ---- in areas
@@ -137,9 +128,12 @@ withEmpty = around (1 ∷ 10 ∷ 1 ∷ 0 ∷ 0 ∷ [])
 abbrev withBoth : List ℕ
 withBoth = around (0 ∷ 10 ∷ 1 ∷ 0 ∷ 0 ∷ 2 ∷ 10 ∷ 1 ∷ 0 ∷ 0 ∷ [])
 
-in-areas : (words text scratch : ℕ) → SameReading (reading withEmpty attributesOf source words text scratch) (reading withBoth attributesOf source words text scratch)
+abbrev tableOf : List ℕ → Table
+tableOf events = record { events = events; attributes = attributesOf; source = source }
+
+in-areas : (a : Areas) → SameAnswer (answerTo (tableOf withEmpty) a) (answerTo (tableOf withBoth) a)
 unfolding spelledFrom codeFrom sameBytes tags
     table.goodAttribute table.goodShape table.badFrom table.checkEvent table.checkFrom table.goodSizes table.checkOf
     event.attributesFrom event.eventOf event.eventAt event.resolveFrom event.resolve
     rules.outputs rules.emptied rules.atTop rules.atSuite rules.inSkip rules.planAt reach.orSkip reach.turn
-in-areas words text scratch = spelling .inAreas withEmpty attributesOf source withBoth attributesOf source words text scratch refl refl refl
+in-areas a = spelling .inAreas (tableOf withEmpty) (tableOf withBoth) a refl refl refl

@@ -4,5 +4,6 @@ pub mod Numbers
 pub mod Bare
 pub mod Pairs
 pub mod Children
+pub mod OverWords
 pub mod Spelled
 pub mod Examples

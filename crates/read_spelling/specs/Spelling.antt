@@ -7,13 +7,12 @@ use lib.Dec.{eqb}
 use Rattle.names.specs.Tags.{tagOf, testsuites, properties}
 use Rattle.refusal.specs.Refusal.{nowhere, Refused, Outcome, accepted, refused}
 use Rattle.refusal.specs.declared.PathElement.{PathElement}
-use Rattle.table.specs.Event.{Start, Empty, End, Event, Tag, Piece, Eof, Fault, resolve}
-use Rattle.table.specs.Table.{tableOf}
+use Rattle.table.specs.Event.{Start, Empty, End, Event, Tag, Piece, Eof, Fault}
 use Rattle.read_element.specs.Outcome.{element}
 use Rattle.read_state.specs.Control.{top, suite, case, status, Mode, at, gathering, listing, skipping, finished, Control, turn}
 use Rattle.read_rules.specs.Rules.{tagOfOutput, planAt, planEof, planFault}
-use Rattle.read_machine.specs.Machine.{begin}
-use Rattle.read_machine.specs.Reading.{Read, reading, deserialize}
+use Rattle.read_report.specs.Deserialize.{begin, deserialize}
+use Rattle.read_report.specs.Answer.{Table, Areas, eventsOf, checked, answerTo}
 
 -- ---- the spelling
 -- the control behind an event: it sees kinds and names only
@@ -68,25 +67,18 @@ SameAnswer (accepted a) (refused q) = ⊥
 SameAnswer (refused r) (accepted b) = ⊥
 SameAnswer (refused r) (refused q) = SameRefusal r q
 
--- the same answer, and the same areas afterwards
-pub record SameReading (r q : Read) : Type 0 where
-  pub outcome : SameAnswer (r .outcome) (q .outcome)
-  pub words : r .words ≡ q .words
-  pub text : r .text ≡ q .text
-  pub scratch : r .scratch ≡ q .scratch
-
 -- ---- the law: XML 1.0, section 3.1
 -- two tables differ in spelling alone if their events, spelled out, are the same
+abbrev pub SpelledAlike : Table → Table → Type 0
+SpelledAlike t u = spelled (eventsOf t) ≡ spelled (eventsOf u)
+
 pub record Spelling : Type 0 where
   -- a table's events, spelled out, are read alike,
-  pub spelledOut : (es : List Event) → SameAnswer (deserialize es) (deserialize (spelled es))
+  pub spelledOut : (t : Table) → SameAnswer (deserialize (eventsOf t)) (deserialize (spelled (eventsOf t)))
   -- and what is spelled out already stays.
   pub twice : (es : List Event) → spelled (spelled es) ≡ spelled es
   -- Two tables that differ in spelling alone are read alike where areas have no limit,
-  pub alike : (es fs : List Event) → spelled es ≡ spelled fs → SameAnswer (deserialize es) (deserialize fs)
+  pub alike : (t u : Table) → SpelledAlike t u → SameAnswer (deserialize (eventsOf t)) (deserialize (eventsOf u))
   -- and in areas of any lengths, if 11 lets both pass: areas that suffice for one suffice for the other, which is then read to the same
-  -- records and texts; if they don't, both are refused with the same of 12, 13 and 14.
-  pub inAreas : (events attributes source events₂ attributes₂ source₂ : List ℕ) (words text scratch : ℕ)
-      → tableOf events attributes source ≡ accepted tt → tableOf events₂ attributes₂ source₂ ≡ accepted tt
-      → spelled (resolve events attributes source) ≡ spelled (resolve events₂ attributes₂ source₂)
-      → SameReading (reading events attributes source words text scratch) (reading events₂ attributes₂ source₂ words text scratch)
+  -- report; if they don't, both are refused with the same of 12, 13 and 14.
+  pub inAreas : (t u : Table) (a : Areas) → checked t ≡ accepted tt → checked u ≡ accepted tt → SpelledAlike t u → SameAnswer (answerTo t a) (answerTo u a)
