@@ -19,7 +19,7 @@ use Rattle.read_element.specs.Attributes.{Given, placeOf, numbered, readText, o
 use Rattle.refusal.specs.declared.Cause.the-variants as cause
 use Rattle.read_spelling.proofs.Places.{Moves, same, Near, within-near, bind, told, needing, choosing}
 
-numbered-near : {p q : Place} → Near p q → (j : ℕ) → Near (numbered p j) (numbered q j)
+pub numbered-near : {p q : Place} → Near p q → (j : ℕ) → Near (numbered p j) (numbered q j)
 numbered-near n j = record { path = n .path; attribute = refl }
 
 module _ (rooms : Rooms) where

@@ -8,18 +8,16 @@ use Rattle.names.specs.Names.{sameBytes, codeFrom}
 use Rattle.names.specs.Keys.{keys}
 use Rattle.names.specs.Tags.{tags}
 use Rattle.utf8.specs.Utf8 as utf8
-use Rattle.table.specs.Table as table
-use Rattle.table.specs.Event as event
 use Rattle.table.specs.Event.{Attribute, Start, Empty, End, Event, Tag}
 use Rattle.tree_status.specs.Status.{noStatus}
 use Rattle.read_element.specs.Outcome as outcome
+use Rattle.read_element.specs.Outcome.{Rooms}
 use Rattle.read_state.specs.Control as reach
 use Rattle.read_state.specs.Control.{top, case, status, out, Mode, at, gathering, listing, skipping, control}
 use Rattle.read_rules.specs.Rules as rules
 use Rattle.read_place.specs.Marks.{marksAfter}
 use Rattle.read_report.specs.Deserialize as read
-use Rattle.read_report.specs.Deserialize.{deserialize}
-use Rattle.read_report.specs.Answer.{Table, Areas, answerTo}
+use Rattle.read_report.specs.Deserialize.{deserializeIn, deserialize}
 use Rattle.read_spelling.specs.Spelling.{spelledFrom, SameAnswer}
 use Rattle.read_spelling.proofs.Spelled.{spelling}
 
@@ -89,14 +87,14 @@ output-otherwise : SameAnswer (deserialize (within (bytes "system-out") (empty (
 unfolding utf8.need utf8.low utf8.high codeFrom sameBytes keys tags
     outcome._>>=_ outcome.there outcome.need outcome.fits
     rules.outputs rules.atTop rules.atSuite rules.inText rules.planAt rules.planEof reach.turn marksAfter
-    read.attributes read.completed read.element read.perform read.act read.step read.steps read.deserializeIn deserialize
+    read.attributes read.completed read.element read.perform read.act read.step read.steps deserializeIn deserialize
 output-otherwise h = h
 
 list-otherwise : SameAnswer (deserialize (within (bytes "properties") (empty (bytes "properties")))) (deserialize (within (bytes "properties") (both (bytes "properties")))) → ⊥
 unfolding utf8.need utf8.low utf8.high codeFrom sameBytes keys tags
     outcome._>>=_ outcome.there outcome.need outcome.fits
     rules.atTop rules.atSuite rules.inList rules.planAt rules.planEof reach.turn marksAfter
-    read.attributes read.completed read.element read.perform read.act read.step read.steps read.deserializeIn deserialize
+    read.attributes read.completed read.element read.perform read.act read.step read.steps deserializeIn deserialize
 list-otherwise h = h
 
 -- the suite behind it has no name
@@ -108,32 +106,13 @@ report-otherwise : SameAnswer (deserialize (report (Tag Empty (bytes "testsuites
 unfolding utf8.need utf8.low utf8.high codeFrom sameBytes keys tags
     outcome._>>=_ outcome.there outcome.need outcome.fits
     rules.atTop rules.planAt rules.planEof reach.turn marksAfter
-    read.attributes read.completed read.element read.perform read.act read.step read.steps read.deserializeIn deserialize
+    read.attributes read.completed read.element read.perform read.act read.step read.steps deserializeIn deserialize
 report-otherwise h = h
 
--- ---- in areas
-abbrev source : List ℕ
-source = bytes "testsuitesnamea"
+-- ---- with any room: an unknown child of a suite
+abbrev around : List Event → List Event
+around es = Tag Start (bytes "testsuites") 0 named ∷ Tag Start (bytes "testsuite") 0 named ∷ es ++ (Tag End (bytes "testsuite") 0 [] ∷ Tag End (bytes "testsuites") 0 [] ∷ [])
 
-abbrev attributesOf : List ℕ
-attributesOf = 0 ∷ 10 ∷ 4 ∷ 14 ∷ 1 ∷ []
-
--- an unknown child `n` of a suite
-abbrev around : List ℕ → List ℕ
-around n = (0 ∷ 0 ∷ 10 ∷ 0 ∷ 1 ∷ 0 ∷ 0 ∷ 9 ∷ 0 ∷ 1 ∷ []) ++ n ++ (2 ∷ 0 ∷ 9 ∷ 0 ∷ 0 ∷ 2 ∷ 0 ∷ 10 ∷ 0 ∷ 0 ∷ [])
-
-abbrev withEmpty : List ℕ
-withEmpty = around (1 ∷ 10 ∷ 1 ∷ 0 ∷ 0 ∷ [])
-
-abbrev withBoth : List ℕ
-withBoth = around (0 ∷ 10 ∷ 1 ∷ 0 ∷ 0 ∷ 2 ∷ 10 ∷ 1 ∷ 0 ∷ 0 ∷ [])
-
-abbrev tableOf : List ℕ → Table
-tableOf events = record { events = events; attributes = attributesOf; source = source }
-
-in-areas : (a : Areas) → SameAnswer (answerTo (tableOf withEmpty) a) (answerTo (tableOf withBoth) a)
-unfolding spelledFrom codeFrom sameBytes tags
-    table.goodAttribute table.goodShape table.badFrom table.checkEvent table.checkFrom table.goodSizes table.checkOf
-    event.attributesFrom event.eventOf event.eventAt event.resolveFrom event.resolve
-    rules.outputs rules.emptied rules.atTop rules.atSuite rules.inSkip rules.planAt reach.orSkip reach.turn
-in-areas a = spelling .inAreas (tableOf withEmpty) (tableOf withBoth) a refl refl refl
+any-room : (rooms : Rooms) → SameAnswer (deserializeIn rooms (around (empty (bytes "n")))) (deserializeIn rooms (around (both (bytes "n"))))
+unfolding spelledFrom codeFrom sameBytes tags rules.outputs rules.emptied rules.atTop rules.atSuite rules.inSkip rules.planAt reach.orSkip reach.turn
+any-room rooms = spelling .inAreas rooms (around (empty (bytes "n"))) (around (both (bytes "n"))) refl

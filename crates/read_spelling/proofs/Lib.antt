@@ -5,5 +5,9 @@ pub mod Bare
 pub mod Pairs
 pub mod Children
 pub mod OverWords
+mod ValueElements
+mod ValueNumbers
+mod ValueBare
+mod ValueChildren
 pub mod Spelled
 pub mod Examples

@@ -39,7 +39,7 @@ module _ (e ss cs : ℕ) (m : Marks) where
   level-near case = refl
   level-near status = refl
 
-  mode-near : (mode : Mode) → unnumbered (modePath mode m) ≡ unnumbered (modePath mode (renumbered e ss cs m))
+  pub mode-near : (mode : Mode) → unnumbered (modePath mode m) ≡ unnumbered (modePath mode (renumbered e ss cs m))
   mode-near (at l) = level-near l
   mode-near (gathering l o) = longer (levelPath l m) (levelPath l (renumbered e ss cs m)) (outputElement o ∷ []) (level-near l)
   mode-near (listing l) = longer (levelPath l m) (levelPath l (renumbered e ss cs m)) (element 4 nowhere nowhere ∷ []) (level-near l)

@@ -8,11 +8,10 @@ use Rattle.names.specs.Tags.{tagOf, testsuites, properties}
 use Rattle.refusal.specs.Refusal.{nowhere, Refused, Outcome, accepted, refused}
 use Rattle.refusal.specs.declared.PathElement.{PathElement}
 use Rattle.table.specs.Event.{Start, Empty, End, Event, Tag, Piece, Eof, Fault}
-use Rattle.read_element.specs.Outcome.{element}
+use Rattle.read_element.specs.Outcome.{Rooms, element}
 use Rattle.read_state.specs.Control.{top, suite, case, status, Mode, at, gathering, listing, skipping, finished, Control, turn}
 use Rattle.read_rules.specs.Rules.{tagOfOutput, planAt, planEof, planFault}
-use Rattle.read_report.specs.Deserialize.{begin, deserialize}
-use Rattle.read_report.specs.Answer.{Table, Areas, eventsOf, checked, answerTo}
+use Rattle.read_report.specs.Deserialize.{begin, deserializeIn, deserialize}
 
 -- ---- the spelling
 -- the control behind an event: it sees kinds and names only
@@ -69,16 +68,13 @@ SameAnswer (refused r) (refused q) = SameRefusal r q
 
 -- ---- the law: XML 1.0, section 3.1
 -- two tables differ in spelling alone if their events, spelled out, are the same
-abbrev pub SpelledAlike : Table → Table → Type 0
-SpelledAlike t u = spelled (eventsOf t) ≡ spelled (eventsOf u)
-
 pub record Spelling : Type 0 where
   -- a table's events, spelled out, are read alike,
-  pub spelledOut : (t : Table) → SameAnswer (deserialize (eventsOf t)) (deserialize (spelled (eventsOf t)))
+  pub spelledOut : (es : List Event) → SameAnswer (deserialize es) (deserialize (spelled es))
   -- and what is spelled out already stays.
   pub twice : (es : List Event) → spelled (spelled es) ≡ spelled es
   -- Two tables that differ in spelling alone are read alike where areas have no limit,
-  pub alike : (t u : Table) → SpelledAlike t u → SameAnswer (deserialize (eventsOf t)) (deserialize (eventsOf u))
-  -- and in areas of any lengths, if 11 lets both pass: areas that suffice for one suffice for the other, which is then read to the same
-  -- report; if they don't, both are refused with the same of 12, 13 and 14.
-  pub inAreas : (t u : Table) (a : Areas) → checked t ≡ accepted tt → checked u ≡ accepted tt → SpelledAlike t u → SameAnswer (answerTo t a) (answerTo u a)
+  pub alike : (es fs : List Event) → spelled es ≡ spelled fs → SameAnswer (deserialize es) (deserialize fs)
+  -- and with any room: what suffices for one suffices for the other, which is then read to the same report; what doesn't is refused with the
+  -- same of 12, 13 and 14.
+  pub inAreas : (rooms : Rooms) (es fs : List Event) → spelled es ≡ spelled fs → SameAnswer (deserializeIn rooms es) (deserializeIn rooms fs)
