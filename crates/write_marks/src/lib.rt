@@ -3,13 +3,14 @@
 use area::Stored;
 use area::limit;
 use write_bytes::put_words;
+use write_codes::has_pair_room;
 ghost use mathlib.Core.Path.{_≡_};
 ghost use mathlib.Core.List.{List, [], _∷_, _++_};
 ghost use Prim.Native.Nat.{ℕ, _-_, _≤_, _<_};
 ghost use mathlib.Core.Bool.{not};
 ghost use Rattle.list_text.specs.inside.Behind.{isFull, filled, Puts};
 ghost use Rattle.write_table.specs.Laid as laid;
-ghost use Rattle.write_table.specs.inside.Putting.{Wrote, entryLimits, pairLimits};
+ghost use Rattle.write_table.specs.inside.Putting.{Wrote, entryLimits};
 ghost use Rattle.write_marks.specs.inside.Kept.{kept, shutBy, eventMore, attributeMore};
 
 // The numbers of events and attributes, and how many bytes.
@@ -95,12 +96,6 @@ fn has_entry_room(events: usize, bytes: usize, attributes: usize, count: usize) 
         return false;
     }
     (events < limit::ENTRIES) & ((bytes <= limit::BYTES) & (attributes <= limit::ENTRIES - count))
-}
-
-fn has_pair_room(attributes: usize, bytes: usize) -> bool
-    ensures { λ r. ⌜ r ≡ pairLimits attributes bytes ⌝ }
-{
-    (attributes < limit::ENTRIES) & (bytes <= limit::BYTES)
 }
 
 // An event whose bytes were put up to `to`, with so many attributes behind it (rule W12).

@@ -1,7 +1,7 @@
 // The attributes of an element by their key codes, in the order of the codes; those that a record doesn't have are left out.
-use names::key;
-use tree_record::bit;
 use tree_record::has_bit;
+use write_codes::ALWAYS;
+use write_codes::bit_of;
 use write_entries::put_attribute;
 use write_entries::put_tag;
 use write_marks::Marks;
@@ -13,43 +13,7 @@ ghost use Rattle.write_table.specs.Laid.{entry, pairsOf};
 ghost use Rattle.write_table.specs.inside.Putting.{Wrote};
 ghost use Rattle.write_marks.specs.inside.Kept.{kept};
 ghost use Rattle.write_items.specs.inside.Values.{tagName};
-ghost use Rattle.write_items.specs.inside.Slots.{bitOf, isPresent, slots, countOf};
-
-// No presence bit: the value is always there.
-const ALWAYS: u32 = 10;
-
-// The code of a report's name, which may be missing.
-const REPORT_NAME: usize = 15;
-
-// The presence bit of a key.
-fn bit_of(code: u8) -> u32
-    ensures { λ b. ⌜ b ≡ bitOf code ⌝ }
-{
-    let c = code as usize;
-    if (c == key::MESSAGE) | (c == REPORT_NAME) {
-        return bit::NAME;
-    }
-    if c == key::UUID {
-        return bit::UUID;
-    }
-    if c == key::TIMESTAMP {
-        return bit::TIMESTAMP;
-    }
-    if c == key::TIME {
-        return bit::TIME;
-    }
-    if (c == key::CLASSNAME) | (c == key::TYPE) {
-        return bit::CLASSNAME;
-    }
-    if c == key::ASSERTIONS {
-        return bit::ASSERTIONS;
-    }
-    if c == key::DISABLED {
-        bit::DISABLED
-    } else {
-        ALWAYS
-    }
-}
+ghost use Rattle.write_items.specs.inside.Slots.{isPresent, slots, countOf};
 
 fn is_present(r: &[u32], code: u8) -> bool
     ensures { λ b. ⌜ b ≡ isPresent (now (r .entry)) code ⌝ }

@@ -9,6 +9,7 @@ use uuid::Words;
 use write_bytes::put_escaped;
 use write_bytes::put_timestamp;
 use write_bytes::put_uuid;
+use write_codes::offset_of_key;
 ghost use mathlib.Core.Path.{_≡_};
 ghost use Prim.Native.Nat.{_+_, _-_, _*_, _≤_};
 ghost use lib.ListN.{getD};
@@ -17,7 +18,7 @@ ghost use Rattle.write_escape.specs.Escape.{escaped};
 ghost use Rattle.write_moment.specs.Written as moment;
 ghost use Rattle.tree_report.specs.Fields.{textAt, numberAt, momentOf};
 ghost use Rattle.list_text.specs.inside.Behind.{filled, Puts};
-ghost use Rattle.write_items.specs.inside.Values.{tagName, keyName, cutAt, wordsOf, offsetOf, valueOf};
+ghost use Rattle.write_items.specs.inside.Values.{tagName, keyName, cutAt, wordsOf, valueOf};
 
 fn byte_at(s: &[u8], i: usize) -> u8
     ensures { λ r. ⌜ r ≡ getD (now (s .entry)) i 0 ⌝ }
@@ -111,34 +112,6 @@ fn words_of(r: &[u32]) -> Words
         b: field(r, word::UUID + 1),
         c: field(r, word::UUID_BACK),
         d: field(r, word::UUID_BACK + 1),
-    }
-}
-
-// Where the value under a key stands in a record.
-fn offset_of_key(code: u8) -> usize
-    ensures { λ o. ⌜ o ≡ offsetOf code ⌝ }
-    ensures { λ o. ⌜ o ≤ 30 ⌝ }
-{
-    let c = code as usize;
-    if (c == key::CLASSNAME) | ((c == key::TESTS) | (c == key::TYPE)) {
-        return word::CLASSNAME;
-    }
-    if (c == key::FAILURES) | (c == key::ASSERTIONS) {
-        return word::FAILURES;
-    }
-    if c == key::ERRORS {
-        return word::ERRORS;
-    }
-    if c == key::SKIPPED {
-        return word::SKIPPED;
-    }
-    if c == key::DISABLED {
-        return word::DISABLED;
-    }
-    if c == key::VALUE {
-        word::VALUE
-    } else {
-        word::NAME
     }
 }
 

@@ -1,7 +1,7 @@
 use borrow.Author.Tests.{eq-eqb, ne-eqb}
 use Rattle.write_items.specs.inside.Slots.{bitOf}
-use Rattle.write_slots.proofs.bit_of.Statement.{statement}
-use Rattle.write_slots.proofs.bit_of.Tie as tie
+use Rattle.write_codes.proofs.bit_of.Statement.{statement}
+use Rattle.write_codes.proofs.bit_of.Tie as tie
 
 returns : tie.Need-returns
 unfolding bitOf

@@ -1,8 +1,8 @@
 use borrow.Author.Needs.{needs}
 use borrow.Author.Tests.{eq-eqb, ne-eqb}
 use Rattle.write_items.specs.inside.Values.{offsetOf}
-use Rattle.write_values.proofs.offset_of_key.Statement.{statement}
-use Rattle.write_values.proofs.offset_of_key.Tie as tie
+use Rattle.write_codes.proofs.offset_of_key.Statement.{statement}
+use Rattle.write_codes.proofs.offset_of_key.Tie as tie
 
 returns : tie.Need-returns
 unfolding offsetOf
