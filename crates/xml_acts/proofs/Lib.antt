@@ -1,3 +1,2 @@
 pub mod FurtherBytes
 pub mod Letters
-pub mod EndNames

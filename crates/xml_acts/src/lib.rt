@@ -1,12 +1,15 @@
 // What a byte does to the registers alone: marks, a character's further bytes, fixed bytes, an end tag's name.
 ghost use mathlib.Core.Path.{_≡_};
-ghost use Prim.Native.Nat.{_+_, _-_, _≤_, _<_};
-ghost use lib.ListN.{getD};
+ghost use Prim.Native.Nat.{_+_, _≤_, _<_};
 ghost use Rattle.xml_chars.specs.Chars as chars;
 ghost use Rattle.xml_state.specs.inside.Registers.{inMode, atMark, beginning};
-ghost use Rattle.xml_state.specs.inside.Acts.{furtherOf, nextLetter, spelledOf, wantedOf, namedOf, keyedOf, quotedOf, closingOf, ledOf, wordOf, spellingOf, openedOf, actedOf};
+ghost use Rattle.xml_state.specs.inside.Acts.{furtherOf, nextLetter, spelledOf, namedOf, keyedOf, quotedOf, closingOf, ledOf, wordOf, spellingOf, openedOf, actedOf};
 use area::wide;
 use tree_record::field;
+use xml_checks::byte_at;
+use xml_checks::into;
+use xml_checks::less;
+use xml_checks::wanted;
 use xml_part::follow;
 use xml_part::lead;
 use xml_state::Followed;
@@ -37,33 +40,10 @@ pub fn begin() -> State
     }
 }
 
-pub fn less(a: u32, b: u32) -> u32
-    ensures { λ r. ⌜ r ≡ a - b ⌝ }
-{
-    if b < a { a - b } else { 0 }
-}
-
-fn byte_at(s: &[u8], i: usize) -> u8
-    ensures { λ r. ⌜ r ≡ getD (now (s .entry)) i 0 ⌝ }
-{
-    if i < s.len() {
-        return s[i];
-    }
-    0
-}
-
 fn short(b: u8) -> usize
     ensures { λ r. ⌜ (r ≡ b) × (r < 256) ⌝ }
 {
     b as usize
-}
-
-pub fn into(st: State, mode: u8) -> State
-    ensures { λ r. ⌜ r ≡ inMode mode st ⌝ }
-{
-    let mut s = st;
-    s.mode = mode;
-    s
 }
 
 fn marked(st: State, mode: u8, mark: u32) -> State
@@ -121,20 +101,6 @@ fn next_letter(st: State) -> State
     let mut s = st;
     s.word = if st.word < 255 { st.word + 1 } else { 0 };
     s
-}
-
-// A byte of an end tag's name.
-fn wanted(st: State, b: u8, at: u32, source: &[u8]) -> Step
-    ensures { λ r. ⌜ r ≡ wantedOf st b at (now (source .entry)) ⌝ }
-{
-    let k = less(at, st.mark);
-    if b != byte_at(source, wide(st.name) + wide(k)) {
-        return Step::Bad;
-    }
-    if wide(k) + 1 < wide(st.long) {
-        return Step::Go(st);
-    }
-    Step::Go(into(st, mode::END_TAG))
 }
 
 // The tag's name ends before `at`.

@@ -7,13 +7,13 @@ ghost use Rattle.xml_chars.specs.Chars.{begins};
 ghost use Rattle.xml_state.specs.inside.Turns.{runMode, brokenOf, refusedOf, ended, eofOf, finishOf};
 use area::wide;
 use refusal::NOWHERE;
-use xml_acts::less;
+use xml_checks::has_room;
+use xml_checks::less;
 use xml_put::act_text;
 use xml_state::State;
 use xml_state::Step;
 use xml_state::Tokenized;
 use xml_state::mode;
-use xml_write::has_room;
 use xml_write::put_over;
 
 // Whether `DOCTYPE` stands at `at`.

@@ -1,8 +1,10 @@
 // A character of which some bytes stand, and what its next byte may be.
 ghost use mathlib.Core.Path.{_≡_};
 ghost use Prim.Native.Nat.{_-_, _<_, _≤_, max};
-ghost use Rattle.xml_chars.specs.Chars.{crosses, meets, anyChar, nameStart, nameChar};
+ghost use Rattle.xml_chars.specs.Chars.{meets, nameStart, nameChar};
 ghost use Rattle.xml_state.specs.inside.Parts.{classOf, unitOf, leadOf, followOf, lowStart};
+use xml_checks::crosses;
+use xml_checks::meets_any;
 use xml_state::Followed;
 use xml_state::Part;
 use xml_state::class;
@@ -17,21 +19,6 @@ fn widen(x: u32) -> u64
     ensures { λ r. ⌜ (r ≡ x) × (r < 4294967296) ⌝ }
 {
     x as u64
-}
-
-fn crosses(a: u64, z: u64, low: u64, high: u64) -> bool
-    ensures { λ r. ⌜ r ≡ crosses a z low high ⌝ }
-{
-    (a <= z) & (low <= high) & (a <= high) & (low <= z)
-}
-
-fn meets_any(low: u64, high: u64) -> bool
-    ensures { λ r. ⌜ r ≡ meets anyChar low high ⌝ }
-{
-    crosses(0x9, 0xA, low, high)
-        | (crosses(0xD, 0xD, low, high)
-            | (crosses(0x20, 0xD7FF, low, high)
-                | (crosses(0xE000, 0xFFFD, low, high) | crosses(0x10000, 0x10FFFF, low, high))))
 }
 
 // The first half of NameStartChar.

@@ -1,23 +1,16 @@
 // Records put into the two areas.
 ghost use mathlib.Core.Path.{_≡_};
-ghost use Prim.Native.Nat.{_+_, _-_, _<_};
-ghost use Rattle.xml_machine.specs.Tokens as tokens;
+ghost use Prim.Native.Nat.{_+_, _<_};
 ghost use Rattle.xml_stack.specs.Stack.{putAt};
 ghost use Rattle.xml_state.specs.inside.Registers.{withCount};
-ghost use Rattle.xml_state.specs.inside.Puts.{stepped, roomFor, putting, putOver, putTag, actValue};
-use area::limit;
+ghost use Rattle.xml_state.specs.inside.Puts.{stepped, putting, putOver, putTag, actValue};
 use area::wide;
 use tree_record::put_field;
-use xml_acts::less;
+use xml_checks::has_room;
+use xml_checks::less;
+use xml_checks::unless0;
 use xml_state::State;
 use xml_state::Step;
-
-// Whether an area of that many words has room for record n.
-pub fn has_room(n: u32, words: usize) -> bool
-    ensures { λ r. ⌜ r ≡ roomFor n words ⌝ }
-{
-    (wide(n) < limit::ENTRIES) & (wide(n) < words / 5)
-}
 
 fn put_record(area: &mut [u32], n: u32, a: u32, b: u32, c: u32, d: u32, e: u32)
     ensures { λ _. ⌜ now (area .exit) ≡ putAt (now (area .entry)) n a b c d e ⌝ }
@@ -28,13 +21,6 @@ fn put_record(area: &mut [u32], n: u32, a: u32, b: u32, c: u32, d: u32, e: u32)
     put_field(area, at + 3, d);
     put_field(area, at + 4, e);
     put_field(area, at, a);
-}
-
-// A start without length, or a first attribute without count, is 0 (rule N4).
-fn unless0(start: u32, size: u32) -> u32
-    ensures { λ r. ⌜ r ≡ tokens.unless0 start size ⌝ }
-{
-    if size == 0 { 0 } else { start }
 }
 
 fn counted(st: State) -> State

@@ -1,8 +1,8 @@
-use Rattle.xml_acts.proofs.EndNames.{other-byte, name-goes, name-ends}
+use Rattle.xml_checks.proofs.EndNames.{other-byte, name-goes, name-ends}
 use denote.Ref.{now}
 use borrow.Author.Needs.{needs}
-use Rattle.xml_acts.proofs.wanted.Statement.{statement}
-use Rattle.xml_acts.proofs.wanted.Tie as tie
+use Rattle.xml_checks.proofs.wanted.Statement.{statement}
+use Rattle.xml_checks.proofs.wanted.Tie as tie
 
 less-requires : tie.Need-less-requires
 less-requires c κs = search needs

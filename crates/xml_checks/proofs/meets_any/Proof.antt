@@ -1,7 +1,7 @@
 use mathlib.Core.Bool.{or-false}
 use borrow.Author.Needs.{needs}
-use Rattle.xml_part.proofs.meets_any.Statement.{statement}
-use Rattle.xml_part.proofs.meets_any.Tie as tie
+use Rattle.xml_checks.proofs.meets_any.Statement.{statement}
+use Rattle.xml_checks.proofs.meets_any.Tie as tie
 
 crosses-requires : tie.Need-crosses-requires
 crosses-requires c κs = search needs

@@ -1,7 +1,7 @@
 use Rattle.xml_state.specs.inside.Puts.{roomFor}
 use borrow.Author.Needs.{needs}
-use Rattle.xml_write.proofs.has_room.Statement.{statement}
-use Rattle.xml_write.proofs.has_room.Tie as tie
+use Rattle.xml_checks.proofs.has_room.Statement.{statement}
+use Rattle.xml_checks.proofs.has_room.Tie as tie
 
 wide-requires : tie.Need-wide-requires
 wide-requires c κs = search needs

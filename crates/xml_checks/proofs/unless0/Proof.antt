@@ -1,6 +1,6 @@
 use borrow.Author.Tests.{eq-eqb, ne-eqb}
-use Rattle.xml_write.proofs.unless0.Statement.{statement}
-use Rattle.xml_write.proofs.unless0.Tie as tie
+use Rattle.xml_checks.proofs.unless0.Statement.{statement}
+use Rattle.xml_checks.proofs.unless0.Tie as tie
 
 returns : tie.Need-returns
 returns c = simp (eq-eqb _ _ (c .if1 .taken))
