@@ -2,8 +2,6 @@
 use names::tag;
 use table::kind::EMPTY;
 use table::kind::START;
-use tree_record::bit;
-use tree_record::has_bit;
 use tree_record::kind;
 use write_elements::put_closing;
 use write_elements::put_elements;
@@ -12,26 +10,15 @@ use write_marks::Marks;
 use write_rows::put_rows;
 use write_slots::put_element;
 use write_walk::count_kind;
-use write_walk::kind_of_first;
+use write_walk::is_childless;
 ghost use mathlib.Core.Path.{_≡_};
 ghost use Rattle.list_sums.specs.inside.Rows.{recordsIn};
 ghost use Rattle.write_table.specs.inside.Putting.{Wrote};
 ghost use Rattle.write_marks.specs.inside.Kept.{kept};
-ghost use Rattle.write_items.specs.inside.Case.{openingItems, insideItems, isChildless, caseItems};
+ghost use Rattle.write_items.specs.inside.Case.{openingItems, insideItems, caseItems};
 
 // The level of what belongs to a case (write_walk).
 const CASE: u32 = 2;
-
-fn is_childless(r: &[u32], words: &[u32]) -> bool
-    ensures { λ b. ⌜ b ≡ isChildless (now (r .entry)) (recordsIn (now (words .entry))) ⌝ }
-{
-    if has_bit(r, bit::OUT) | has_bit(r, bit::ERR) {
-        return false;
-    }
-    let property = kind_of_first(words, CASE, kind::CASE_PROPERTY, kind::CASE_PROPERTY);
-    let element = kind_of_first(words, CASE, kind::FAILURE, kind::RERUN_ERROR);
-    (property == 0) & (element == 0)
-}
 
 // A case's tag with name, classname, assertions, timestamp and time, and its extras (rule W2).
 fn put_opening(

@@ -3,9 +3,7 @@ use area::least;
 use names::tag;
 use table::kind::END;
 use table::kind::START;
-use tree_record::bit;
 use tree_record::field;
-use tree_record::has_bit;
 use tree_record::kind;
 use tree_record::word;
 use write_entries::put_tag;
@@ -13,6 +11,7 @@ use write_marks::Marks;
 use write_rows::put_rows;
 use write_status::put_outputs;
 use write_status::put_status;
+use write_walk::is_flaky;
 use write_walk::kind_of_first;
 use write_walk::seek;
 ghost use mathlib.Core.Path.{_≡_};
@@ -21,7 +20,7 @@ ghost use Prim.Native.Nat.{ℕ};
 ghost use Rattle.list_sums.specs.inside.Rows.{recordsIn};
 ghost use Rattle.write_table.specs.inside.Putting.{Wrote};
 ghost use Rattle.write_marks.specs.inside.Kept.{kept};
-ghost use Rattle.write_items.specs.inside.Case.{propertiesItems, closingItems, runsFlaky, mainTag, mainItems, elementsItems};
+ghost use Rattle.write_items.specs.inside.Case.{propertiesItems, closingItems, mainTag, mainItems, elementsItems};
 
 // The level of what belongs to a case (write_walk).
 const CASE: u32 = 2;
@@ -73,17 +72,6 @@ pub fn put_closing(
 {
     let outputs = put_outputs(events, bytes, k, text, r);
     put_tag(events, bytes, outputs, END, code, 0)
-}
-
-// Whether the runs of a main are flaky: by the first of them, and without any by the main's bit.
-fn is_flaky(r: &[u32], words: &[u32]) -> bool
-    ensures { λ b. ⌜ b ≡ runsFlaky (now (r .entry)) (recordsIn (now (words .entry))) ⌝ }
-{
-    let run = kind_of_first(words, CASE, kind::FLAKY_FAILURE, kind::RERUN_ERROR);
-    if run == 0 {
-        return has_bit(r, bit::FLAKY);
-    }
-    run <= kind::FLAKY_ERROR
 }
 
 fn main_tag(k: u32) -> u8

@@ -1,7 +1,9 @@
 // Along the records behind an element: what belongs to it ends at the next of its level. Level 1 is a suite, 2 a case; at level 0
 // nothing ends.
 use list_sums::rows::stands_here;
+use tree_record::bit;
 use tree_record::field;
+use tree_record::has_bit;
 use tree_record::kind;
 use tree_record::word;
 ghost use mathlib.Core.Path.{_≡_};
@@ -12,6 +14,10 @@ ghost use lib.Dec.{leb, eqb};
 ghost use Rattle.list_sums.specs.inside.Rows.{recordsIn};
 ghost use Rattle.tree_report.specs.Fields.{kindOf};
 ghost use Rattle.write_items.specs.inside.Walk.{endsAt, isBetween, ownOf, between, firstOf};
+ghost use Rattle.write_items.specs.inside.Case.{runsFlaky, isChildless};
+
+// The level of what belongs to a case.
+const CASE: u32 = 2;
 
 pub fn ends(level: u32, k: u32) -> bool
     ensures { λ r. ⌜ r ≡ endsAt level k ⌝ }
@@ -72,4 +78,27 @@ pub fn count_kind(words: &[u32], level: u32, k: u32) -> usize
         at = end;
     }
     n
+}
+
+// Whether the runs of a main are flaky: by the first of them, and without any by the main's bit.
+pub fn is_flaky(r: &[u32], words: &[u32]) -> bool
+    ensures { λ b. ⌜ b ≡ runsFlaky (now (r .entry)) (recordsIn (now (words .entry))) ⌝ }
+{
+    let run = kind_of_first(words, CASE, kind::FLAKY_FAILURE, kind::RERUN_ERROR);
+    if run == 0 {
+        return has_bit(r, bit::FLAKY);
+    }
+    run <= kind::FLAKY_ERROR
+}
+
+// Whether a case has nothing inside (rule W3).
+pub fn is_childless(r: &[u32], words: &[u32]) -> bool
+    ensures { λ b. ⌜ b ≡ isChildless (now (r .entry)) (recordsIn (now (words .entry))) ⌝ }
+{
+    if has_bit(r, bit::OUT) | has_bit(r, bit::ERR) {
+        return false;
+    }
+    let property = kind_of_first(words, CASE, kind::CASE_PROPERTY, kind::CASE_PROPERTY);
+    let element = kind_of_first(words, CASE, kind::FAILURE, kind::RERUN_ERROR);
+    (property == 0) & (element == 0)
 }

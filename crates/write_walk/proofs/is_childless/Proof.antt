@@ -1,8 +1,8 @@
-use Rattle.write_case.proofs.Cases.{childless-not, childless-may}
+use Rattle.write_walk.proofs.Within.{childless-not, childless-may}
 use Rattle.list_sums.specs.inside.Rows.{recordsIn}
 use borrow.Author.Needs.{needs}
-use Rattle.write_case.proofs.is_childless.Statement.{statement}
-use Rattle.write_case.proofs.is_childless.Tie as tie
+use Rattle.write_walk.proofs.is_childless.Statement.{statement}
+use Rattle.write_walk.proofs.is_childless.Tie as tie
 
 has-bit-requires : tie.Need-has-bit-requires
 has-bit-requires c κs = search needs

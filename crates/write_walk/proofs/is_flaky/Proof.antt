@@ -1,9 +1,9 @@
-use Rattle.write_elements.proofs.Elements.{flaky-alone, flaky-run}
+use Rattle.write_walk.proofs.Within.{flaky-alone, flaky-run}
 use Rattle.list_sums.specs.inside.Rows.{recordsIn}
 use mathlib.Core.Path.{_∙_}
 use borrow.Author.Needs.{needs}
-use Rattle.write_elements.proofs.is_flaky.Statement.{statement}
-use Rattle.write_elements.proofs.is_flaky.Tie as tie
+use Rattle.write_walk.proofs.is_flaky.Statement.{statement}
+use Rattle.write_walk.proofs.is_flaky.Tie as tie
 
 kind-of-first-requires : tie.Need-kind-of-first-requires
 kind-of-first-requires c κs = search needs
