@@ -76,13 +76,14 @@ cut-end-tag = (refl, refl)
 -- what no character has: a further byte first, a first byte where a further one is due, overlong forms, surrogates, U+FFFE, U+FFFF, above U+10FFFF, F8
 no-characters :
     (Refused (bytes "<a>" ++ (0xBF ∷ [])) 18 3) × (Refused (bytes "<a>" ++ ((0xC3 ∷ []) ++ (bytes "a"))) 18 4) ×
+    (Refused (bytes "<a>" ++ (0xC3 ∷ 0x7F ∷ [])) 18 4) × (Refused (bytes "<a>" ++ (0xC3 ∷ 0xC0 ∷ [])) 18 4) ×
     (Refused (bytes "<a>" ++ (0xC3 ∷ 0xC3 ∷ [])) 18 4) × (Refused (bytes "<a>" ++ (0xE2 ∷ 0x82 ∷ 0xFF ∷ [])) 18 5) ×
     (Refused (bytes "<a>" ++ (0xC0 ∷ [])) 18 3) × (Refused (bytes "<a>" ++ (0xC1 ∷ 0xBF ∷ [])) 18 3) × (Refused (bytes "<a>" ++ (0xE0 ∷ 0x9F ∷ [])) 18 4) ×
     (Refused (bytes "<a>" ++ (0xED ∷ 0xA0 ∷ [])) 18 4) × (Refused (bytes "<a>" ++ (0xEF ∷ 0xBF ∷ 0xBE ∷ [])) 18 5) ×
     (Refused (bytes "<a>" ++ (0xEF ∷ 0xBF ∷ 0xBF ∷ [])) 18 5) × (Refused (bytes "<a>" ++ (0xF0 ∷ 0x8F ∷ [])) 18 4) ×
     (Refused (bytes "<a>" ++ (0xF4 ∷ 0x90 ∷ [])) 18 4) × (Refused (bytes "<a>" ++ (0xF5 ∷ [])) 18 3) × (Refused (bytes "<a>" ++ (0xF8 ∷ [])) 18 3)
 unfolding begun char follow inText inSection inRef inTarget inMisc inHeading inDecl behind inTag inLt step crosses lower fits keep records laidOut resulting roomOf tokens
-no-characters = (refl, refl, refl, refl, refl, refl, refl, refl, refl, refl, refl, refl, refl, refl)
+no-characters = (refl, refl, refl, refl, refl, refl, refl, refl, refl, refl, refl, refl, refl, refl, refl, refl)
 
 -- the same in a value, a comment, a section, an instruction
 no-characters-elsewhere :

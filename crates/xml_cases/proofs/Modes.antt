@@ -33,13 +33,14 @@ at-the-beginning :
 unfolding begun char follow inText inSection inRef inTarget inMisc inHeading inDecl behind inTag inLt step crosses lower fits keep records laidOut resulting roomOf tokens
 at-the-beginning = (refl, refl, refl, refl, refl, refl, refl)
 
--- text outside and inside the root; behind `]]`
+-- no root at the end; text outside and inside the root; behind `]]`
 in-text :
+    (Refused (bytes " ") 18 1) × (Refused (bytes "<!---->") 18 7) × (Refused (bytes "<?p?> ") 18 6) ×
     (Refused (bytes " x") 18 1) × (Refused (bytes " &") 18 1) × (Refused (bytes "<a/>x") 18 4) × (Refused (bytes "<a/> &b;") 18 5) ×
     (Refused (bytes "<a>" ++ (0x01 ∷ [])) 18 3) × (Refused (bytes "<a>]" ++ (0x01 ∷ [])) 18 4) × (Refused (bytes "<a>]]>") 18 5) ×
     (Refused (bytes "<a>]]]]>") 18 7)
 unfolding begun char follow inText inSection inRef inTarget inMisc inHeading inDecl behind inTag inLt step crosses lower fits keep records laidOut resulting roomOf tokens
-in-text = (refl, refl, refl, refl, refl, refl, refl, refl)
+in-text = (refl, refl, refl, refl, refl, refl, refl, refl, refl, refl, refl)
 
 -- `<` first, before the root, inside and behind it
 behind-angle :
