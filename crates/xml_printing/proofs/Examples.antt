@@ -36,10 +36,10 @@ use Rattle.xml_listing.specs.XmlListing.{Lent, xmlListing, xmlAreas}
 abbrev small : Lent
 small = record { records = 64; text = 2; scratch = 0; out = 64 }
 
--- the name is a value of the document, and the suite follows it
-document-listed
-    : xmlListing (bytes "<testsuites name='r'><testsuite name='s'/></testsuites>") 20 10 small
-    ≡ bytes "(report \"r\" 0 0 0 0 -\n(suite \"s\" 0 0 0 0 -))\n"
+-- the name is a value of the document, and the suite follows it; more attributes than events
+document-listed :
+    (xmlListing (bytes "<testsuites name='r'><testsuite name='s'/></testsuites>") 20 10 small ≡ bytes "(report \"r\" 0 0 0 0 -\n(suite \"s\" 0 0 0 0 -))\n") ×
+    (xmlListing (bytes "<testsuites a='' b='' c='' name='r'></testsuites>") 15 20 small ≡ bytes "(report \"r\" 0 0 0 0 -)\n")
 unfolding begun char follow inText inSection inRef inTarget inMisc inHeading inDecl behind inTag inLt step crosses lower fits keep records laidOut resulting roomOf tokens
     utf8.need utf8.low utf8.high codeFrom sameBytes keys tags digits.digit digits.places digits.decimal letter listed
     table.goodAttribute table.goodShape table.badFrom table.checkEvent table.checkFrom table.goodSizes table.checkOf
@@ -54,7 +54,7 @@ unfolding begun char follow inText inSection inRef inTarget inMisc inHeading inD
     machine.act machine.step machine.run reading.readAs reading.reading
     listing.suiteText listing.header listing.renderPublic listing.render listing.listingOf listing.listingAnswer
     listing.outputOf publicListing xmlListing
-document-listed = refl
+document-listed = (refl, refl)
 
 -- no document: its root isn't closed
 refused-listing : xmlListing (bytes "<testsuites name='r'>") 20 10 small ≡ refusedText
