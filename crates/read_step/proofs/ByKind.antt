@@ -24,7 +24,8 @@ use Rattle.read_path.proofs.Lengths.{planned-room, eof-room, fault-room}
 use Rattle.read_content.specs.Content.{perform}
 use Rattle.read_content.specs.inside.Holds.{isList, apt}
 use Rattle.read_machine.specs.Machine.{Machine, act, step}
-use Rattle.read_step.specs.inside.Planned.{isPiece, planned, nameIn, isSkip, isStop, hasContent}
+use Rattle.table_events.specs.inside.Pieces.{isPiece}
+use Rattle.read_step.specs.inside.Planned.{planned, nameIn, isSkip, isStop, hasContent}
 use Rattle.read_step.proofs.Acting.{act-none}
 use Rattle.refusal.specs.declared.Cause.the-variants as cause
 

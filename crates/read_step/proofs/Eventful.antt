@@ -24,7 +24,8 @@ use Rattle.read_content.specs.Content.{Content}
 use Rattle.read_content.specs.inside.Holds.{Lists}
 use Rattle.read_machine.specs.Machine.{Machine, act, step, run}
 use Rattle.read_machine.proofs.Skipping.{moved, act-passes, act-stops, Keeps, finished-runs}
-use Rattle.read_step.specs.inside.Planned.{isPiece, planned, nameIn}
+use Rattle.table_events.specs.inside.Pieces.{isPiece}
+use Rattle.read_step.specs.inside.Planned.{planned, nameIn}
 use Rattle.read_step.specs.inside.Standing.{machineOf, runOn, inSkip, runSkip, Stands, refusalAt, Acted, Ended, Stepped}
 use Rattle.read_step.specs.inside.Promises.{StepsSkip}
 use Rattle.read_step.specs.declared.State.{State}

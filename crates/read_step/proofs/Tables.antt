@@ -17,7 +17,8 @@ use Rattle.table_events.proofs.Attributing.{Ranged, none, some, ranged, range-o
 use Rattle.read_element.specs.Outcome.{Rooms}
 use Rattle.read_state.specs.Control.{Act}
 use Rattle.read_machine.specs.Machine.{Machine, act, step}
-use Rattle.read_step.specs.inside.Planned.{isPiece, planned}
+use Rattle.table_events.specs.inside.Pieces.{isPiece}
+use Rattle.read_step.specs.inside.Planned.{planned}
 use Rattle.read_step.specs.inside.Standing.{Spans}
 use Rattle.read_step.proofs.Acting.{act-none}
 use Rattle.read_step.proofs.ByKind.{other-steps}

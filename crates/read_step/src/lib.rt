@@ -27,6 +27,7 @@ use table_events::Skipped;
 use table_events::bytes_at;
 use table_events::end_at;
 use table_events::first_at;
+use table_events::is_piece;
 use table_events::kind_at;
 use table_events::skip_from;
 use tree_status::no_status;
@@ -44,7 +45,7 @@ ghost use Rattle.read_state.specs.declared.Act.the-variants.{ReadProperty};
 ghost use Rattle.read_content.specs.Content as deed;
 ghost use Rattle.read_element.specs.inside.Refines.{tagged, areas};
 ghost use Rattle.read_content.specs.inside.Holds.{apt};
-ghost use Rattle.read_step.specs.inside.Planned.{isPiece, planned, nameIn, isSkip, isStop, hasContent};
+ghost use Rattle.read_step.specs.inside.Planned.{planned, nameIn, isSkip, isStop, hasContent};
 ghost use Rattle.read_step.specs.inside.Standing.{machineOf, Standing, Bounded, Lent, Spans, haltAt, beginning, after};
 ghost use Rattle.read_step.specs.inside.Promises.{given, lent, StepsPiece, StepsSkip, StepsAct, StepsProperty, StepsEvent};
 
@@ -323,13 +324,6 @@ fn step_property(
         Step::Stop => Step::Stop,
         Step::Halt(halt) => Step::Halt(halt),
     }
-}
-
-// The kinds of pieces of text: Text, CData, Ref, Other, Indent (rule T3).
-fn is_piece(kind: u32) -> bool
-    ensures { λ r. ⌜ r ≡ isPiece kind ⌝ }
-{
-    ((kind::TEXT <= kind) & (kind <= kind::OTHER)) | (kind == kind::INDENT)
 }
 
 // One event, with what is skipped behind it.

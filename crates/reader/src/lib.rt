@@ -1,8 +1,9 @@
 // Reading: an event table in, a report's tree out (deserialize.rs of the crate).
 use area::clear;
-use area::clear_words;
 use area::least;
 use area::limit;
+use clearing::clear_all;
+use clearing::clear_tree;
 use read_path::path_of;
 use read_path::within;
 use read_step::Halt;
@@ -131,26 +132,6 @@ fn run_within(
         &mut text[..bytes],
         &mut scratch[..room],
     )
-}
-
-// Before reading (rule M11). Of scratch reading looks only at what it put there itself.
-fn clear_tree(words: &mut [u32], bytes: &mut [u8])
-    ensures { λ _. ⌜ now (words .exit) ≡ zeros (length (now (words .entry))) ⌝ }
-    ensures { λ _. ⌜ now (bytes .exit) ≡ zeros (length (now (bytes .entry))) ⌝ }
-{
-    clear_words(words);
-    clear(bytes);
-}
-
-// At a refusal (rule F13).
-fn clear_all(records: &mut [u32], text: &mut [u8], scratch: &mut [u8])
-    ensures { λ _. ⌜ now (records .exit) ≡ zeros (length (now (records .entry))) ⌝ }
-    ensures { λ _. ⌜ now (text .exit) ≡ zeros (length (now (text .entry))) ⌝ }
-    ensures { λ _. ⌜ now (scratch .exit) ≡ zeros (length (now (scratch .entry))) ⌝ }
-{
-    clear_words(records);
-    clear(text);
-    clear(scratch);
 }
 
 // A good table, into areas that are zero, and become so again at a refusal (rule F13).

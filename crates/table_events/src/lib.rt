@@ -8,6 +8,7 @@ ghost use lib.ListN.{drop};
 ghost use Rattle.table.specs.Table.{countOf};
 ghost use Rattle.table.specs.Kinds as kind;
 ghost use Rattle.table.specs.Event.{kindAt, bytesAt, resolveFrom};
+ghost use Rattle.table_events.specs.inside.Pieces.{isPiece};
 ghost use Rattle.table_events.specs.inside.Ranges.{firstAt, endAt};
 ghost use Rattle.table_events.specs.Skip.{depthAfter, skipOf, skipAnswer};
 use area::wide;
@@ -37,6 +38,13 @@ pub fn kind_at(events: &[u32], i: usize) -> u32
         return kind::EOF;
     }
     word_of(words_at(events, i), 0)
+}
+
+// The kinds of pieces of text: Text, CData, Ref, Other, Indent (rule T3).
+pub fn is_piece(kind: u32) -> bool
+    ensures { λ r. ⌜ r ≡ isPiece kind ⌝ }
+{
+    ((kind::TEXT <= kind) & (kind <= kind::OTHER)) | (kind == kind::INDENT)
 }
 
 pub fn bytes_at<'a>(events: &[u32], source: &'a [u8], i: usize) -> &'a [u8]

@@ -1,9 +1,8 @@
 // The events that a layout's report is written as: serialize.rs, into three areas that the caller lends.
 use area::Stored;
-use area::clear;
-use area::clear_words;
 use area::least;
 use area::limit;
+use clearing::clear_table;
 use refusal::Cause;
 use refusal::Refusal;
 use refusal::Verdict;
@@ -14,7 +13,6 @@ use write_marks::Marks;
 ghost use mathlib.Core.Path.{_≡_};
 ghost use lib.ListN.{length};
 ghost use Rattle.refusal.specs.Refusal.{refused, late};
-ghost use Rattle.area.specs.Area.{zeros};
 ghost use Rattle.write_table.specs.Laid.{itemsOf};
 ghost use Rattle.write_table.specs.inside.Putting.{Wrote};
 ghost use Rattle.write_marks.specs.inside.Kept.{empty, kept};
@@ -40,17 +38,6 @@ fn refuse(cause: Cause) -> Writing
         bytes: 0,
         refusal: refuse_late(cause),
     }
-}
-
-// By rule F13.
-fn clear_all(events: &mut [u32], attributes: &mut [u32], bytes: &mut [u8])
-    ensures { λ _. ⌜ now (events .exit) ≡ zeros (length (now (events .entry))) ⌝ }
-    ensures { λ _. ⌜ now (attributes .exit) ≡ zeros (length (now (attributes .entry))) ⌝ }
-    ensures { λ _. ⌜ now (bytes .exit) ≡ zeros (length (now (bytes .entry))) ⌝ }
-{
-    clear_words(events);
-    clear_words(attributes);
-    clear(bytes);
 }
 
 // Puts the events of the report that the records and the text hold (rule W14).
@@ -96,14 +83,14 @@ pub fn write(
         ⌜ now (attributes .exit) ≡ attributesLeft (now (records .entry)) (now (text .entry)) (length (now (events .entry))) (length (now (attributes .entry))) (length (now (bytes .entry))) ⌝ }
     ensures { λ r. ⌜ now (bytes .exit) ≡ bytesLeft (now (records .entry)) (now (text .entry)) (length (now (events .entry))) (length (now (attributes .entry))) (length (now (bytes .entry))) ⌝ }
 {
-    clear_all(events, attributes, bytes);
+    clear_table(events, attributes, bytes);
     if !tree_layout::is_layout(records, text) {
         return refuse(Cause::NotLayout);
     }
     let k = put_tree(records, text, events, attributes, bytes);
     let mark = k.bytes;
     let Stored::Put(n) = mark else {
-        clear_all(events, attributes, bytes);
+        clear_table(events, attributes, bytes);
         return refuse(Cause::OutputFull);
     };
     Writing {

@@ -1,17 +1,13 @@
 -- What is done at an event, by its kind. Definitions only.
 use Prim.Native.Nat.{ℕ}
 use mathlib.Core.List.{List, []}
-use mathlib.Core.Bool.{Bool, true, false, cond, not, _&&_, _||_}
-use lib.Dec.{leb, eqb}
+use mathlib.Core.Bool.{Bool, true, false, cond, not}
+use lib.Dec.{eqb}
 use Rattle.read_state.specs.Control.{Control, Act}
 use Rattle.read_rules.specs.Rules.{planAt, planEof, planFault}
 use Rattle.table.specs.Event.{tagKind}
 use Rattle.read_state.specs.declared.Act.{Act as CodedAct}
 use Rattle.read_state.specs.declared.Act.the-variants.{Pass, Skip, Open, Close, OpenText, CloseText, OpenList, CloseList, ReadProperty, Stop, Missing, Broken}
-
--- 3 Text, 4 CData, 5 Ref, 6 Other and 9 Indent (rule T3)
-abbrev pub isPiece : ℕ → Bool
-isPiece kind = (leb 3 kind && leb kind 6) || eqb kind 9
 
 -- 7 is Eof, 8 Fault (rule T3), else a tag of that name
 abbrev pub planned : Control → ℕ → List ℕ → Act
