@@ -17,7 +17,7 @@ use Rattle.read_element.specs.Attributes.{Given}
 use Rattle.read_element.specs.inside.Held.{Held}
 use Rattle.read_attribute.specs.inside.Steps.{Matches}
 use Rattle.read_element.specs.inside.Refines.{went, stopped}
-use Rattle.read_attribute.specs.declared.Step.{Step}
+use Rattle.read_fault.specs.declared.Step.{Step}
 use Rattle.read_each.specs.inside.Fresh.{fresh}
 
 held-wider : {own text : List ℕ} {extras fill : ℕ} {g : Given} (z : ℕ) → Held own text extras fill g → Held (own ++ zeros z) text extras fill g

@@ -1,8 +1,8 @@
 // An element's attributes, one after the other: with chains of its extras' keys where there is room for them behind the records.
 use area::clear_words;
 use read_attribute::Range;
-use read_attribute::Step;
 use read_each::read_each;
+use read_fault::Step;
 use read_indexed::read_chained;
 use tree_record::kind::CASE;
 use tree_record::kind::SUITE;

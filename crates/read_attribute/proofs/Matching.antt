@@ -28,13 +28,14 @@ use Rattle.read_element.specs.inside.Refines.{went, stopped}
 use Rattle.read_extra_record.specs.inside.Answers.{gaveAnswer}
 use Rattle.read_repeats.specs.inside.Words.{attributeIn}
 use Rattle.read_role.specs.inside.Roles.{tookGiven}
-use Rattle.read_attribute.specs.inside.Steps.{takenStep, gaveStep, faultStep, byKey, Matches}
+use Rattle.read_attribute.specs.inside.Steps.{takenStep, gaveStep, byKey, Matches}
 use Rattle.read_extra_record.specs.declared.Given.{Given as Counted}
 use Rattle.read_extra_record.specs.declared.Gave.{Gave}
 use Rattle.read_extra_record.specs.declared.Gave.the-variants as gave
 use Rattle.read_values.specs.declared.Took.{Took}
 use Rattle.read_values.specs.declared.Took.the-variants as took
-use Rattle.read_attribute.specs.declared.Step.{Step}
+use Rattle.read_fault.specs.inside.Faults.{faultStep}
+use Rattle.read_fault.specs.declared.Step.{Step}
 use Rattle.read_attribute.proofs.RoleKeys.{Accepts, unknown-accepts}
 use Rattle.refusal.specs.declared.Cause.the-variants as cause
 

@@ -4,40 +4,29 @@ use names::key_of;
 use read_extra_record::Gave;
 use read_extra_record::Given;
 use read_extras::read_extra;
+use read_fault::Fault;
+use read_fault::Step;
+use read_fault::refused_at;
 use read_keys::Role;
 use read_keys::role_of;
 use read_repeats::is_repeated;
 use read_role::read_value;
 use read_values::Took;
 use refusal::Cause;
-use table::parts::bytes_of;
+use table_parts::bytes_of;
 ghost use mathlib.Core.Path.{_≡_};
 ghost use Prim.Native.Nat.{_<_, _≤_, _+_, _*_, _^_};
 ghost use lib.ListN.{length};
 ghost use Rattle.read_element.specs.inside.Refines.{tagged, areas};
 ghost use Rattle.read_repeats.specs.inside.Words.{attributeIn};
 ghost use Rattle.read_extra_record.specs.inside.Promises.{Bounded};
-ghost use Rattle.read_attribute.specs.inside.Steps.{takenStep, gaveStep, faultStep};
+ghost use Rattle.read_attribute.specs.inside.Steps.{takenStep, gaveStep};
 ghost use Rattle.read_attribute.specs.inside.Promises.{ReadsAttribute, StepsAttribute};
-
-// Why an element is refused: the code of the key whose value it is, 0 where the path has no Attribute, and the attribute's
-// number, 4294967295 where none is concerned.
-pub struct Fault {
-    pub cause: Cause,
-    pub key: u32,
-    pub attribute: u32,
-}
 
 // Attributes from number `first` to before number `end`.
 pub struct Range {
     pub first: usize,
     pub end: usize,
-}
-
-// What one attribute comes to.
-pub enum Step {
-    To(Given),
-    Not(Fault),
 }
 
 fn taken(took: Took, given: Given, key: usize, j: usize) -> Step
@@ -56,18 +45,6 @@ fn taken(took: Took, given: Given, key: usize, j: usize) -> Step
             attribute: j as u32,
         }),
     }
-}
-
-// A refusal at attribute j whose path has no Attribute (rules A11 and F9).
-fn refused_at(cause: Cause, j: usize) -> Step
-    requires { ⌜ j < 2 ^ 32 ⌝ }
-    ensures { λ r. ⌜ r ≡ faultStep cause 0 j ⌝ }
-{
-    Step::Not(Fault {
-        cause,
-        key: 0,
-        attribute: j as u32,
-    })
 }
 
 // What is refused in an extra has the element's path alone (rule A11).

@@ -22,10 +22,10 @@ use Rattle.read_attribute.specs.inside.Steps.{faultAt, Matches}
 use Rattle.read_attributes.specs.inside.Elements.{faultElement, missingOf, Free, knownOf, Becomes, grew}
 use Rattle.read_each.specs.inside.Fresh.{fresh}
 use Rattle.read_extra_record.specs.declared.Given.{Given as Counted}
-use Rattle.read_attribute.specs.declared.Fault.{Fault}
+use Rattle.read_fault.specs.declared.Fault.{Fault}
 use Rattle.read_attribute.specs.declared.Range.{Range}
-use Rattle.read_attribute.specs.declared.Step.{Step}
-use Rattle.read_attribute.specs.declared.Step.the-variants as step
+use Rattle.read_fault.specs.declared.Step.{Step}
+use Rattle.read_fault.specs.declared.Step.the-variants as step
 use Rattle.read_attributes.specs.declared.Element.{Element}
 use Rattle.read_attributes.specs.declared.Element.the-variants as element
 use Rattle.read_element.proofs.TreeOutcome.{Holds, held}

@@ -1,8 +1,8 @@
 // An element's record, extras and texts from its attributes (the attribute loops of deserialize.rs).
 use read_all::read_all;
-use read_attribute::Fault;
 use read_attribute::Range;
-use read_attribute::Step;
+use read_fault::Fault;
+use read_fault::Step;
 use read_free::free_to;
 use refusal::Cause;
 use refusal::NOWHERE;

@@ -1,14 +1,16 @@
 // What actions do to records and texts.
-use read_attribute::Fault;
 use read_attribute::Range;
+use read_fault::Fault;
+use read_place::Marks;
 use read_state::Level;
 use refusal::Cause;
 use refusal::NOWHERE;
 use tree_record::kind;
 ghost use mathlib.Core.Path.{_≡_};
 ghost use Rattle.read_state.specs.inside.Coded.{levelOf};
+ghost use Rattle.read_place.specs.inside.Coded.{marksOf};
 ghost use Rattle.read_content.specs.declared.Performed.the-variants.{Not};
-ghost use Rattle.read_content.specs.Content.{propertyKind};
+ghost use Rattle.read_content.specs.Content.{propertyKind, takes};
 ghost use Rattle.read_content.specs.inside.Holds.{faultOf, noContent};
 
 // Records from number `first` on.
@@ -70,5 +72,17 @@ pub fn property_kind(level: Level) -> u32
         Level::Suite => kind::SUITE_PROPERTY,
         Level::Case => kind::CASE_PROPERTY,
         Level::Status => kind::CASE_PROPERTY,
+    }
+}
+
+// The record of a main takes no stack trace and no outputs (rule S12).
+pub fn is_taken(level: Level, marks: Marks) -> bool
+    ensures { λ r. ⌜ r ≡ takes (levelOf level) (marksOf marks) ⌝ }
+{
+    match level {
+        Level::Top => false,
+        Level::Suite => true,
+        Level::Case => true,
+        Level::Status => kind::FLAKY_FAILURE <= marks.status_kind,
     }
 }

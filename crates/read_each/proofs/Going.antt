@@ -22,9 +22,9 @@ use Rattle.read_free.specs.inside.Unrepeated.{Unrepeated}
 use Rattle.text.specs.Value.{valueText}
 use Rattle.read_extras.specs.inside.Hinted.{Hinted}
 use Rattle.read_extra_record.specs.declared.Given.{Given as Counted}
-use Rattle.read_attribute.specs.declared.Fault.{Fault}
-use Rattle.read_attribute.specs.declared.Step.{Step}
-use Rattle.read_attribute.specs.declared.Step.the-variants as step
+use Rattle.read_fault.specs.declared.Fault.{Fault}
+use Rattle.read_fault.specs.declared.Step.{Step}
+use Rattle.read_fault.specs.declared.Step.the-variants as step
 use Rattle.read_each.proofs.HeldBounds.{held-fill, held-extras}
 use Rattle.read_each.proofs.KeysBefore.{keys-next, free-key}
 use Rattle.refusal.specs.declared.Cause.the-variants as cause

@@ -1,8 +1,8 @@
 // An element's attributes, one after the other: each extra is looked for among those before it.
 use read_attribute::Range;
-use read_attribute::Step;
 use read_attribute::step_attribute;
 use read_extra_record::Given;
+use read_fault::Step;
 ghost use Prim.Native.Nat.{_≤_};
 ghost use Rattle.read_element.specs.inside.Refines.{tagged, areas};
 ghost use Rattle.read_each.specs.inside.Promises.{Begins, ReadsAttributes};

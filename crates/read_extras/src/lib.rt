@@ -5,7 +5,7 @@ use read_extra_record::Given;
 use read_extra_record::new_extra;
 use read_extra_record::old_extra;
 use refusal::Cause;
-use table::parts::bytes_of;
+use table_parts::bytes_of;
 use text::value::Checked;
 use text::value::check_value;
 use text_key::cleaned_length;

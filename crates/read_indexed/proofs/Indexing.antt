@@ -24,19 +24,19 @@ use Rattle.read_element.specs.inside.Refines.{went, stopped}
 use Rattle.read_free.specs.inside.Unrepeated.{Unrepeated}
 use Rattle.read_extras.proofs.Choosing.{place-held}
 use Rattle.read_extra_record.specs.declared.Given.{Given as Counted}
-use Rattle.read_attribute.specs.declared.Fault.{Fault}
-use Rattle.read_attribute.specs.declared.Step.{Step}
-use Rattle.read_attribute.specs.declared.Step.the-variants as step
+use Rattle.read_fault.specs.declared.Fault.{Fault}
+use Rattle.read_fault.specs.declared.Step.{Step}
+use Rattle.read_fault.specs.declared.Step.the-variants as step
 use Rattle.read_places.specs.inside.Stands.{stands}
 use Rattle.read_places.proofs.Unchanged.{unchanged}
 use Rattle.read_each.proofs.HeldBounds.{held-fill, held-extras}
 use Rattle.read_each.proofs.KeysBefore.{keys-next, free-key}
 use Rattle.read_each.proofs.Going.{spacious, somewhere, roomy-spacious, Gone, gone, halted, attributeStep, Stepped, Along}
-use Rattle.read_indexed.specs.inside.Indexed.{Indexed}
+use Rattle.read_places.specs.inside.Indexed.{Indexed}
 use Rattle.read_indexed.proofs.Kept.{Kept, kept-step}
 use Rattle.read_indexed.proofs.StoredKeys.{kept-least, kept-most, kept-keys}
 use Rattle.read_indexed.proofs.Narrow.{narrow, roomy-narrow, step-narrow}
-use Rattle.read_indexed.proofs.Noting.{front-is, indexed-rest}
+use Rattle.read_places.proofs.Noting.{front-is, indexed-rest}
 
 itself : (n : ℕ) → n ≤ n
 itself n = omega arith

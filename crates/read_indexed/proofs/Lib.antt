@@ -1,5 +1,4 @@
 mod Kept
 mod StoredKeys
 mod Narrow
-mod Noting
 mod Indexing

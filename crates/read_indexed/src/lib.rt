@@ -1,12 +1,11 @@
 // An element's attributes, one after the other. Where there is room behind the records, an extra is found by chains of the stored
 // keys, not by comparing with each.
-use chains::link;
 use read_attribute::Range;
-use read_attribute::Step;
 use read_attribute::step_attribute;
 use read_chains::key::key_at;
 use read_extra_record::Given;
-use read_places::extra_bucket;
+use read_fault::Step;
+use read_places::note_extra;
 use read_places::place_in;
 ghost use mathlib.Core.Path.{_≡_};
 ghost use Prim.Native.Nat.{_+_, _-_, _*_, _≤_, _<_};
@@ -17,7 +16,7 @@ ghost use Rattle.table.specs.Event.{keyAt};
 ghost use Rattle.read_element.specs.inside.Held.{placeAt};
 ghost use Rattle.read_element.specs.inside.Refines.{tagged, areas};
 ghost use Rattle.read_each.specs.inside.Promises.{Begins, ReadsWithin};
-ghost use Rattle.read_indexed.specs.inside.Indexed.{Indexed};
+ghost use Rattle.read_places.specs.inside.Indexed.{Indexed};
 
 // The place of the extra with the key of attribute j among the extras, or their number.
 fn hint_for(
@@ -38,24 +37,6 @@ fn hint_for(
 {
     let key = key_at(attributes, source, j);
     place_in(&own[..k], text, extras, m, key, &own[k..])
-}
-
-// An extra that was put behind the others is entered.
-fn note_extra(extras: usize, next: usize, k: usize, m: usize, own: &mut [u32], text: &[u8])
-    requires { ⌜ extras ≤ next ⌝ }
-    requires { ⌜ next ≤ extras + 1 ⌝ }
-    requires { ⌜ extras < 65536 ⌝ }
-    requires { ⌜ k ≤ length (now own) ⌝ }
-    requires { ⌜ k + m + extras < length (now own) ⌝ }
-    requires { ⌜ Indexed k m extras (now own) (now text) ⌝ }
-    ensures { λ _. ⌜ take k (now (own .exit)) ≡ take k (now (own .entry)) ⌝ }
-    ensures { λ _. ⌜ Indexed k m next (now (own .exit)) (now (text .entry)) ⌝ }
-{
-    if next <= extras {
-        return;
-    }
-    let b = extra_bucket(&own[..k], text, extras, m);
-    link(&mut own[k..], m, b, extras);
 }
 
 // The records stand in the first k words, which have room for an extra from each attribute; the words behind are zero.

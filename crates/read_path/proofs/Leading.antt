@@ -13,7 +13,8 @@ use Rattle.read_state.specs.Control.{Level}
 use Rattle.read_state.specs.inside.Coded.{levelOf, levelIn, modeOf}
 use Rattle.read_state.specs.declared.Control.{Control as CodedControl}
 use Rattle.read_place.proofs.Lasting.{level-of}
-use Rattle.read_path.specs.inside.Coded.{Leads, withAttribute}
+use Rattle.read_fault.specs.inside.Faults.{withAttribute}
+use Rattle.read_path.specs.inside.Coded.{Leads}
 
 pub inside : (f : Level → List PathElement) (c : CodedControl) {p : Path} → Leads p (f (levelOf (c .level))) → Leads p (f (levelIn (modeOf c)))
 inside f c {p} h = subst (λ (l : Level). Leads p (f l)) (level-of c) h
@@ -28,11 +29,6 @@ leads-with {p} {q} {es} {e} {f} l s t h =
 pub leads-two : {p q r : Path} {es : List PathElement} {a b e f : PathElement} → Leads p es → q ≡ longer p a → a ≡ e → r ≡ longer q b → b ≡ f → length es ≤ 4 → Leads r (es ++ (e ∷ f ∷ []))
 leads-two {p} {q} {r} {es} {a} {b} {e} {f} l s t u v h =
     subst (λ (x : List PathElement). Leads r x) (append-assoc es (e ∷ []) (f ∷ [])) (leads-with (leads-with l s t (omega arith)) u v (omega (arith, length-append es (e ∷ []))))
-
--- the path of an attribute's value
-pub with-key : (p : Path) (key : ℕ) → (key ≡ 0 → ⊥) → longer p (attributeElement key) ≡ withAttribute p key
-with-key p zero n = absurd (n refl)
-with-key p (suc k) n = refl
 
 -- a path of at most five elements has room for an Attribute, and the code puts it there
 pub leads-within : {p : Path} {es : List PathElement} (key : ℕ) → Leads p es → length es ≤ 5 → Leads (withAttribute p key) (pathTo es key)

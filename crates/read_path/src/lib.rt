@@ -3,12 +3,12 @@ ghost use mathlib.Core.Path.{_≡_};
 ghost use Prim.Native.Nat.{ℕ};
 ghost use mathlib.Core.Bool.{Bool};
 ghost use mathlib.Core.List.{List};
-ghost use Rattle.read_element.specs.Outcome as outcome;
 ghost use Rattle.read_state.specs.Control as plan;
 ghost use Rattle.read_state.specs.inside.Coded.{levelOf, outputOf, modeOf, opening, closing, actOf};
 ghost use Rattle.read_path.specs.Paths as standing;
 ghost use Rattle.read_place.specs.inside.Coded.{marksOf};
-ghost use Rattle.read_path.specs.inside.Coded.{Leads, withAttribute};
+ghost use Rattle.read_path.specs.inside.Coded.{Leads};
+use read_fault::element_of;
 use read_place::Marks;
 use read_state::Act;
 use read_state::Control;
@@ -21,12 +21,6 @@ use refusal::PathElement;
 use tree_record::kind::CASE;
 use tree_record::kind::REPORT;
 use tree_record::kind::SUITE;
-
-fn element_of(kind: u32, index: u32, event: u32) -> PathElement
-    ensures { λ r. ⌜ r ≡ outcome.element kind index event ⌝ }
-{
-    PathElement { kind, index, event }
-}
 
 fn root() -> Path
     ensures { λ r. ⌜ Leads r standing.root ⌝ }
@@ -138,21 +132,4 @@ pub fn path_of(act: Act, control: Control, m: Marks) -> Path
         Act::CloseList => root(),
         Act::Stop => root(),
     }
-}
-
-// The code that a path's Attribute has for a key.
-fn attribute_of(key: u32) -> u32
-    ensures { λ r. ⌜ r ≡ outcome.attributeOf key ⌝ }
-{
-    if key <= 14 { key } else { 16 }
-}
-
-// The path of an attribute's value (rule A11), where the key's code says that there is one.
-pub fn within(path: Path, key: u32) -> Path
-    ensures { λ r. ⌜ r ≡ withAttribute path key ⌝ }
-{
-    if key == 0 {
-        return path;
-    }
-    path.with(element_of(16, attribute_of(key), NOWHERE))
 }

@@ -1,2 +1,3 @@
 mod Placing
 pub mod Unchanged
+pub mod Noting

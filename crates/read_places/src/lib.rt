@@ -1,19 +1,21 @@
 // The place of an extra by its cleaned key, found along a chain: not by comparing with each extra's.
 use area::wide;
 use chains::bucket;
-use table::parts::bytes_of;
-use table::parts::word_of;
+use chains::link;
+use table_parts::bytes_of;
+use table_parts::word_of;
 use text_hash::cleaned_bucket;
 use text_key::cleaned_length;
 use text_key::is_cleaned;
 ghost use mathlib.Core.Path.{_≡_};
 ghost use mathlib.Core.Bool.{cond};
-ghost use Prim.Native.Nat.{_≤_, _<_};
-ghost use lib.ListN.{length};
+ghost use Prim.Native.Nat.{_+_, _≤_, _<_};
+ghost use lib.ListN.{length, take};
 ghost use Rattle.names.specs.Names.{sameBytes};
 ghost use Rattle.text.specs.Value.{valueText};
 ghost use Rattle.chains.specs.Chains.{Chained};
 ghost use Rattle.read_element.specs.inside.Held.{placeAt};
+ghost use Rattle.read_places.specs.inside.Indexed.{Indexed};
 ghost use Rattle.read_places.specs.inside.Stands.{storedKey, stands};
 
 // The stored key of extra i: its record stands behind the element's own and those before it.
@@ -68,10 +70,28 @@ pub fn place_in(
 }
 
 // The bucket, of m, of extra i's key.
-pub fn extra_bucket(own: &[u32], text: &[u8], i: usize, m: usize) -> usize
+fn extra_bucket(own: &[u32], text: &[u8], i: usize, m: usize) -> usize
     requires { ⌜ i < 65536 ⌝ }
     requires { ⌜ 0 < m ⌝ }
     ensures { λ r. ⌜ r ≡ stands (now (own .entry)) (now (text .entry)) m i ⌝ }
 {
     bucket(stored_key(own, text, i), m)
+}
+
+// An extra that was put behind the others is entered.
+pub fn note_extra(extras: usize, next: usize, k: usize, m: usize, own: &mut [u32], text: &[u8])
+    requires { ⌜ extras ≤ next ⌝ }
+    requires { ⌜ next ≤ extras + 1 ⌝ }
+    requires { ⌜ extras < 65536 ⌝ }
+    requires { ⌜ k ≤ length (now own) ⌝ }
+    requires { ⌜ k + m + extras < length (now own) ⌝ }
+    requires { ⌜ Indexed k m extras (now own) (now text) ⌝ }
+    ensures { λ _. ⌜ take k (now (own .exit)) ≡ take k (now (own .entry)) ⌝ }
+    ensures { λ _. ⌜ Indexed k m next (now (own .exit)) (now (text .entry)) ⌝ }
+{
+    if next <= extras {
+        return;
+    }
+    let b = extra_bucket(&own[..k], text, extras, m);
+    link(&mut own[k..], m, b, extras);
 }

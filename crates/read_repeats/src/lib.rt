@@ -1,7 +1,7 @@
 // Repeated keys of an element.
 use area::wide;
 use names::same;
-use table::parts::bytes_of;
+use table_parts::bytes_of;
 ghost use mathlib.Core.Path.{_≡_};
 ghost use mathlib.Core.Bool.{not, _&&_};
 ghost use Prim.Native.Nat.{_≤_, _*_, _-_};

@@ -4,22 +4,19 @@ use mathlib.Core.Bool.{Bool, true, false, cond, _&&_}
 use mathlib.Core.List.{List}
 use mathlib.Core.Path.{_≡_, refl}
 use native.Mathlib.Omega.{arith}
-use borrow.Author.Tests.{lt-ltb, ne-eqb, leb-true}
+use borrow.Author.Tests.{lt-ltb, leb-true}
 use lib.Dec.{leb, ltb, eqb}
 use Rattle.names.specs.Tags.{tagOf}
 use Rattle.table.specs.Event.{Start, Empty, End, tagKind}
-use Rattle.read_state.specs.Control.{Level, top, suite, case, status, Output, trace, out, err, at, gathering, listing, pass, openReport, openSuite}
-use Rattle.read_state.specs.Control.{openCase, openStatus, openText, closeText, openList, readProperty, stop, missing, broken, isStatus}
-use Rattle.read_rules.specs.Rules.{outputs, emptied, atTop, atSuite, atCase, atStatus, child, tagOfOutput, inText, inList, planEof}
+use Rattle.read_state.specs.Control.{Level, top, suite, case, status, Output, at, gathering, listing, pass, openReport, openSuite}
+use Rattle.read_state.specs.Control.{openCase, openStatus, closeText, openList, readProperty, stop, missing, broken, isStatus}
+use Rattle.read_rules.specs.Rules.{outputs, emptied, atTop, atSuite, atCase, tagOfOutput, inText, inList, planEof}
+use Rattle.read_children.proofs.Children.{kind-end}
 use Rattle.read_state.proofs.Turning.{opening-other}
 use Rattle.read_state.specs.inside.Coded.{modeAt, isTop, opening}
 use Rattle.read_state.specs.declared.Mode.{Mode as CodedMode}
 use Rattle.read_state.specs.declared.Mode.the-variants.{At, Text, List as Listing}
 use Rattle.refusal.specs.declared.Cause.the-variants as cause
-
--- a tag that is neither Start nor Empty is an End (rule T3)
-pub kind-end : (k : ℕ) → (k ≡ 0 → ⊥) → (k ≡ 1 → ⊥) → tagKind k ≡ End
-kind-end k a b = rw (ne-eqb k 0 a, ne-eqb k 1 b) refl
 
 pub kind-above : (k : ℕ) → 1 < k → tagKind k ≡ End
 kind-above k h = kind-end k (λ e. omega arith) (λ e. omega arith)
@@ -42,27 +39,10 @@ unfolding atCase
 case-opens true name = refl
 case-opens false name = refl
 
-pub status-opens : (empty : Bool) (name : List ℕ)
-    → atStatus (cond empty Empty Start) name ≡ cond (eqb (tagOf name) 13) (cond empty (closeText status trace) (openText status trace)) (cond empty (emptied status name) (outputs status name))
-unfolding atStatus child
-status-opens true name = refl
-status-opens false name = refl
-
 pub list-opens : (l : Level) (empty : Bool) (name : List ℕ) → inList l (cond empty Empty Start) name ≡ cond (eqb (tagOf name) 5) (readProperty l empty name) (pass (listing l))
 unfolding inList
 list-opens l true name = refl
 list-opens l false name = refl
-
--- an output, opened or closed at once
-pub child-out : (l : Level) (empty : Bool) (name : List ℕ) → tagOf name ≡ 14 → cond empty (closeText l out) (openText l out) ≡ cond empty (emptied l name) (outputs l name)
-unfolding emptied outputs
-child-out l true name h = rw h refl
-child-out l false name h = rw h refl
-
-pub child-err : (l : Level) (empty : Bool) (name : List ℕ) → tagOf name ≡ 15 → cond empty (closeText l err) (openText l err) ≡ cond empty (emptied l name) (outputs l name)
-unfolding emptied outputs
-child-err l true name h = rw h refl
-child-err l false name h = rw h refl
 
 -- a text is closed by an End of its name
 pub text-closes : (l : Level) (o : Output) (k t : ℕ) → inText l o (tagKind k) t ≡ cond (ltb 1 k && eqb t (tagOfOutput o)) (closeText l o) (pass (gathering l o))

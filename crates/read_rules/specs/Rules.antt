@@ -8,26 +8,16 @@ use Rattle.names.specs.Names.{sameBytes}
 use Rattle.names.specs.Tags.{tagOf, testsuites, testsuite, testcase, properties, property, stackTrace, system-out, system-err}
 use Rattle.table.specs.Event.{TagKind, Start, Empty, End}
 use Rattle.read_state.specs.Control.{Level, top, suite, case, status, Output, trace, out, err, Mode, at, gathering, listing, skipping, finished, Act, pass, openReport, openSuite}
-use Rattle.read_state.specs.Control.{openCase, openStatus, closeSuite, closeCase, closeStatus, openText, closeText, openList, readProperty, stop, missing, broken, isStatus, orSkip}
+use Rattle.read_state.specs.Control.{openCase, openStatus, closeSuite, closeCase, closeText, openList, readProperty, stop, missing, broken, isStatus}
 use Rattle.refusal.specs.declared.Cause.the-variants as cause
-
--- the outputs that suite, case (rule R10) and status element (rule S3) have
-unfoldable pub outputs : Level → List ℕ → Act
-outputs l name =
-    cond (eqb (tagOf name) system-out) (openText l out)
-    (cond (eqb (tagOf name) system-err) (openText l err) (orSkip l name))
+-- the children of suite, case and status element
+unfoldable pub use Rattle.read_children.specs.Children.{outputs, emptied, child, atStatus}
 
 -- at report level (rules R3 to R7); an End `testsuites` without a report is refused (rule R9)
 unfoldable pub atTop : Bool → TagKind → ℕ → Act
 atTop seen Start t = cond (eqb t testsuites) (openReport false) (cond (eqb t testsuite && seen) (openSuite false) (pass (at top)))
 atTop seen Empty t = cond (eqb t testsuites) (openReport true) (cond (eqb t testsuite && seen) (openSuite true) (pass (at top)))
 atTop seen End t = cond (eqb t testsuites) (cond seen stop missing) (pass (at top))
-
--- an Empty child is its Start and End: an output is empty, and any other ends where it stands (rule R13)
-unfoldable pub emptied : Level → List ℕ → Act
-emptied l name =
-    cond (eqb (tagOf name) system-out) (closeText l out)
-    (cond (eqb (tagOf name) system-err) (closeText l err) (pass (at l)))
 
 -- by rules R10 and R13; any End but the element's own is passed over (rule R12)
 unfoldable pub atSuite : TagKind → List ℕ → Act
@@ -42,16 +32,6 @@ atCase Start name =
 atCase Empty name =
     cond (isStatus (tagOf name)) (openStatus (tagOf name) true) (cond (eqb (tagOf name) properties) (openList case true) (emptied case name))
 atCase End name = cond (eqb (tagOf name) testcase) closeCase (pass (at case))
-
--- a status element's children that are read: a stack trace and the outputs (rule S3); any other is skipped (rule S4)
-unfoldable pub child : List ℕ → Act
-child name = cond (eqb (tagOf name) stackTrace) (openText status trace) (outputs status name)
-
--- rules S2 to S4
-unfoldable pub atStatus : TagKind → List ℕ → Act
-atStatus Start name = child name
-atStatus Empty name = cond (eqb (tagOf name) stackTrace) (closeText status trace) (emptied status name)
-atStatus End name = cond (isStatus (tagOf name)) closeStatus (pass (at status))
 
 -- the tag whose next End ends the text (rule R14)
 abbrev pub tagOfOutput : Output → ℕ

@@ -10,7 +10,7 @@ use Rattle.refusal.specs.declared.Cause.{Cause}
 use Rattle.table.specs.Event.{Attribute, PieceKind, Piece}
 use Rattle.read_element.specs.Outcome.{_>>=_, Place, Rooms}
 use Rattle.read_attribute.specs.inside.Steps.{faultAt}
-use Rattle.read_attribute.specs.declared.Fault.{Fault}
+use Rattle.read_fault.specs.declared.Fault.{Fault}
 use Rattle.tree_status.proofs.Tallies.{few-more}
 use Rattle.read_state.specs.Control.{Control, Act, gathers, turn}
 use Rattle.read_state.specs.inside.Coded.{modeOf, controlOf, actOf, isStep, turned}

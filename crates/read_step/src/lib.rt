@@ -1,11 +1,11 @@
 // One step of reading: an event, with what is skipped behind it.
 use names::tag_of;
 use read_actions::perform;
-use read_attribute::Fault;
 use read_attribute::Range;
 use read_content::Content;
 use read_content::Performed;
 use read_content::no_content;
+use read_fault::Fault;
 use read_pieces::gather;
 use read_pieces::is_gathering;
 use read_place::Marks;

@@ -2,6 +2,7 @@
 use area::Stored;
 use read_content::Content;
 use read_content::Performed;
+use read_content::is_taken;
 use read_content::refused;
 use read_place::Marks;
 use read_state::Level;
@@ -10,7 +11,6 @@ use refusal::Cause;
 use text_filter::store;
 use tree_put::put_text;
 use tree_record::bit;
-use tree_record::kind;
 use tree_record::word;
 use trim::trim;
 ghost use mathlib.Core.Path.{_≡_};
@@ -20,7 +20,7 @@ ghost use lib.ListN.{length, take, drop};
 ghost use Rattle.area.specs.Area.{storedAnswer, placing, laid};
 ghost use Rattle.read_state.specs.inside.Coded.{levelOf, outputOf};
 ghost use Rattle.read_place.specs.inside.Coded.{marksOf};
-ghost use Rattle.read_content.specs.Content.{recordOf, cleaned, wordOf, bitOf, takes};
+ghost use Rattle.read_content.specs.Content.{recordOf, cleaned, wordOf, bitOf};
 ghost use Rattle.read_texts.specs.inside.Promises.{ClosesStatus, ClosesText};
 ghost use Rattle.read_texts.specs.inside.Stored.{keptWords, keptTo, storedEnd};
 ghost use Rattle.read_element.specs.inside.Refines.{areas};
@@ -54,18 +54,6 @@ fn record_of(level: Level, marks: Marks) -> usize
         Level::Suite => marks.suite_at,
         Level::Case => marks.case_at,
         Level::Status => marks.status_at,
-    }
-}
-
-// The record of a main takes no stack trace and no outputs (rule S12).
-fn is_taken(level: Level, marks: Marks) -> bool
-    ensures { λ r. ⌜ r ≡ takes (levelOf level) (marksOf marks) ⌝ }
-{
-    match level {
-        Level::Top => false,
-        Level::Suite => true,
-        Level::Case => true,
-        Level::Status => kind::FLAKY_FAILURE <= marks.status_kind,
     }
 }
 

@@ -18,7 +18,8 @@ use Rattle.read_element.specs.Outcome.{_>>=_, Rooms, roomsOf}
 use Rattle.read_state.specs.inside.Coded.{modeOf, actOf}
 use Rattle.read_path.specs.Paths.{pathOf}
 use Rattle.read_place.specs.inside.Coded.{marksOf}
-use Rattle.read_path.specs.inside.Coded.{Leads, withAttribute}
+use Rattle.read_fault.specs.inside.Faults.{withAttribute}
+use Rattle.read_path.specs.inside.Coded.{Leads}
 use Rattle.read_path.proofs.Leading.{leads-within}
 use Rattle.read_machine.specs.Machine.{Machine, run, begin}
 use Rattle.read_machine.specs.Reading.{Read, readAs, reading}

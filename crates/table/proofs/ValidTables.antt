@@ -10,7 +10,8 @@ use borrow.Author.Tests.{leb-true, eqb-true}
 use lib.ListN.{length, getD, drop}
 use lib.Dec.{leb, eqb}
 use Rattle.refusal.specs.Refusal.{nowhere, Refused}
-use Rattle.table.specs.Table.{word, countOf, within, goodAttribute, goodShape, goodSizes, badFrom, checkEvent, andThen, checkFrom, checkOf, checkedAnswer}
+use Rattle.table_parts.specs.Parts.{within}
+use Rattle.table.specs.Table.{word, countOf, goodAttribute, goodShape, goodSizes, badFrom, checkEvent, andThen, checkFrom, checkOf, checkedAnswer}
 use Rattle.table.specs.declared.Checked.{Checked}
 use Rattle.table.specs.declared.Checked.the-variants.{Good, Bad}
 use Rattle.table.proofs.Words.{word-at}

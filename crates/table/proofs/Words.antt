@@ -1,12 +1,11 @@
 -- Words of an entry, in the terms of code that is lent the table from the entry on. Assumes nothing.
-use Prim.Native.Nat.{ℕ, _-_, _*_, _≤_}
+use Prim.Native.Nat.{ℕ, _*_}
 use mathlib.Core.Path.{_≡_, sym, ap, _∙_}
 use mathlib.Core.List.{List}
-use lib.ListN.{length, getD, take, drop, length-drop, drop-of-length-le}
-use lib.Seq.{getD-drop, take-all, take-nil, drop-length}
-use Rattle.area.proofs.Parts.{rest-part}
+use lib.ListN.{getD, drop}
+use lib.Seq.{getD-drop}
 use Rattle.table.specs.Table.{word}
-use Rattle.table.specs.Event.{part}
+use Rattle.table_parts.specs.Parts.{part}
 
 module _ (table : List ℕ) (i : ℕ) where
   -- the k-th word of an entry, where the code is lent the table from the entry on
@@ -17,11 +16,3 @@ module _ (table : List ℕ) (i : ℕ) where
   pub part-at : (source : List ℕ) (k l : ℕ) → part source (word table i k) (word table i l) ≡ part source (getD (drop (i * 5) table) k 0) (getD (drop (i * 5) table) l 0)
   part-at source k l =
       ap (λ (n : ℕ). part source n (word table i l)) (word-at k) ∙ ap (λ (n : ℕ). part source (getD (drop (i * 5) table) k 0) n) (word-at l)
-
--- the bytes of a range that starts at or behind the source's end, or ends there
-module _ (source : List ℕ) (start len : ℕ) where
-  pub part-past : length source ≤ start → take (length source - length source) (drop (length source) source) ≡ part source start len
-  part-past h = rest-part source (length source) ∙ drop-length source ∙ sym (ap (take len) (drop-of-length-le source h) ∙ take-nil len)
-
-  pub part-rest : length source - start ≤ len → take (length source - start) (drop start source) ≡ part source start len
-  part-rest h = rest-part source start ∙ sym (take-all len (drop start source) (rw (length-drop start source) h))

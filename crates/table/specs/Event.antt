@@ -2,10 +2,11 @@
 use Prim.Native.Nat.{ℕ, zero, suc, _+_}
 use mathlib.Core.List.{List, [], _∷_}
 use mathlib.Core.Bool.{Bool, cond}
-use lib.ListN.{take, drop}
 use lib.Dec.{eqb}
 use Rattle.table.specs.Kinds as kind
 use Rattle.table.specs.Table.{word, countOf}
+-- the bytes of a range
+pub use Rattle.table_parts.specs.Parts.{part}
 
 -- an attribute: whether its mark is good, and the bytes of its key and value
 pub record Attribute : Type 0 where
@@ -24,10 +25,6 @@ pub data Event : Type 0 where
   Tag : TagKind → List ℕ → ℕ → List Attribute → Event
   Piece : PieceKind → List ℕ → Event
   Eof Fault : Event
-
--- bytes of the source, by their start and length (rule T1)
-abbrev pub part : List ℕ → ℕ → ℕ → List ℕ
-part source start len = take len (drop start source)
 
 abbrev pub kindAt : List ℕ → ℕ → ℕ
 kindAt events i = word events i 0

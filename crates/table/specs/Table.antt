@@ -5,6 +5,7 @@ use mathlib.Core.Bool.{Bool, cond, _&&_, _||_}
 use lib.ListN.{length, getD, drop}
 use lib.Dec.{leb, eqb}
 use Rattle.area.specs.Limits.{mostEntries, mostBytes}
+use Rattle.table_parts.specs.Parts.{within}
 use Rattle.table.specs.Kinds as kind
 use Rattle.refusal.specs.Refusal.{nowhere, Outcome, accepted, refused}
 use Rattle.table.specs.declared.Checked.{Checked}
@@ -18,10 +19,6 @@ word table i k = getD table (i * 5 + k) 0
 -- how many entries a table has
 abbrev pub countOf : List ℕ → ℕ
 countOf table = length table / 5
-
--- a range lies in a source of `size` bytes (rule T10)
-abbrev pub within : ℕ → ℕ → ℕ → Bool
-within size start len = leb (start + len) size
 
 -- mark, key range, value range, of the entry at the front of `words` (rule T12)
 unfoldable pub goodAttribute : List ℕ → ℕ → Bool

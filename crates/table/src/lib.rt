@@ -2,26 +2,19 @@
 ghost use mathlib.Core.Path.{_≡_};
 ghost use Prim.Native.Nat.{_-_, _*_, _/_, _≤_, _<_};
 ghost use lib.ListN.{length};
-ghost use Rattle.table.specs.Table.{within, goodAttribute, goodShape, goodSizes, badFrom, checkEvent, checkedAnswer, tableOf};
+ghost use Rattle.table.specs.Table.{goodAttribute, goodShape, goodSizes, badFrom, checkEvent, checkedAnswer, tableOf};
 
 pub mod kind;
-pub mod parts;
 
 use area::limit;
 use area::wide;
 use refusal::NOWHERE;
+use table_parts::is_within;
 
 // Whether a table is good, or where it is not: the event and the attribute, 4294967295 where none is concerned.
 pub enum Checked {
     Good,
     Bad(u32, u32),
-}
-
-// By rule T10.
-fn is_within(size: usize, start: u32, len: u32) -> bool
-    ensures { λ r. ⌜ r ≡ within size start len ⌝ }
-{
-    wide(start) + wide(len) <= size
 }
 
 // By rule T12.

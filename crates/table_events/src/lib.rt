@@ -15,8 +15,8 @@ use area::wide;
 use names::same;
 use refusal::Cause;
 use table::kind;
-use table::parts::bytes_of;
-use table::parts::word_of;
+use table_parts::bytes_of;
+use table_parts::word_of;
 
 // The words from event i on, none behind the table.
 fn words_at(events: &[u32], i: usize) -> &[u32]

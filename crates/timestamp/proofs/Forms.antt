@@ -11,10 +11,11 @@ use Rattle.fixed.specs.Fields.{all}
 use Rattle.fixed.proofs.Tests.{fails}
 use Rattle.timestamp.specs.Timestamp.{yearOf, monthOf, dayOf, dateTests, hourOf, minuteOf, secondOf, clockTests, hasPoint, places, fractionTests}
 use Rattle.timestamp.specs.Timestamp.{nanosOf, fractionWidth, isUtc, offsetTests, offsetOf, tail, zone, timestampTests, isTimestamp}
-use Rattle.timestamp.specs.inside.Leaves.{dateOf, clockOf, fractionOf, zoneOf, formOf}
+use Rattle.clock.specs.inside.Leaves.{clockOf}
+use Rattle.timestamp.specs.inside.Leaves.{dateOf, fractionOf, zoneOf, formOf}
 use Rattle.timestamp.specs.declared.Form.the-variants.{Right, Wrong}
 use Rattle.timestamp.specs.declared.parts.Date.the-variants.{On, NoDate}
-use Rattle.timestamp.specs.declared.parts.Clock.the-variants.{At, NoClock}
+use Rattle.clock.specs.declared.Clock.the-variants.{At, NoClock}
 use Rattle.timestamp.specs.declared.parts.Fraction.the-variants.{Of, NoFraction}
 use Rattle.timestamp.specs.declared.parts.Zone.the-variants.{East, NoZone}
 use Rattle.timestamp.proofs.Fractions.{places-run, point-run}

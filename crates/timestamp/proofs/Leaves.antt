@@ -1,4 +1,4 @@
--- Dates, clocks and offsets, from their fields. Assumes nothing.
+-- Dates and offsets, from their fields. Assumes nothing.
 use Prim.Native.Nat.{ℕ, _+_, _-_, _*_}
 use mathlib.Core.Path.{_≡_, refl, sym, ap, _∙_}
 use mathlib.Core.Bool.{Bool, true, false, _&&_, _||_, and-assoc, and-true, and-false, and-eq-true-iff}
@@ -11,10 +11,9 @@ use Rattle.fixed.specs.declared.Field.{Field}
 use Rattle.fixed.proofs.Tests.{passes, fails}
 use Rattle.fixed.proofs.Numerals.{field-good, field-number}
 use Rattle.calendar.specs.Calendar.{monthLength}
-use Rattle.timestamp.specs.Timestamp.{yearOf, monthOf, dayOf, dateTests, clockTests, isUtc, offsetTests, awayOf}
-use Rattle.timestamp.specs.inside.Leaves.{dateOf, clockOf, zoneOf}
+use Rattle.timestamp.specs.Timestamp.{yearOf, monthOf, dayOf, dateTests, isUtc, offsetTests, awayOf}
+use Rattle.timestamp.specs.inside.Leaves.{dateOf, zoneOf}
 use Rattle.timestamp.specs.declared.parts.Date.the-variants.{On, NoDate}
-use Rattle.timestamp.specs.declared.parts.Clock.the-variants.{At, NoClock}
 use Rattle.timestamp.specs.declared.parts.Zone.the-variants.{East, NoZone}
 
 -- a date's tests as the code makes them, where a field that is no number counts as 0
@@ -52,31 +51,6 @@ module _ (s : List ℕ) (y m d : Field)
         field-number 10 9999 (part 0 4 s) y ey (field-good 10 9999 (part 0 4 s) y ey ∙ passes (dateTests s) 0 t),
         field-number 10 12 (part 5 2 s) m em (field-good 10 12 (part 5 2 s) m em ∙ passes (dateTests s) 2 t),
         field-number 10 31 (part 8 2 s) d ed (field-good 10 31 (part 8 2 s) d ed ∙ passes (dateTests s) 4 t),
-      )
-
-module _ (s : List ℕ) (h m x : Field)
-    (eh : h ≡ fieldOf 10 23 (part 11 2 s)) (em : m ≡ fieldOf 10 59 (part 14 2 s)) (ex : x ≡ fieldOf 10 59 (part 17 2 s)) where
-  abbrev clockFlag : Bool
-  clockFlag = (eqb (getD s 10 0) 0x54 || eqb (getD s 10 0) 0x74) && h .good && eqb (getD s 13 0) 0x3A && m .good && eqb (getD s 16 0) 0x3A && x .good
-
-  clock-tests : clockFlag ≡ all (clockTests s)
-  clock-tests =
-      rw (field-good 10 23 (part 11 2 s) h eh, field-good 10 59 (part 14 2 s) m em, field-good 10 59 (part 17 2 s) x ex)
-      (simp (and-assoc, and-true))
-
-  pub clock-wrong : clockFlag ≡ false → NoClock ≡ clockOf s
-  unfolding clockOf
-  clock-wrong e = rw (sym clock-tests ∙ e)
-
-  pub clock-right : clockFlag ≡ true → At (h .number) (m .number) (x .number) ≡ clockOf s
-  unfolding clockOf
-  clock-right e =
-      let t : all (clockTests s) ≡ true = sym clock-tests ∙ e in
-      rw (
-        t,
-        field-number 10 23 (part 11 2 s) h eh (field-good 10 23 (part 11 2 s) h eh ∙ passes (clockTests s) 1 t),
-        field-number 10 59 (part 14 2 s) m em (field-good 10 59 (part 14 2 s) m em ∙ passes (clockTests s) 3 t),
-        field-number 10 59 (part 17 2 s) x ex (field-good 10 59 (part 17 2 s) x ex ∙ passes (clockTests s) 5 t),
       )
 
 module _ (z : List ℕ) where

@@ -14,6 +14,8 @@ use Rattle.timestamp.specs.declared.Moment.{Moment}
 use Rattle.timestamp.specs.declared.Timestamp.{Timestamp}
 use Rattle.timestamp.specs.declared.Timestamp.the-variants.{Is, NotUtf8, Bad}
 use Rattle.refusal.specs.declared.Cause.the-variants as cause
+-- "T" time-hour ":" time-minute ":" time-second, the bytes 10 to 18
+pub use Rattle.clock.specs.Clock.{hourOf, minuteOf, secondOf, clockTests}
 
 -- full-date = date-fullyear "-" date-month "-" date-mday, the bytes 0 to 9
 abbrev pub yearOf : List ℕ → ℕ
@@ -32,25 +34,6 @@ dateTests s =
     ∷ isNumber 10 12 (part 5 2 s) ∷ eqb (getD s 7 0) 0x2D
     ∷ isNumber 10 31 (part 8 2 s)
     ∷ leb 1 (monthOf s) ∷ leb 1 (dayOf s) ∷ leb (dayOf s) (monthLength (yearOf s) (monthOf s))
-    ∷ []
-
--- "T" time-hour ":" time-minute ":" time-second, the bytes 10 to 18
-abbrev pub hourOf : List ℕ → ℕ
-hourOf s = value 10 (part 11 2 s)
-
-abbrev pub minuteOf : List ℕ → ℕ
-minuteOf s = value 10 (part 14 2 s)
-
-abbrev pub secondOf : List ℕ → ℕ
-secondOf s = value 10 (part 17 2 s)
-
--- `t` is taken (rule V5), second 60 isn't (rule V7)
-abbrev pub clockTests : List ℕ → List Bool
-clockTests s =
-    (eqb (getD s 10 0) 0x54 || eqb (getD s 10 0) 0x74)
-    ∷ isNumber 10 23 (part 11 2 s) ∷ eqb (getD s 13 0) 0x3A
-    ∷ isNumber 10 59 (part 14 2 s) ∷ eqb (getD s 16 0) 0x3A
-    ∷ isNumber 10 59 (part 17 2 s)
     ∷ []
 
 -- how many digits s begins with

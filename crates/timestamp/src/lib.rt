@@ -2,7 +2,7 @@
 mod parts;
 
 use calendar::month_length;
-use parts::Clock;
+use clock::Clock;
 use parts::Date;
 use parts::Fraction;
 use parts::Zone;
@@ -43,7 +43,7 @@ fn form_of(s: &[u8]) -> Form
     let Date::On(year, month, day) = parts::date_of(s) else {
         return Form::Wrong;
     };
-    let Clock::At(hour, minute, second) = parts::clock_of(s) else {
+    let Clock::At(hour, minute, second) = clock::clock_of(s) else {
         return Form::Wrong;
     };
     let Fraction::Of(nanos, width) = parts::fraction_of(&s[19..]) else {

@@ -7,18 +7,12 @@ ghost use mathlib.Core.Path.{_≡_};
 ghost use Prim.Native.Nat.{_≤_};
 ghost use lib.ListN.{length};
 ghost use Rattle.timestamp.specs.Timestamp.{digitRun};
-ghost use Rattle.timestamp.specs.inside.Leaves.{dateOf, clockOf, fractionOf, zoneOf};
+ghost use Rattle.timestamp.specs.inside.Leaves.{dateOf, fractionOf, zoneOf};
 
 // Year, month and day.
 pub enum Date {
     On(u16, u8, u8),
     NoDate,
-}
-
-// Hour, minute and second.
-pub enum Clock {
-    At(u8, u8, u8),
-    NoClock,
 }
 
 // Nanoseconds, and how many bytes tell them.
@@ -49,21 +43,6 @@ pub fn date_of(s: &[u8]) -> Date
         return Date::On(year, month, day);
     }
     Date::NoDate
-}
-
-// By rule V7.
-pub fn clock_of(s: &[u8]) -> Clock
-    requires { ⌜ 20 ≤ length (now s) ⌝ }
-    ensures { λ r. ⌜ r ≡ clockOf (now (s .entry)) ⌝ }
-{
-    let hour = decimal_at(s, 11, 2, 23);
-    let minute = decimal_at(s, 14, 2, 59);
-    let second = decimal_at(s, 17, 2, 59);
-    let letter = (s[10] == 0x54) | (s[10] == 0x74);
-    if letter & hour.good & (s[13] == 0x3a) & minute.good & (s[16] == 0x3a) & second.good {
-        return Clock::At(hour.number as u8, minute.number as u8, second.number as u8);
-    }
-    Clock::NoClock
 }
 
 // How many digits s begins with.

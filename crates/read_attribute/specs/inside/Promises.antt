@@ -13,7 +13,7 @@ use Rattle.read_element.specs.inside.Refines.{Table, Areas}
 use Rattle.read_extra_record.specs.declared.Given.{Given as Counted}
 use Rattle.read_extras.specs.inside.Hinted.{Hinted}
 use Rattle.read_attribute.specs.declared.Range.{Range}
-use Rattle.read_attribute.specs.declared.Step.{Step}
+use Rattle.read_fault.specs.declared.Step.{Step}
 use Rattle.read_attribute.specs.inside.Steps.{byKey, Matches}
 use Rattle.refusal.specs.declared.Cause.the-variants as cause
 

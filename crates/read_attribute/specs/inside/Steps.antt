@@ -2,7 +2,6 @@
 use Prim.Native.Nat.{ℕ}
 use mathlib.Core.List.{List}
 use Rattle.refusal.specs.Refusal.{Refused, Outcome}
-use Rattle.refusal.specs.declared.Cause.{Cause}
 use Rattle.names.specs.Keys.{keyOf}
 use Rattle.table.specs.Event.{Attribute}
 use Rattle.read_keys.specs.Roles.{roleOf}
@@ -15,12 +14,10 @@ use Rattle.read_extra_record.specs.declared.Gave.{Gave}
 use Rattle.read_extra_record.specs.declared.Gave.the-variants as gave
 use Rattle.read_values.specs.declared.Took.{Took}
 use Rattle.read_values.specs.declared.Took.the-variants as took
-use Rattle.read_attribute.specs.declared.Fault.{Fault}
-use Rattle.read_attribute.specs.declared.Step.{Step}
-use Rattle.read_attribute.specs.declared.Step.the-variants as step
-
-abbrev pub faultStep : Cause → ℕ → ℕ → Step
-faultStep why key j = step.Not (record { cause = why; key = key; attribute = j })
+use Rattle.read_fault.specs.inside.Faults.{faultStep}
+use Rattle.read_fault.specs.declared.Fault.{Fault}
+use Rattle.read_fault.specs.declared.Step.{Step}
+use Rattle.read_fault.specs.declared.Step.the-variants as step
 
 abbrev pub takenStep : Took → Counted → ℕ → ℕ → Step
 takenStep (took.To fill) given key j = step.To (record { extras = given .extras; fill = fill })

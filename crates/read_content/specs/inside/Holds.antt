@@ -13,7 +13,7 @@ use Rattle.read_element.specs.Outcome.{Place, Rooms, fits}
 use Rattle.read_element.specs.Attributes.{extraKind}
 use Rattle.read_attribute.specs.inside.Steps.{faultAt}
 use Rattle.read_attributes.specs.inside.Elements.{Free}
-use Rattle.read_attribute.specs.declared.Fault.{Fault}
+use Rattle.read_fault.specs.declared.Fault.{Fault}
 use Rattle.read_attributes.specs.declared.Grown.{Grown as CodedGrown}
 use Rattle.read_attributes.specs.declared.Element.{Element}
 use Rattle.read_attributes.specs.declared.Element.the-variants as element

@@ -9,7 +9,7 @@ use Rattle.read_element.specs.Attributes.{Given, readAttributes}
 use Rattle.read_element.specs.inside.Held.{Held, Roomy}
 use Rattle.read_element.specs.inside.Refines.{Table, Areas}
 use Rattle.read_attribute.specs.declared.Range.{Range}
-use Rattle.read_attribute.specs.declared.Step.{Step}
+use Rattle.read_fault.specs.declared.Step.{Step}
 use Rattle.read_attribute.specs.inside.Steps.{Matches}
 use Rattle.read_free.specs.inside.Unrepeated.{Unrepeated}
 use Rattle.read_each.specs.inside.Fresh.{fresh}

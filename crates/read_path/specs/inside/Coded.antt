@@ -1,23 +1,16 @@
 -- The code's paths in the words of Paths.antt. Definitions only.
-use Prim.Native.Nat.{ℕ, zero, suc}
 use mathlib.Core.Bool.{Bool, true, false}
 use mathlib.Core.List.{List}
 use mathlib.Core.Path.{_≡_}
-use Rattle.refusal.specs.Refusal.{pathFrom, longer}
+use Rattle.refusal.specs.Refusal.{pathFrom}
 use Rattle.refusal.specs.declared.PathElement.{PathElement}
 use Rattle.refusal.specs.declared.Path.{Path}
-use Rattle.read_element.specs.Outcome.{attributeElement}
 use Rattle.read_state.specs.Control.{top, suite, case, status}
 use Rattle.read_state.specs.Control.{Act, pass, openReport, openSuite, openCase, openStatus, closeSuite, closeCase, closeStatus, openText, closeText, openList, readProperty, stop, missing, broken}
 
 -- a path of the code, and its elements: behind them stand fillers
 pub record Leads (p : Path) (es : List PathElement) : Type 0 where
   pub whole : p ≡ pathFrom es
-
--- the path with the Attribute of a key, where its code isn't 0
-abbrev pub withAttribute : Path → ℕ → Path
-withAttribute p zero = p
-withAttribute p (suc k) = longer p (attributeElement (suc k))
 
 -- the path of an act has room for an Attribute; only a property of a status element, which is never read, would have none
 abbrev pub hasRoom : Act → Bool

@@ -3,12 +3,10 @@ use Prim.Native.Nat.{ℕ}
 use mathlib.Core.Bool.{cond, _||_}
 use mathlib.Core.List.{List}
 use Rattle.fixed.specs.Fields.{all}
-use Rattle.timestamp.specs.Timestamp.{yearOf, monthOf, dayOf, dateTests, hourOf, minuteOf, secondOf, clockTests, fractionTests}
+use Rattle.timestamp.specs.Timestamp.{yearOf, monthOf, dayOf, dateTests, fractionTests}
 use Rattle.timestamp.specs.Timestamp.{nanosOf, fractionWidth, isUtc, offsetTests, offsetOf, isTimestamp, momentOf}
 use Rattle.timestamp.specs.declared.parts.Date.{Date}
 use Rattle.timestamp.specs.declared.parts.Date.the-variants.{On, NoDate}
-use Rattle.timestamp.specs.declared.parts.Clock.{Clock}
-use Rattle.timestamp.specs.declared.parts.Clock.the-variants.{At, NoClock}
 use Rattle.timestamp.specs.declared.parts.Fraction.{Fraction}
 use Rattle.timestamp.specs.declared.parts.Fraction.the-variants.{Of, NoFraction}
 use Rattle.timestamp.specs.declared.parts.Zone.{Zone}
@@ -16,12 +14,9 @@ use Rattle.timestamp.specs.declared.parts.Zone.the-variants.{East, NoZon
 use Rattle.timestamp.specs.declared.Form.{Form}
 use Rattle.timestamp.specs.declared.Form.the-variants.{Right, Wrong}
 
--- the date and the clock that s begins with
+-- the date that s begins with
 unfoldable pub dateOf : List ℕ → Date
 dateOf s = cond (all (dateTests s)) (On (yearOf s) (monthOf s) (dayOf s)) NoDate
-
-unfoldable pub clockOf : List ℕ → Clock
-clockOf s = cond (all (clockTests s)) (At (hourOf s) (minuteOf s) (secondOf s)) NoClock
 
 -- the fraction that t begins with, and the offset that z is
 unfoldable pub fractionOf : List ℕ → Fraction
