@@ -1,0 +1,332 @@
+-- What reading must not be mistaken for, rule by rule, at small lists of events. Assumes nothing.
+use Prim.Native.Nat.{ℕ}
+use mathlib.Core.Path.{_≡_, refl}
+use mathlib.Core.List.{List, [], _∷_, _++_}
+use mathlib.Core.Bool.{true, false}
+use mathlib.Core.Option.{Option, none, some}
+use Rattle.utf8.specs.Utf8 as utf8
+use Rattle.utf8.specs.Characters as chars
+use Rattle.names.specs.Bytes.{bytes}
+use Rattle.names.specs.Names.{codeFrom, sameBytes}
+use Rattle.names.specs.Keys.{keys}
+use Rattle.names.specs.Tags.{tags}
+use Rattle.digits.specs.Digits as digits
+use Rattle.integer.specs.Integer.{unsigned}
+use Rattle.time.specs.Time.{makeTime}
+use Rattle.calendar.specs.Calendar.{isLeap, monthLength}
+use Rattle.timestamp.specs.Timestamp as stamp
+use Rattle.uuid.specs.Uuid.{isUuid, uuidOf}
+use Rattle.reference.specs.Reference as reference
+use Rattle.refusal.specs.Refusal.{Outcome, accepted, refused}
+use Rattle.refusal.specs.declared.Cause.{Cause}
+use Rattle.refusal.specs.declared.Cause.the-variants as cause
+use Rattle.table.specs.Event.{Attribute, Start, Empty, End, Text as Chars, Event, Tag, Piece}
+use Rattle.tree_status.specs.Status.{tallied, ruled}
+use Rattle.tree_report.specs.Report.{Text, Pair, Counts, NonSuccessKind, failure, error, flaky, rerun, TestRerun, Reason}
+use Rattle.tree_report.specs.Report.{TestCaseStatus, success, nonSuccess, skipped, TestCase, TestSuite, Report}
+use Rattle.read_element.specs.Outcome as outcome
+use Rattle.read_element.specs.Outcome.{Rooms, unlimited}
+use Rattle.read_state.specs.Control as control
+use Rattle.read_rules.specs.Rules as rules
+use Rattle.read_place.specs.Marks.{marksAfter}
+use Rattle.read_content.specs.Content as content
+use Rattle.read_report.specs.Deserialize as read
+use Rattle.read_report.specs.Deserialize.{deserialize, deserializeIn}
+
+-- ---- events
+abbrev attribute : List ℕ → List ℕ → Attribute
+attribute k v = record { good = true; key = k; value = v }
+
+abbrev name : List ℕ → Attribute
+name v = attribute (bytes "name") v
+
+abbrev opens : List ℕ → List Attribute → Event
+opens n xs = Tag Start n 0 xs
+
+abbrev alone : List ℕ → List Attribute → Event
+alone n xs = Tag Empty n 0 xs
+
+abbrev ends : List ℕ → Event
+ends n = Tag End n 0 []
+
+abbrev holding : List ℕ → List Attribute → List Event → List Event
+holding n xs es = opens n xs ∷ es ++ (ends n ∷ [])
+
+abbrev texted : List ℕ → List ℕ → List Event
+texted n v = holding n [] (Piece Chars v ∷ [])
+
+abbrev property : List ℕ → List ℕ → Event
+property k v = alone (bytes "property") (name k ∷ attribute (bytes "value") v ∷ [])
+
+-- of a report with one suite `s`, and of one with one case `c` in it
+abbrev inReport : List Event → List Event
+inReport es = holding (bytes "testsuites") [] es
+
+abbrev inSuite : List Event → List Event
+inSuite es = inReport (holding (bytes "testsuite") (name (bytes "s") ∷ []) es)
+
+abbrev inCase : List Event → List Event
+inCase es = inSuite (holding (bytes "testcase") (name (bytes "c") ∷ []) es)
+
+-- ---- reports
+abbrev zero : Counts
+zero = record { tests = 0; failures = 0; errors = 0; skipped = 0; disabled = none }
+
+abbrev pair : List ℕ → List ℕ → Pair
+pair k v = record { key = k; value = v }
+
+abbrev caseWith : TestCaseStatus → List Pair → (systemOut systemErr : Option Text) → TestCase
+caseWith s ps o e =
+    record { name = bytes "c"; classname = none; assertions = none; timestamp = none; time = none; status = s; systemOut = o; systemErr = e; extra = []; properties = ps }
+
+abbrev suiteWith : List TestCase → List Pair → (systemOut systemErr : Option Text) → List Pair → TestSuite
+suiteWith cs ps o e xs = record { name = bytes "s"; counts = zero; timestamp = none; time = none; cases = cs; properties = ps; systemOut = o; systemErr = e; extra = xs }
+
+abbrev reportWith : List TestSuite → Report
+reportWith ss = record { name = none; uuid = none; timestamp = none; time = none; counts = zero; suites = ss }
+
+abbrev bare : Reason
+bare = record { message = none; type = none; description = none }
+
+abbrev runOf : NonSuccessKind → TestRerun
+runOf k =
+    record { kind = k; timestamp = none; time = none; message = none; type = none; stackTrace = none; systemOut = none; systemErr = none; description = none }
+
+-- ---- what an example says: the report that events give, or the cause that they are refused with, if any
+data Case : Type 0 where
+  gives : List Event → Report → Case
+  tells : Rooms → List Event → Option Cause → Case
+
+abbrev suiteGives : List Event → TestSuite → Case
+suiteGives es s = gives es (reportWith (s ∷ []))
+
+abbrev caseGives : List Event → TestCase → Case
+caseGives es c = suiteGives es (suiteWith (c ∷ []) [] none none [])
+
+abbrev statusGives : List Event → TestCaseStatus → Case
+statusGives es s = caseGives (inCase es) (caseWith s [] none none)
+
+abbrev why : Outcome Report → Option Cause
+why (accepted r) = none
+why (refused r) = some (r .cause)
+
+abbrev Holds : Case → Type 0
+Holds (gives es r) = deserialize es ≡ accepted r
+Holds (tells rooms es c) = why (deserializeIn rooms es) ≡ c
+
+data All : List Case → Type 0 where
+  none-left : All []
+  one : {c : Case} {cs : List Case} → Holds c → All cs → All (c ∷ cs)
+
+-- ---- lists, outputs, reports
+-- the later list counts, not the older one, nor both (rule R17)
+abbrev list-replaced : Case
+list-replaced = suiteGives
+    (inSuite (holding (bytes "properties") [] (property (bytes "a") (bytes "1") ∷ []) ++ holding (bytes "properties") [] (property (bytes "b") (bytes "2") ∷ property (bytes "c") (bytes "3") ∷ [])))
+    (suiteWith [] (pair (bytes "b") (bytes "2") ∷ pair (bytes "c") (bytes "3") ∷ []) none none [])
+
+-- also an Empty one, and a case's list is the case's (rules R9 and R17)
+abbrev empty-list-replaces : Case
+empty-list-replaces = caseGives (inCase (holding (bytes "properties") [] (property (bytes "a") (bytes "1") ∷ []) ++ (alone (bytes "properties") [] ∷ []))) (caseWith (success []) [] none none)
+
+abbrev case-list : Case
+case-list = caseGives (inCase (holding (bytes "properties") [] (property (bytes "a") (bytes "1") ∷ []))) (caseWith (success []) (pair (bytes "a") (bytes "1") ∷ []) none none)
+
+-- so of outputs, and an empty one is there (rules R17 and X12)
+abbrev outputs-replaced : Case
+outputs-replaced = suiteGives (inSuite (texted (bytes "system-out") (bytes "x") ++ (alone (bytes "system-out") [] ∷ []) ++ texted (bytes "system-err") (bytes "y")))
+    (suiteWith [] [] (some []) (some (bytes "y")) [])
+
+-- a case's outputs are the case's
+abbrev case-outputs : Case
+case-outputs = caseGives (inCase (texted (bytes "system-out") (bytes "x") ++ texted (bytes "system-err") (bytes "y") ++ texted (bytes "system-out") (bytes "z")))
+    (caseWith (success []) [] (some (bytes "z")) (some (bytes "y")))
+
+-- the pieces of a text are joined in order (rule X9)
+abbrev pieces-joined : Case
+pieces-joined = caseGives (inCase (holding (bytes "system-out") [] (Piece Chars (bytes "x") ∷ Piece Chars (bytes "y") ∷ []))) (caseWith (success []) [] (some (bytes "xy")) none)
+
+-- a second report keeps no suite of the first (rule R3)
+abbrev second-report : Case
+second-report = gives (opens (bytes "testsuites") (name (bytes "a") ∷ []) ∷ alone (bytes "testsuite") (name (bytes "s") ∷ []) ∷ inReport (alone (bytes "testsuite") (name (bytes "s") ∷ []) ∷ []))
+    (reportWith (suiteWith [] [] none none [] ∷ []))
+
+-- what is open is the last suite, the last case (rule R8)
+abbrev later-suite : Case
+later-suite = gives (inReport (alone (bytes "testsuite") (name (bytes "s") ∷ [])
+    ∷ holding (bytes "testsuite") (name (bytes "s") ∷ []) (alone (bytes "testcase") (name (bytes "c") ∷ []) ∷ holding (bytes "testcase") (name (bytes "c") ∷ []) (alone (bytes "skipped") [] ∷ []))))
+    (reportWith (suiteWith [] [] none none [] ∷ suiteWith (caseWith (success []) [] none none ∷ caseWith (skipped bare) [] none none ∷ []) [] none none [] ∷ []))
+
+-- ---- status elements
+-- runs of a success are flaky ones, in order (rules S7 and S10)
+abbrev flaky-runs : Case
+flaky-runs = statusGives (alone (bytes "flakyFailure") [] ∷ alone (bytes "flakyError") [] ∷ []) (success (runOf failure ∷ runOf error ∷ []))
+
+-- their family is their own, wherever the main stands (rule S11)
+abbrev flaky-error : Case
+flaky-error = statusGives (alone (bytes "flakyError") [] ∷ alone (bytes "error") [] ∷ []) (nonSuccess error bare flaky (runOf error ∷ []))
+
+abbrev reruns : Case
+reruns = statusGives (alone (bytes "rerunFailure") [] ∷ alone (bytes "failure") [] ∷ alone (bytes "rerunError") [] ∷ []) (nonSuccess failure bare rerun (runOf failure ∷ runOf error ∷ []))
+
+-- without runs it is Rerun
+abbrev no-runs : Case
+no-runs = statusGives (alone (bytes "failure") [] ∷ []) (nonSuccess failure bare rerun [])
+
+abbrev skipped-case : Case
+skipped-case = statusGives (alone (bytes "skipped") (attribute (bytes "message") (bytes "m") ∷ attribute (bytes "type") (bytes "t") ∷ []) ∷ [])
+    (skipped (record { message = some (bytes "m"); type = some (bytes "t"); description = none }))
+
+-- two mains are refused at the case's End (rules S5 and S6)
+abbrev two-mains : Case
+two-mains = tells unlimited (inCase (alone (bytes "failure") [] ∷ alone (bytes "skipped") [] ∷ [])) (some cause.StatusRule)
+
+-- a case's status elements aren't the next one's (rule S5)
+abbrev next-case : Case
+next-case = suiteGives (inSuite (holding (bytes "testcase") (name (bytes "c") ∷ []) (alone (bytes "error") [] ∷ []) ++ holding (bytes "testcase") (name (bytes "c") ∷ []) []))
+    (suiteWith (caseWith (nonSuccess error bare rerun []) [] none none ∷ caseWith (success []) [] none none ∷ []) [] none none [])
+
+-- a run keeps its texts, each in its place, the later one; a main its description alone (rules S3, S12, R17 and X11)
+abbrev run-texts : Case
+run-texts = statusGives (holding (bytes "flakyFailure") [] (Piece Chars (bytes " d ") ∷ texted (bytes "stackTrace") (bytes "t")
+    ++ texted (bytes "system-out") (bytes "n") ++ texted (bytes "system-out") (bytes "o") ++ texted (bytes "system-err") (bytes "e")))
+    (success (record {
+      kind = failure;
+      timestamp = none;
+      time = none;
+      message = none;
+      type = none;
+      stackTrace = some (bytes "t");
+      systemOut = some (bytes "o");
+      systemErr = some (bytes "e");
+      description = some (bytes "d");
+    } ∷ []))
+
+abbrev main-texts : Case
+main-texts = statusGives (holding (bytes "error") [] (Piece Chars (bytes " d ") ∷ texted (bytes "stackTrace") (bytes "t") ++ texted (bytes "system-out") (bytes "o")))
+    (nonSuccess error (record { message = none; type = none; description = some (bytes "d") }) rerun [])
+
+-- a blank description is missing, and isn't the next element's (rule X11)
+abbrev blank-description : Case
+blank-description = statusGives (holding (bytes "flakyFailure") [] (Piece Chars (bytes " d ") ∷ []) ++ holding (bytes "failure") [] (Piece Chars (bytes "  ") ∷ [])) (nonSuccess failure bare
+    flaky (record { kind = failure; timestamp = none; time = none; message = none; type = none; stackTrace = none; systemOut = none; systemErr = none; description = some (bytes "d") } ∷ []))
+
+-- ---- attributes
+-- an extra whose cleaned key is there is replaced in its place (rule A8)
+abbrev extra-replaced : Case
+extra-replaced = suiteGives
+    (inReport (alone (bytes "testsuite") (name (bytes "s") ∷ attribute (bytes "x") (bytes "1") ∷ attribute (bytes "y") (bytes "2") ∷ attribute (bytes "&#120;") (bytes "3") ∷ []) ∷ []))
+    (suiteWith [] [] none none (pair (bytes "x") (bytes "3") ∷ pair (bytes "y") (bytes "2") ∷ []))
+
+-- a case has extras, a report and a property have none (rule A7)
+abbrev case-extra : Case
+case-extra = suiteGives (inSuite (alone (bytes "testcase") (attribute (bytes "x") (bytes "&lt;") ∷ name (bytes "c") ∷ []) ∷ []))
+    (suiteWith (record {
+      name = (bytes "c");
+      classname = none;
+      assertions = none;
+      timestamp = none;
+      time = none;
+      status = success [];
+      systemOut = none;
+      systemErr = none;
+      extra = pair (bytes "x") (bytes "<") ∷ [];
+      properties = [];
+    } ∷ []) [] none none [])
+
+abbrev no-extra : Case
+no-extra = tells (record { records = some 4; text = some 4; scratch = some 0 }) (holding (bytes "testsuites") (attribute (bytes "x") (bytes "1") ∷ [])
+    (holding (bytes "testsuite") (name (bytes "s") ∷ []) (holding (bytes "properties") [] (alone (bytes "property")
+    (name (bytes "k") ∷ attribute (bytes "value") (bytes "v") ∷ attribute (bytes "x") (bytes "1") ∷ []) ∷ []) ++ holding (bytes "testcase") (name (bytes "c") ∷ []) []))) none
+
+-- a report's attributes, each in its field; a count that is missing is 0, `disabled` may be missing (rule A5)
+abbrev report-attributes : Case
+report-attributes = gives (holding (bytes "testsuites")
+    (attribute (bytes "time") (bytes "1.5") ∷ attribute (bytes "failures") (bytes "2") ∷ attribute (bytes "name") (bytes "r") ∷ attribute (bytes "disabled") (bytes "3") ∷ []) [])
+    (record {
+      name = some (bytes "r");
+      uuid = none;
+      timestamp = none;
+      time = some (record { seconds = 1; nanos = 500000000 });
+      counts = record { tests = 0; failures = 2; errors = 0; skipped = 0; disabled = some 3 };
+      suites = [];
+    })
+
+abbrev report-uuid : Case
+report-uuid = gives (holding (bytes "testsuites") (attribute (bytes "uuid") (bytes "00000001-0002-0003-0004-000000000005") ∷ []) [])
+    (record { name = none; uuid = some (record { a = 1; b = 131075; c = 262144; d = 5 }); timestamp = none; time = none; counts = zero; suites = [] })
+
+abbrev case-attributes : Case
+case-attributes = suiteGives (inSuite (alone (bytes "testcase") (attribute (bytes "classname") (bytes "k") ∷ attribute (bytes "assertions") (bytes "7") ∷ name (bytes "c") ∷ []) ∷ []))
+    (suiteWith (record {
+      name = (bytes "c");
+      classname = some (bytes "k");
+      assertions = some 7;
+      timestamp = none;
+      time = none;
+      status = success [];
+      systemOut = none;
+      systemErr = none;
+      extra = [];
+      properties = [];
+    } ∷ []) [] none none [])
+
+-- a suite, a case and a property need a name, the property a value behind it (rule A10)
+abbrev unnamed-suite : Case
+unnamed-suite = tells unlimited (inReport (alone (bytes "testsuite") [] ∷ [])) (some cause.MissingAttribute)
+
+abbrev unnamed-case : Case
+unnamed-case = tells unlimited (inSuite (alone (bytes "testcase") [] ∷ [])) (some cause.MissingAttribute)
+
+-- a mark is tested before a repeated key, and both for keys that aren't read, too (rules A2 and A3)
+abbrev mark-first : Case
+mark-first = tells unlimited (holding (bytes "testsuites") (attribute (bytes "x") [] ∷ record { good = false; key = (bytes "x"); value = [] } ∷ []) []) (some cause.FaultyAttribute)
+
+abbrev repeated : Case
+repeated = tells unlimited (holding (bytes "testsuites") (attribute (bytes "x") [] ∷ attribute (bytes "x") [] ∷ []) []) (some cause.RepeatedKey)
+
+-- a main's time is read, though it isn't kept (rule S12)
+abbrev bad-time : Case
+bad-time = tells unlimited (inCase (alone (bytes "failure") (attribute (bytes "time") (bytes "x") ∷ []) ∷ [])) (some cause.BadTime)
+
+-- ---- room
+-- a second report gives no room back (rule M3)
+abbrev room-kept : Case
+room-kept = tells (record { records = some 1; text = some 9; scratch = some 0 }) (opens (bytes "testsuites") [] ∷ inReport []) (some cause.RecordsSpent)
+
+abbrev room-enough : Case
+room-enough = tells (record { records = some 2; text = some 0; scratch = some 0 }) (opens (bytes "testsuites") [] ∷ inReport []) none
+
+-- a replaced extra takes room for its value only (rule M5)
+abbrev replaced-extra-room : Case
+replaced-extra-room = tells (record { records = some 3; text = some 4; scratch = some 0 })
+    (inReport (alone (bytes "testsuite") (name (bytes "s") ∷ attribute (bytes "x") (bytes "1") ∷ attribute (bytes "&#120;") (bytes "3") ∷ []) ∷ [])) none
+
+abbrev extra-room : Case
+extra-room = tells (record { records = some 3; text = some 3; scratch = some 0 })
+    (inReport (alone (bytes "testsuite") (name (bytes "s") ∷ attribute (bytes "x") (bytes "1") ∷ attribute (bytes "&#120;") (bytes "3") ∷ []) ∷ [])) (some cause.TextFull)
+
+-- description and text share scratch (rule M6)
+abbrev scratch-shared : Case
+scratch-shared = tells (record { records = some 9; text = some 9; scratch = some 2 })
+    (inCase (holding (bytes "flakyError") [] (Piece Chars (bytes "ab") ∷ texted (bytes "stackTrace") (bytes "c")))) (some cause.ScratchFull)
+
+-- ---- each holds
+abbrev examples : List Case
+examples = list-replaced ∷ empty-list-replaces ∷ case-list ∷ outputs-replaced ∷ case-outputs ∷ pieces-joined ∷ second-report ∷ later-suite ∷ flaky-runs ∷ flaky-error ∷ reruns
+    ∷ no-runs ∷ skipped-case ∷ two-mains ∷ next-case ∷ run-texts ∷ main-texts ∷ blank-description ∷ extra-replaced ∷ case-extra ∷ no-extra ∷ report-attributes ∷ report-uuid
+    ∷ case-attributes ∷ unnamed-suite ∷ unnamed-case ∷ mark-first ∷ repeated ∷ bad-time ∷ room-kept ∷ room-enough ∷ replaced-extra-room ∷ extra-room ∷ scratch-shared ∷ []
+
+examples-hold : All examples
+unfolding utf8.need utf8.low utf8.high codeFrom sameBytes keys tags
+    digits.digit digits.isNumber digits.places digits.decimal unsigned makeTime
+    isLeap monthLength stamp.isTimestamp stamp.timestampOf isUuid uuidOf
+    reference.entities reference.entityChars reference.isEntity reference.entityChar reference.isCharRef reference.refAt
+    reference.base reference.digitsIn reference.number reference.xmlChar chars.encode tallied ruled
+    outcome._>>=_ outcome.there outcome.need outcome.fits
+    rules.outputs rules.emptied rules.atTop rules.atSuite rules.atCase rules.child rules.atStatus rules.inText
+    rules.inList rules.inSkip rules.planAt rules.planEof control.gathers control.turn marksAfter
+    content.pieceOf read.attributes read.completed read.element read.perform read.gather read.act read.step read.steps deserializeIn deserialize
+examples-hold =
+    one refl (one refl (one refl (one refl (one refl (one refl (one refl (one refl (one refl (one refl (one refl (one refl (one refl (one refl (one refl (one refl (one refl (one refl (one refl
+    (one refl (one refl (one refl (one refl (one refl (one refl (one refl (one refl (one refl (one refl (one refl (one refl (one refl (one refl (one refl none-left)))))))))))))))))))))))))))))))))
