@@ -77,7 +77,7 @@
 --   refusedText (crate public_claims: PublicListing)            `(refused)` and a newline
 --
 -- Table and Areas are those of demand 3 (crate read_report: Answer). Of areas that are lent for results only the lengths count, but for a builder's,
--- which hold what was built so far. What reading and the public listing are on values stands in Calls (crate public_claims).
+-- which hold what was built so far. What reading and the public listing are on values stands in OnValues (crate public_claims).
 use Prim.Native.Nat.{ℕ, _≤_}
 use mathlib.Core.Path.{_≡_}
 use mathlib.Core.List.{List, [], _∷_}

@@ -16,4 +16,4 @@ mod CaseNodes
 mod OwnCases
 mod BothCalls
 pub mod Demand3
-pub mod Calls
+pub mod OnValues

@@ -9,7 +9,7 @@
 --   public, tablesAgree (Agree)                                 the public part of a table; when two tables agree
 --   ownStatuses, rule, Ruled (OwnStatus)                        each case's own status elements in a table, the status rule, and both side by side
 --
--- That the calls answer and list this, whatever the areas held before, is what Calls claims.
+-- That the calls answer and list this, whatever the areas held before, is what OnValues claims.
 use Prim.Native.Nat.{ℕ, _<_}
 use mathlib.Core.Path.{_≡_}
 use mathlib.Core.List.{List}

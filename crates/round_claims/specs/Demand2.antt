@@ -20,7 +20,7 @@
 --   render (crate list_text: Listing)                            the text of a report's listing
 --
 -- listing, IsReport and the three reasons to refuse are those of demand 3 (crate public_claims: Demand3). That the calls answer and list this,
--- and leave the accepted report in a layout, is what Calls claims there. Of the areas that are lent only the lengths count: no claim depends
+-- and leave the accepted report in a layout, is what OnValues claims there. Of the areas that are lent only the lengths count: no claim depends
 -- on old contents.
 use Prim.Native.Nat.{ℕ, _*_, _/_, min, _≤_}
 use mathlib.Core.Path.{_≡_}
