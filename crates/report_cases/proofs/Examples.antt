@@ -311,11 +311,56 @@ abbrev scratch-shared : Case
 scratch-shared = tells (record { records = some 9; text = some 9; scratch = some 2 })
     (inCase (holding (bytes "flakyError") [] (Piece Chars (bytes "ab") ∷ texted (bytes "stackTrace") (bytes "c")))) (some cause.ScratchFull)
 
+-- a value is tested wherever its key is read, and as what its key says (rules A5, A6 and V1)
+abbrev bad-disabled : Case
+bad-disabled = tells unlimited (holding (bytes "testsuites") (attribute (bytes "disabled") (bytes "x") ∷ []) []) (some cause.BadInteger)
+
+abbrev bad-assertions : Case
+bad-assertions = tells unlimited (inSuite (alone (bytes "testcase") (name (bytes "c") ∷ attribute (bytes "assertions") (bytes "x") ∷ []) ∷ [])) (some cause.BadInteger)
+
+abbrev bad-value : Case
+bad-value = tells unlimited (inSuite (holding (bytes "properties") [] (alone (bytes "property") (name (bytes "k") ∷ attribute (bytes "value") (255 ∷ []) ∷ []) ∷ []))) (some cause.NotUtf8)
+
+abbrev bad-type : Case
+bad-type = tells unlimited (inCase (alone (bytes "failure") (attribute (bytes "type") (255 ∷ []) ∷ []) ∷ [])) (some cause.NotUtf8)
+
+abbrev bad-timestamp : Case
+bad-timestamp = tells unlimited (inCase (alone (bytes "failure") (attribute (bytes "timestamp") (bytes "x") ∷ []) ∷ [])) (some cause.BadTimestamp)
+
+-- an extra's key and value are texts (rule A9)
+abbrev bad-extra : Case
+bad-extra = tells unlimited (inReport (alone (bytes "testsuite") (name (bytes "s") ∷ attribute (bytes "x") (255 ∷ []) ∷ []) ∷ [])) (some cause.NotUtf8)
+
+abbrev bad-extra-key : Case
+bad-extra-key = tells unlimited (inReport (alone (bytes "testsuite") (name (bytes "s") ∷ attribute (255 ∷ []) [] ∷ []) ∷ [])) (some cause.NotUtf8)
+
+-- references in a value are decoded (rule X1)
+abbrev decoded : Case
+decoded = suiteGives (inSuite (holding (bytes "properties") [] (alone (bytes "property") (name (bytes "&lt;") ∷ attribute (bytes "value") (bytes "&gt;") ∷ []) ∷ [])))
+    (suiteWith [] (pair (bytes "<") (bytes ">") ∷ []) none none [])
+
+abbrev no-value : Case
+no-value = tells unlimited (inSuite (holding (bytes "properties") [] (alone (bytes "property") (name (bytes "k") ∷ []) ∷ []))) (some cause.MissingAttribute)
+
+-- nor has a status element (rule A7)
+abbrev status-extra : Case
+status-extra = tells (record { records = some 4; text = some 2; scratch = some 0 }) (inCase (alone (bytes "failure") (attribute (bytes "x") (bytes "1") ∷ []) ∷ [])) none
+
+-- an extra takes a record (rule M2)
+abbrev extra-record : Case
+extra-record = tells (record { records = some 2; text = some 9; scratch = some 0 })
+    (inReport (alone (bytes "testsuite") (name (bytes "s") ∷ attribute (bytes "x") (bytes "1") ∷ []) ∷ [])) (some cause.RecordsSpent)
+
+-- an element takes its own before its attributes are read (rules M2 and F2)
+abbrev record-first : Case
+record-first = tells (record { records = some 0; text = some 9; scratch = some 0 }) (holding (bytes "testsuites") (record { good = false; key = []; value = [] } ∷ []) []) (some cause.RecordsSpent)
+
 -- ---- each holds
 abbrev examples : List Case
 examples = list-replaced ∷ empty-list-replaces ∷ case-list ∷ outputs-replaced ∷ case-outputs ∷ pieces-joined ∷ second-report ∷ later-suite ∷ flaky-runs ∷ flaky-error ∷ reruns
     ∷ no-runs ∷ skipped-case ∷ two-mains ∷ next-case ∷ run-texts ∷ main-texts ∷ blank-description ∷ extra-replaced ∷ case-extra ∷ no-extra ∷ report-attributes ∷ report-uuid
-    ∷ case-attributes ∷ unnamed-suite ∷ unnamed-case ∷ mark-first ∷ repeated ∷ bad-time ∷ room-kept ∷ room-enough ∷ replaced-extra-room ∷ extra-room ∷ scratch-shared ∷ []
+    ∷ case-attributes ∷ unnamed-suite ∷ unnamed-case ∷ mark-first ∷ repeated ∷ bad-time ∷ room-kept ∷ room-enough ∷ replaced-extra-room ∷ extra-room ∷ scratch-shared
+    ∷ bad-disabled ∷ bad-assertions ∷ bad-value ∷ bad-type ∷ bad-timestamp ∷ bad-extra ∷ bad-extra-key ∷ decoded ∷ no-value ∷ status-extra ∷ extra-record ∷ record-first ∷ []
 
 examples-hold : All examples
 unfolding utf8.need utf8.low utf8.high codeFrom sameBytes keys tags
@@ -327,6 +372,6 @@ unfolding utf8.need utf8.low utf8.high codeFrom sameBytes keys tags
     rules.outputs rules.emptied rules.atTop rules.atSuite rules.atCase rules.child rules.atStatus rules.inText
     rules.inList rules.inSkip rules.planAt rules.planEof control.gathers control.turn marksAfter
     content.pieceOf read.attributes read.completed read.element read.perform read.gather read.act read.step read.steps deserializeIn deserialize
-examples-hold =
-    one refl (one refl (one refl (one refl (one refl (one refl (one refl (one refl (one refl (one refl (one refl (one refl (one refl (one refl (one refl (one refl (one refl (one refl (one refl
-    (one refl (one refl (one refl (one refl (one refl (one refl (one refl (one refl (one refl (one refl (one refl (one refl (one refl (one refl (one refl none-left)))))))))))))))))))))))))))))))))
+examples-hold = one refl (one refl (one refl (one refl (one refl (one refl (one refl (one refl (one refl (one refl (one refl (one refl (one refl
+    (one refl (one refl (one refl (one refl (one refl (one refl (one refl (one refl (one refl (one refl (one refl (one refl (one refl (one refl (one refl (one refl (one refl (one refl (one refl
+    (one refl (one refl (one refl (one refl (one refl (one refl (one refl (one refl (one refl (one refl (one refl (one refl (one refl (one refl none-left)))))))))))))))))))))))))))))))))))))))))))))
