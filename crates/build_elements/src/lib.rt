@@ -6,6 +6,7 @@ use build_draft::Step;
 use build_draft::is_of;
 use build_draft::last_of;
 use build_draft::no_builder;
+use build_kinds::main_kind;
 use build_records::take_record;
 use refusal::Cause;
 use refusal::NOWHERE;
@@ -16,7 +17,7 @@ ghost use mathlib.Core.List.{List};
 ghost use Prim.Native.Nat.{ℕ};
 ghost use lib.ListN.{length};
 ghost use Rattle.build_draft.specs.Draft.{draftOf, next};
-ghost use Rattle.build_draft.specs.Calls.{marks, unnamedReport, openSuite, openCase, mainKind, openMain, finish};
+ghost use Rattle.build_draft.specs.Calls.{marks, unnamedReport, openSuite, openCase, openMain, finish};
 
 fn with_marks(b: Builder, report: u32, suite: u32, case: u32, main: u32) -> Builder
     ensures { λ r. ⌜ r ≡ marks report suite case main b ⌝ }
@@ -76,18 +77,6 @@ pub fn open_case(b: Builder, records: &mut [u32], outcome: Outcome) -> Step
         return taken;
     };
     Step::Done(with_marks(d, d.report, d.suite, last_of(d), NOWHERE))
-}
-
-// 0 for success, which has none.
-fn main_kind(outcome: Outcome) -> u32
-    ensures { λ r. ⌜ r ≡ mainKind outcome ⌝ }
-{
-    match outcome {
-        Outcome::Success => 0,
-        Outcome::Failure => kind::FAILURE,
-        Outcome::Error => kind::ERROR,
-        Outcome::Skipped => kind::SKIPPED,
-    }
 }
 
 // The main status element of the case that was opened.

@@ -1,12 +1,11 @@
 -- Where a property or extra goes, and where its key stands already. Assumes nothing.
 use Prim.Native.Nat.{ℕ, suc, _+_, _-_, _*_, _≤_, _<_, min}
 use mathlib.Core.Path.{_≡_, refl, sym, ap, _∙_}
-use mathlib.Core.Bool.{Bool, true, false, cond, _&&_, _||_}
+use mathlib.Core.Bool.{Bool, true, false, cond, _&&_}
 use mathlib.Core.List.{List}
 use native.Mathlib.Omega.{arith}
-use lib.Dec.{eqb}
 use lib.ListN.{length, getD, take, drop}
-use borrow.Author.Tests.{le-leb, lt-leb, ne-eqb}
+use borrow.Author.Tests.{le-leb, lt-leb}
 use Rattle.names.specs.Names.{sameBytes}
 use Rattle.tree_record.specs.Words as word
 use Rattle.tree_record.specs.Kinds as kind
@@ -30,9 +29,6 @@ module _ (b : Builder) (words : List ℕ) {last k : ℕ} {t : Bool} (l : last �
   place-end h text = sym (ap (λ (u : Bool). cond u (lastOf b) (b .records)) (main-last ∙ h))
 
 -- ---- what it may stand behind
-pub behind-other : (k before : ℕ) → (k ≡ 13 → ⊥) → (k ≡ 4 → ⊥) → (k ≡ 14 → ⊥) → (eqb before 3 || (eqb before 14 || eqb before 5)) ≡ mayStandBehind k before
-behind-other k before a b c = rw (ne-eqb k 13 a, ne-eqb k 4 b, ne-eqb k 14 c) refl
-
 pub may-be-added : (b : Builder) (words : List ℕ) (k place : ℕ) {before κ : ℕ} {t u : Bool} → before ≡ place - 1 → t ≡ isHeld k b words → κ ≡ kindAt words before
     → u ≡ mayStandBehind k κ → (t && u) ≡ (isHeld k b words && mayStandBehind k (kindAt words (place - 1)))
 may-be-added b words k place p t κ u =

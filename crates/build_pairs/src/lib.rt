@@ -5,6 +5,7 @@ use build_draft::Step;
 use build_draft::is_of;
 use build_draft::kind_at;
 use build_draft::last_of;
+use build_kinds::may_stand_behind;
 use build_records::exchange;
 use build_records::take_record;
 use build_text::keep;
@@ -48,23 +49,6 @@ fn place_for(b: Builder, words: &[u32]) -> u32
         return last;
     }
     b.records
-}
-
-// Whether a record of kind k, a property or extra, may stand behind one of kind `before` (rule B3).
-fn may_stand_behind(k: u32, before: u32) -> bool
-    ensures { λ r. ⌜ r ≡ mayStandBehind k before ⌝ }
-{
-    if k == kind::SUITE_EXTRA {
-        return (before == kind::SUITE) | (before == kind::SUITE_EXTRA);
-    }
-    if k == kind::SUITE_PROPERTY {
-        return (before == kind::SUITE)
-            | ((before == kind::SUITE_EXTRA) | (before == kind::SUITE_PROPERTY));
-    }
-    if k == kind::CASE_EXTRA {
-        return (before == kind::CASE) | (before == kind::CASE_EXTRA);
-    }
-    (before == kind::CASE) | ((before == kind::CASE_EXTRA) | (before == kind::CASE_PROPERTY))
 }
 
 // Whether the record at the front of the part has this key.

@@ -10,15 +10,16 @@ use build_elements::open_case;
 use build_elements::open_main;
 use build_elements::open_report;
 use build_elements::open_suite;
+use build_kinds::extra_kind;
+use build_kinds::property_kind;
 use build_pairs::add_pair;
 use build_runs::open_run;
 use build_text::put_name;
 use tree_counts::Outcome;
-use tree_record::kind;
 ghost use mathlib.Core.Path.{_≡_};
 ghost use lib.ListN.{length};
 ghost use Rattle.build_draft.specs.Draft.{builtFrom, wordsLeft, textLeft};
-ghost use Rattle.build_draft.specs.Calls.{unnamedReport, newReport, addTestSuite, addTestCase, addRerun, propertyKind, extraKind, addProperty, addExtra, finish};
+ghost use Rattle.build_draft.specs.Calls.{unnamedReport, newReport, addTestSuite, addTestCase, addRerun, addProperty, addExtra, finish};
 
 // By rule B1.
 pub fn unnamed_report(records: &mut [u32], text: &mut [u8]) -> Built
@@ -81,24 +82,6 @@ pub fn add_rerun(b: Builder, records: &mut [u32], text: &mut [u8], k: NonSuccess
 {
     let step = open_run(b, records, k);
     settle(step, records, text)
-}
-
-fn property_kind(holder: Holder) -> u32
-    ensures { λ r. ⌜ r ≡ propertyKind holder ⌝ }
-{
-    match holder {
-        Holder::Suite => kind::SUITE_PROPERTY,
-        Holder::Case => kind::CASE_PROPERTY,
-    }
-}
-
-fn extra_kind(holder: Holder) -> u32
-    ensures { λ r. ⌜ r ≡ extraKind holder ⌝ }
-{
-    match holder {
-        Holder::Suite => kind::SUITE_EXTRA,
-        Holder::Case => kind::CASE_EXTRA,
-    }
 }
 
 // A property of the open suite, before its cases, or of the open case, before its runs; both behind the extras.

@@ -1,3 +1,4 @@
 pub mod Passing
 pub mod Tables
+pub mod Attributes
 mod Examples

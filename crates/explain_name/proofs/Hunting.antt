@@ -1,43 +1,26 @@
 -- The attribute whose key is `name` is looked for, one attribute after the other. Assumes nothing.
 use Prim.Native.Nat.{ℕ, zero, suc, _+_, _-_, _*_, _/_, _≤_, _<_}
 use mathlib.Core.Path.{_≡_, refl, sym, ap, _∙_}
-use mathlib.Core.List.{List, []}
+use mathlib.Core.List.{List}
 use mathlib.Core.Bool.{Bool, true, false, cond}
 use native.Mathlib.Omega.{arith}
-use lib.ListN.{length, getD, take, drop, List·getD-eq-default}
-use Rattle.area.proofs.Parts.{rest-part}
+use lib.ListN.{length, getD, take, drop}
 use Rattle.names.specs.Bytes.{bytes}
 use Rattle.names.specs.Names.{sameBytes}
-use Rattle.table.specs.Table.{word}
-use Rattle.table.specs.Event.{part, keyAt, valueAt}
-use Rattle.table.proofs.Words.{part-at}
+use Rattle.table.specs.Event.{part, keyAt}
+use Rattle.explain_lines.proofs.Attributes.{lent-part, no-part}
 use Rattle.explain_name.specs.inside.Found.{namedFrom}
 
 module _ (attributes source : List ℕ) where
-  -- the bytes that words k and l of attribute j tell of, where the words are lent from there on
-  pub lent-part : (j k l : ℕ) → part source (getD (take (length attributes - j * 5) (drop (j * 5) attributes)) k 0) (getD (take (length attributes - j * 5) (drop (j * 5) attributes)) l 0)
-      ≡ part source (word attributes j k) (word attributes j l)
-  lent-part j k l = ap (λ (w : List ℕ). part source (getD w k 0) (getD w l 0)) (rest-part attributes (j * 5)) ∙ sym (part-at attributes j source k l)
-
   -- what the code finds of a key
   pub lent-key : (j : ℕ) {r t : Bool}
       → r ≡ sameBytes (part source (getD (take (length attributes - j * 5) (drop (j * 5) attributes)) 1 0) (getD (take (length attributes - j * 5) (drop (j * 5) attributes)) 2 0)) (bytes "name")
       → r ≡ t → sameBytes (keyAt attributes source j) (bytes "name") ≡ t
-  lent-key j p q = ap (λ (l : List ℕ). sameBytes l (bytes "name")) (sym (lent-part j 1 2)) ∙ sym p ∙ q
-
-  -- behind the table all words are 0
-  past : (j k : ℕ) → length attributes / 5 < j → word attributes j k ≡ 0
-  past j k h = List·getD-eq-default attributes 0 {n = j * 5 + k} (omega arith)
-
-  no-part : (j k l : ℕ) → length attributes / 5 < j → part source (word attributes j k) (word attributes j l) ≡ []
-  no-part j k l h = ap (λ (n : ℕ). take n (drop (word attributes j k) source)) (past j l h)
-
-  pub no-value : (j : ℕ) → length attributes / 5 < j → part source 0 0 ≡ valueAt attributes source j
-  no-value j h = sym (no-part j 3 4 h)
+  lent-key j p q = ap (λ (l : List ℕ). sameBytes l (bytes "name")) (sym (lent-part attributes source j 1 2)) ∙ sym p ∙ q
 
   not-named : (j : ℕ) → length attributes / 5 < j → sameBytes (keyAt attributes source j) (bytes "name") ≡ false
   unfolding sameBytes
-  not-named j h = rw (no-part j 1 2 h) refl
+  not-named j h = rw (no-part attributes source j 1 2 h) refl
 
   none-past : (n j : ℕ) → length attributes / 5 < j → namedFrom attributes source n j ≡ j + n
   unfolding namedFrom

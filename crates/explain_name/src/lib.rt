@@ -1,6 +1,7 @@
 // The name of a suite or case in brackets, from the attributes of its Start.
 use area::Stored;
 use area::wide;
+use explain_lines::value_at;
 use list_text::is_open;
 use list_text::put;
 use list_text::put_escaped;
@@ -23,7 +24,7 @@ ghost use Rattle.names.specs.Names.{sameBytes};
 ghost use Rattle.escape.specs.Escape.{escaped};
 ghost use Rattle.text.specs.Decode.{isValue};
 ghost use Rattle.text.specs.Value.{valueText};
-ghost use Rattle.table.specs.Event.{part, valueAt};
+ghost use Rattle.table.specs.Event.{part};
 ghost use Rattle.list_text.specs.inside.Behind.{filled, Puts};
 ghost use Rattle.explain_text.specs.Explanation.{textOf, nameAt, bracketed};
 ghost use Rattle.explain_name.specs.inside.Found.{namedFrom};
@@ -88,19 +89,6 @@ fn named_from(attributes: &[u32], source: &[u8], first: usize, end: usize) -> us
         j += 1;
     }
     j
-}
-
-// The value of attribute j, no bytes behind the table.
-fn value_at<'a>(attributes: &[u32], source: &'a [u8], j: usize) -> &'a [u8]
-    ensures { λ r. ⌜ now r ≡ valueAt (now (attributes .entry)) (now (source .entry)) j ⌝ }
-{
-    let n = attributes.len();
-    if n / 5 < j {
-        return bytes_of(source, 0, 0);
-    }
-    let at = j * 5;
-    let words = &attributes[at..];
-    bytes_of(source, wide(word_of(words, 3)), wide(word_of(words, 4)))
 }
 
 // Puts the name of an event, if the table has it and it has one (rule E3).

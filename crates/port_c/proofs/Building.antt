@@ -2,7 +2,9 @@
 use Prim.Native.Nat.{ℕ, _≤_, _<_}
 use mathlib.Core.Path.{_≡_, sym, ap, _∙_}
 use mathlib.Core.List.{List}
+use mathlib.Core.Bool.{Bool, true, false, cond}
 use lib.ListN.{length}
+use lib.Dec.{ltb}
 use Rattle.refusal.specs.Refusal.{Outcome}
 use Rattle.build_draft.specs.declared.Built.{Built}
 use Rattle.build_draft.specs.Draft.{Draft, builtFrom, wordsLeft, textLeft}
@@ -28,6 +30,13 @@ module _ {A : Type 0} (variants : List A) (code : ℕ) where
 
   pub unknown : (o : Outcome Draft) → length variants ≤ code → noCode ≡ coded variants code o
   unknown o h = sym (no-code variants code o h)
+
+  -- the same behind a call that said whether the code is one
+  pub tested-known : (f : A → Outcome Draft) {v x : A} {b : Bool} → v ≡ x → b ≡ ltb code (length variants) → b ≡ true → f v ≡ coded variants code (f x)
+  tested-known f {x = x} e h t = ap f e ∙ ap (λ (z : Bool). cond z (f x) noCode) (sym t ∙ h)
+
+  pub tested-unknown : (o : Outcome Draft) {b : Bool} → b ≡ ltb code (length variants) → b ≡ false → noCode ≡ coded variants code o
+  tested-unknown o h t = ap (λ (z : Bool). cond z o noCode) (sym t ∙ h)
 
 module _ {A B : Type 0} (variants : List A) (code : ℕ) (others : List B) (other : ℕ) (f : A → B → Outcome Draft) where
   pub both-known : {v x : A} {w y : B} → v ≡ x → w ≡ y → code < length variants → other < length others → f v w ≡ coded variants code (coded others other (f x y))

@@ -5,12 +5,12 @@ use port_values::KMoment;
 use port_values::KUuid;
 use port_values::built;
 use port_values::codes::ELEMENTS;
-use port_values::codes::FAMILIES;
 use port_values::codes::FIELDS;
 use port_values::codes::NUMBERS;
 use port_values::codes::element_at;
 use port_values::codes::family_at;
 use port_values::codes::field_at;
+use port_values::codes::is_family;
 use port_values::codes::number_at;
 use port_values::not_built;
 use port_values::plain_moment;
@@ -160,7 +160,7 @@ pub extern "C" fn kerzhoma_set_rerun_kind(
     ensures { λ _. ⌜ now (text .exit)
         ≡ textLeft (length (now (text .entry))) (coded families family (setRerunKind (familyAt family) (record { builder = b; words = now (records .entry); text = now (text .entry) }))) ⌝ }
 {
-    if family >= FAMILIES {
+    if !is_family(family) {
         return not_built(records, text);
     }
     built(builder_set::set_rerun_kind(b, records, text, family_at(family)))

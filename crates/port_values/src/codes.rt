@@ -7,7 +7,9 @@ use build_draft::NumberField;
 use build_draft::TextField;
 use tree_counts::Outcome;
 ghost use mathlib.Core.Path.{_≡_};
-ghost use Rattle.port_values.specs.Codes.{outcomeAt, elementAt, holderAt, fieldAt, numberAt, kindAt, familyAt};
+ghost use lib.Dec.{ltb};
+ghost use lib.ListN.{length};
+ghost use Rattle.port_values.specs.Codes.{outcomeAt, elementAt, holderAt, fieldAt, numberAt, kindAt, families, familyAt};
 
 pub const OUTCOMES: u32 = 4;
 
@@ -21,7 +23,7 @@ pub const NUMBERS: u32 = 2;
 
 pub const KINDS: u32 = 2;
 
-pub const FAMILIES: u32 = 2;
+const FAMILIES: u32 = 2;
 
 pub fn outcome_at(code: u32) -> Outcome
     ensures { λ r. ⌜ r ≡ outcomeAt code ⌝ }
@@ -85,6 +87,12 @@ pub fn kind_at(code: u32) -> NonSuccessKind
         0 => NonSuccessKind::Failure,
         _ => NonSuccessKind::Error,
     }
+}
+
+pub fn is_family(code: u32) -> bool
+    ensures { λ r. ⌜ r ≡ ltb code (length families) ⌝ }
+{
+    code < FAMILIES
 }
 
 pub fn family_at(code: u32) -> FlakyOrRerun

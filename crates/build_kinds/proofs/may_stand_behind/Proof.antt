@@ -1,7 +1,7 @@
-use Rattle.build_pairs.proofs.Places.{behind-other}
+use Rattle.build_kinds.proofs.Behind.{behind-other}
 use mathlib.Core.Path.{refl}
-use Rattle.build_pairs.proofs.may_stand_behind.Statement.{statement}
-use Rattle.build_pairs.proofs.may_stand_behind.Tie as tie
+use Rattle.build_kinds.proofs.may_stand_behind.Statement.{statement}
+use Rattle.build_kinds.proofs.may_stand_behind.Tie as tie
 
 returns : tie.Need-returns
 returns c = rw (c .if1 .taken) refl

@@ -1,8 +1,8 @@
 use mathlib.Core.Path.{_∙_}
 use borrow.Author.Needs.{needs}
-use Rattle.explain_name.proofs.Hunting.{lent-part, no-value}
-use Rattle.explain_name.proofs.value_at.Statement.{statement}
-use Rattle.explain_name.proofs.value_at.Tie as tie
+use Rattle.explain_lines.proofs.Attributes.{lent-part, no-value}
+use Rattle.explain_lines.proofs.value_at.Statement.{statement}
+use Rattle.explain_lines.proofs.value_at.Tie as tie
 
 bytes-of-requires : tie.Need-bytes-of-requires
 bytes-of-requires c κs = search needs
