@@ -8,6 +8,7 @@ use Rattle.utf8.specs.Utf8 as utf8
 use Rattle.utf8.specs.Characters as chars
 use Rattle.names.specs.Bytes.{bytes}
 use Rattle.names.specs.Names.{codeFrom, sameBytes}
+use Rattle.names.specs.Keys as key
 use Rattle.names.specs.Keys.{keys}
 use Rattle.names.specs.Tags.{tags}
 use Rattle.digits.specs.Digits as digits
@@ -19,6 +20,7 @@ use Rattle.uuid.specs.Uuid.{isUuid, uuidOf}
 use Rattle.reference.specs.Reference as reference
 use Rattle.refusal.specs.Refusal.{Outcome, accepted, refused}
 use Rattle.refusal.specs.declared.Cause.{Cause}
+use Rattle.refusal.specs.declared.PathElement.{PathElement}
 use Rattle.refusal.specs.declared.Cause.the-variants as cause
 use Rattle.table.specs.Event.{Attribute, Start, Empty, End, Text as Chars, Event, Tag, Piece}
 use Rattle.tree_status.specs.Status.{tallied, ruled}
@@ -92,10 +94,11 @@ abbrev runOf : NonSuccessKind → TestRerun
 runOf k =
     record { kind = k; timestamp = none; time = none; message = none; type = none; stackTrace = none; systemOut = none; systemErr = none; description = none }
 
--- ---- what an example says: the report that events give, or the cause that they are refused with, if any
+-- ---- what an example says: the report that events give, or the cause that they are refused with, if any, or the key that the refusal's path ends in
 data Case : Type 0 where
   gives : List Event → Report → Case
   tells : Rooms → List Event → Option Cause → Case
+  names : List Event → ℕ → Case
 
 abbrev suiteGives : List Event → TestSuite → Case
 suiteGives es s = gives es (reportWith (s ∷ []))
@@ -110,9 +113,19 @@ abbrev why : Outcome Report → Option Cause
 why (accepted r) = none
 why (refused r) = some (r .cause)
 
+abbrev lastIndex : List PathElement → ℕ
+lastIndex [] = 0
+lastIndex (e ∷ []) = e .index
+lastIndex (e ∷ (f ∷ fs)) = lastIndex (f ∷ fs)
+
+abbrev lastOf : Outcome Report → ℕ
+lastOf (accepted r) = 0
+lastOf (refused r) = lastIndex (r .path)
+
 abbrev Holds : Case → Type 0
 Holds (gives es r) = deserialize es ≡ accepted r
 Holds (tells rooms es c) = why (deserializeIn rooms es) ≡ c
+Holds (names es k) = lastOf (deserialize es) ≡ k
 
 data All : List Case → Type 0 where
   none-left : All []
@@ -355,23 +368,52 @@ extra-record = tells (record { records = some 2; text = some 9; scratch = some 0
 abbrev record-first : Case
 record-first = tells (record { records = some 0; text = some 9; scratch = some 0 }) (holding (bytes "testsuites") (record { good = false; key = []; value = [] } ∷ []) []) (some cause.RecordsSpent)
 
+-- a run's timestamp is kept (rule A6)
+abbrev run-moment : Case
+run-moment = statusGives (alone (bytes "flakyFailure") (attribute (bytes "timestamp") (bytes "2024-02-29T01:02:03Z") ∷ attribute (bytes "time") (bytes "2") ∷ []) ∷ []) (success (record {
+  kind = failure;
+  timestamp = some (record { year = 2024; month = 2; day = 29; hour = 1; minute = 2; second = 3; nanos = 0; offset = 1439 });
+  time = some (record { seconds = 2; nanos = 0 });
+  message = none;
+  type = none;
+  stackTrace = none;
+  systemOut = none;
+  systemErr = none;
+  description = none;
+} ∷ []))
+
+-- suites stand in the order of the table (rule R5)
+abbrev suites-in-order : Case
+suites-in-order = gives (inReport (alone (bytes "testsuite") (name (bytes "s") ∷ attribute (bytes "x") (bytes "1") ∷ []) ∷ alone (bytes "testsuite") (name (bytes "s") ∷ []) ∷ []))
+    (reportWith (suiteWith [] [] none none (pair (bytes "x") (bytes "1") ∷ []) ∷ suiteWith [] [] none none [] ∷ []))
+
+-- an output takes room (rule M4)
+abbrev output-room : Case
+output-room = tells (record { records = some 3; text = some 2; scratch = some 9 }) (inCase (texted (bytes "system-out") (bytes "x"))) (some cause.TextFull)
+
+-- of a property that lacks both the name is told (rule A10)
+abbrev name-first : Case
+name-first = names (inSuite (holding (bytes "properties") [] (alone (bytes "property") [] ∷ []))) key.name
+
 -- ---- each holds
 abbrev examples : List Case
-examples = list-replaced ∷ empty-list-replaces ∷ case-list ∷ outputs-replaced ∷ case-outputs ∷ pieces-joined ∷ second-report ∷ later-suite ∷ flaky-runs ∷ flaky-error ∷ reruns
-    ∷ no-runs ∷ skipped-case ∷ two-mains ∷ next-case ∷ run-texts ∷ main-texts ∷ blank-description ∷ extra-replaced ∷ case-extra ∷ no-extra ∷ report-attributes ∷ report-uuid
-    ∷ case-attributes ∷ unnamed-suite ∷ unnamed-case ∷ mark-first ∷ repeated ∷ bad-time ∷ room-kept ∷ room-enough ∷ replaced-extra-room ∷ extra-room ∷ scratch-shared
-    ∷ bad-disabled ∷ bad-assertions ∷ bad-value ∷ bad-type ∷ bad-timestamp ∷ bad-extra ∷ bad-extra-key ∷ decoded ∷ no-value ∷ status-extra ∷ extra-record ∷ record-first ∷ []
+examples = list-replaced ∷ empty-list-replaces ∷ case-list ∷ outputs-replaced ∷ case-outputs ∷ pieces-joined ∷ second-report ∷ later-suite ∷ flaky-runs ∷ flaky-error ∷ reruns ∷ no-runs
+    ∷ skipped-case ∷ two-mains ∷ next-case ∷ run-texts ∷ main-texts ∷ blank-description ∷ extra-replaced ∷ case-extra ∷ no-extra ∷ report-attributes ∷ report-uuid ∷ case-attributes
+    ∷ unnamed-suite ∷ unnamed-case ∷ mark-first ∷ repeated ∷ bad-time ∷ room-kept ∷ room-enough ∷ replaced-extra-room ∷ extra-room ∷ scratch-shared ∷ bad-disabled ∷ bad-assertions ∷ bad-value
+    ∷ bad-type ∷ bad-timestamp ∷ bad-extra ∷ bad-extra-key ∷ decoded ∷ no-value ∷ status-extra ∷ extra-record ∷ record-first ∷ run-moment ∷ suites-in-order ∷ output-room ∷ name-first ∷ []
 
 examples-hold : All examples
 unfolding utf8.need utf8.low utf8.high codeFrom sameBytes keys tags
     digits.digit digits.isNumber digits.places digits.decimal unsigned makeTime
-    isLeap monthLength stamp.isTimestamp stamp.timestampOf isUuid uuidOf
+    isLeap monthLength stamp.places stamp.isUtc stamp.isTimestamp stamp.timestampOf isUuid uuidOf
     reference.entities reference.entityChars reference.isEntity reference.entityChar reference.isCharRef reference.refAt
     reference.base reference.digitsIn reference.number reference.xmlChar chars.encode tallied ruled
     outcome._>>=_ outcome.there outcome.need outcome.fits
     rules.outputs rules.emptied rules.atTop rules.atSuite rules.atCase rules.child rules.atStatus rules.inText
     rules.inList rules.inSkip rules.planAt rules.planEof control.gathers control.turn marksAfter
     content.pieceOf read.attributes read.completed read.element read.perform read.gather read.act read.step read.steps deserializeIn deserialize
-examples-hold = one refl (one refl (one refl (one refl (one refl (one refl (one refl (one refl (one refl (one refl (one refl (one refl (one refl
-    (one refl (one refl (one refl (one refl (one refl (one refl (one refl (one refl (one refl (one refl (one refl (one refl (one refl (one refl (one refl (one refl (one refl (one refl (one refl
-    (one refl (one refl (one refl (one refl (one refl (one refl (one refl (one refl (one refl (one refl (one refl (one refl (one refl (one refl none-left)))))))))))))))))))))))))))))))))))))))))))))
+examples-hold =
+    one refl (one refl (one refl (one refl (one refl (one refl (one refl (one refl (one refl (one refl (one refl (one refl (one refl (one refl (one refl (one refl
+    (one refl (one refl (one refl (one refl (one refl (one refl (one refl (one refl (one refl (one refl (one refl (one refl (one refl (one refl (one refl (one refl
+    (one refl (one refl (one refl (one refl (one refl (one refl (one refl (one refl (one refl (one refl (one refl (one refl (one refl (one refl (one refl (one refl
+    (one refl (one refl none-left)))))))))))))))))))))))))))))))))))))))))))))))))
