@@ -138,7 +138,7 @@ list-replaced = suiteGives
     (inSuite (holding (bytes "properties") [] (property (bytes "a") (bytes "1") ∷ []) ++ holding (bytes "properties") [] (property (bytes "b") (bytes "2") ∷ property (bytes "c") (bytes "3") ∷ [])))
     (suiteWith [] (pair (bytes "b") (bytes "2") ∷ pair (bytes "c") (bytes "3") ∷ []) none none [])
 
--- also an Empty one, and a case's list is the case's (rules R9 and R17)
+-- also an Empty one, and a case's list is the case's (rules R10, R13 and R17)
 abbrev empty-list-replaces : Case
 empty-list-replaces = caseGives (inCase (holding (bytes "properties") [] (property (bytes "a") (bytes "1") ∷ []) ++ (alone (bytes "properties") [] ∷ []))) (caseWith (success []) [] none none)
 
@@ -155,7 +155,7 @@ abbrev case-outputs : Case
 case-outputs = caseGives (inCase (texted (bytes "system-out") (bytes "x") ++ texted (bytes "system-err") (bytes "y") ++ texted (bytes "system-out") (bytes "z")))
     (caseWith (success []) [] (some (bytes "z")) (some (bytes "y")))
 
--- the pieces of a text are joined in order (rule X9)
+-- the pieces of a text are joined in order (rules X9 and X10)
 abbrev pieces-joined : Case
 pieces-joined = caseGives (inCase (holding (bytes "system-out") [] (Piece Chars (bytes "x") ∷ Piece Chars (bytes "y") ∷ []))) (caseWith (success []) [] (some (bytes "xy")) none)
 
@@ -164,14 +164,14 @@ abbrev second-report : Case
 second-report = gives (opens (bytes "testsuites") (name (bytes "a") ∷ []) ∷ alone (bytes "testsuite") (name (bytes "s") ∷ []) ∷ inReport (alone (bytes "testsuite") (name (bytes "s") ∷ []) ∷ []))
     (reportWith (suiteWith [] [] none none [] ∷ []))
 
--- what is open is the last suite, the last case (rule R8)
+-- what is open is the last suite, the last case (rules R10 and R12)
 abbrev later-suite : Case
 later-suite = gives (inReport (alone (bytes "testsuite") (name (bytes "s") ∷ [])
     ∷ holding (bytes "testsuite") (name (bytes "s") ∷ []) (alone (bytes "testcase") (name (bytes "c") ∷ []) ∷ holding (bytes "testcase") (name (bytes "c") ∷ []) (alone (bytes "skipped") [] ∷ []))))
     (reportWith (suiteWith [] [] none none [] ∷ suiteWith (caseWith (success []) [] none none ∷ caseWith (skipped bare) [] none none ∷ []) [] none none [] ∷ []))
 
 -- ---- status elements
--- runs of a success are flaky ones, in order (rules S7 and S10)
+-- runs of a success are flaky ones, in order (rule S10)
 abbrev flaky-runs : Case
 flaky-runs = statusGives (alone (bytes "flakyFailure") [] ∷ alone (bytes "flakyError") [] ∷ []) (success (runOf failure ∷ runOf error ∷ []))
 
@@ -324,6 +324,7 @@ abbrev scratch-shared : Case
 scratch-shared = tells (record { records = some 9; text = some 9; scratch = some 2 })
     (inCase (holding (bytes "flakyError") [] (Piece Chars (bytes "ab") ∷ texted (bytes "stackTrace") (bytes "c")))) (some cause.ScratchFull)
 
+-- ---- values, room and order
 -- a value is tested wherever its key is read, and as what its key says (rules A5, A6 and V1)
 abbrev bad-disabled : Case
 bad-disabled = tells unlimited (holding (bytes "testsuites") (attribute (bytes "disabled") (bytes "x") ∷ []) []) (some cause.BadInteger)
@@ -355,7 +356,7 @@ decoded = suiteGives (inSuite (holding (bytes "properties") [] (alone (bytes "pr
 abbrev no-value : Case
 no-value = tells unlimited (inSuite (holding (bytes "properties") [] (alone (bytes "property") (name (bytes "k") ∷ []) ∷ []))) (some cause.MissingAttribute)
 
--- nor has a status element (rule A7)
+-- a status element has no extras (rule A7)
 abbrev status-extra : Case
 status-extra = tells (record { records = some 4; text = some 2; scratch = some 0 }) (inCase (alone (bytes "failure") (attribute (bytes "x") (bytes "1") ∷ []) ∷ [])) none
 
@@ -364,7 +365,7 @@ abbrev extra-record : Case
 extra-record = tells (record { records = some 2; text = some 9; scratch = some 0 })
     (inReport (alone (bytes "testsuite") (name (bytes "s") ∷ attribute (bytes "x") (bytes "1") ∷ []) ∷ [])) (some cause.RecordsSpent)
 
--- an element takes its own before its attributes are read (rules M2 and F2)
+-- an element takes its record before its attributes are read (rules M2 and F2)
 abbrev record-first : Case
 record-first = tells (record { records = some 0; text = some 9; scratch = some 0 }) (holding (bytes "testsuites") (record { good = false; key = []; value = [] } ∷ []) []) (some cause.RecordsSpent)
 
@@ -382,7 +383,7 @@ run-moment = statusGives (alone (bytes "flakyFailure") (attribute (bytes "timest
   description = none;
 } ∷ []))
 
--- suites stand in the order of the table (rule R5)
+-- suites stand in the order of the table, also Empty ones (rule R5)
 abbrev suites-in-order : Case
 suites-in-order = gives (inReport (alone (bytes "testsuite") (name (bytes "s") ∷ attribute (bytes "x") (bytes "1") ∷ []) ∷ alone (bytes "testsuite") (name (bytes "s") ∷ []) ∷ []))
     (reportWith (suiteWith [] [] none none (pair (bytes "x") (bytes "1") ∷ []) ∷ suiteWith [] [] none none [] ∷ []))
