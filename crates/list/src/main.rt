@@ -2,16 +2,17 @@
 // says what is printed.
 use list_input::front;
 use list_printing::print_input;
+use program_input::read_input;
 
 fn write_front(out: &[u8; 65536], n: usize) {
     io::write_all(1, front(out, n));
 }
 
-// By rule P4.
+// By rule P4. There is room for three words, and a buffer each for events, attributes and source; what follows is ignored.
 fn main() {
-    let mut input = [0u8; 196620];
+    let mut room = [0u8; 196620];
     let mut out = [0u8; 65536];
-    let n = io::read_full(0, &mut input);
-    let k = print_input(&input, n, &mut out);
+    let given = read_input(&mut room);
+    let k = print_input(given, &mut out);
     write_front(&out, k);
 }

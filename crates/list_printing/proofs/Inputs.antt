@@ -5,6 +5,7 @@ use mathlib.Core.List.{List}
 use mathlib.Core.Option.{Option, none, some}
 use native.Mathlib.Omega.{arith}
 use lib.ListN.{length, take, drop}
+use lib.Seq.{take-length}
 use Rattle.area.specs.Area.{zeros, laid}
 use Rattle.list_input.specs.Input.{Table, foundOf, Lies}
 use Rattle.list_input.specs.declared.Found.{Found}
@@ -40,9 +41,9 @@ found-not found e events attributes input = sym (ap (λ (f : Found). foundOf f e
 
 -- areas of the program's sizes; b are those lent
 pub program : (m n : ℕ) (b : Buffers) (out : List ℕ) (k : ℕ) (input : List ℕ) → m ≡ 16384 → n ≡ 16384 → b ≡ buffers →
-    (out ≡ laid (zeros (b .out)) (printed m n b input)) × (k ≡ min (b .out) (length (printed m n b input))) →
+    (out ≡ laid (zeros (b .out)) (printed m n b (take (length input) input))) × (k ≡ min (b .out) (length (printed m n b (take (length input) input)))) →
     (out ≡ laid (zeros 65536) (programPrints input)) × (k ≡ min 65536 (length (programPrints input)))
-program m n b out k input p q r h = rw (p, q, r) at h
+program m n b out k input p q r h = rw (p, q, r, take-length input) at h
 
 pub sized : (records text scratch out : ℕ) → records ≡ 16384 → text ≡ 65536 → scratch ≡ 65536 → out ≡ 65536 → record { records = records; text = text; scratch = scratch; out = out } ≡ buffers
 sized records text scratch out p q r t = rw (p, q, r, t) refl

@@ -113,11 +113,10 @@ pub fn print_listing(
     k
 }
 
-// What the program prints for the n bytes that it read (rules P3 and P4): its buffers are here, so that their sizes are in the
-// promise. Its input has room for three words, and a buffer each for events, attributes and source; what follows is ignored.
-pub fn print_input(input: &[u8; 196620], n: usize, out: &mut [u8; 65536]) -> usize
-    ensures out { λ _. ⌜ now (out .exit) ≡ laid (zeros 65536) (programPrints (take n (now (input .entry)))) ⌝ }
-    ensures count { λ r. ⌜ r ≡ min 65536 (length (programPrints (take n (now (input .entry))))) ⌝ }
+// What the program prints for the bytes that it read (rules P3 and P4): its buffers are here, so that their sizes are in the promise.
+pub fn print_input(input: &[u8], out: &mut [u8; 65536]) -> usize
+    ensures out { λ _. ⌜ now (out .exit) ≡ laid (zeros 65536) (programPrints (now (input .entry))) ⌝ }
+    ensures count { λ r. ⌜ r ≡ min 65536 (length (programPrints (now (input .entry)))) ⌝ }
 {
     let mut events = [0u32; 16384];
     let mut attributes = [0u32; 16384];
@@ -126,7 +125,7 @@ pub fn print_input(input: &[u8; 196620], n: usize, out: &mut [u8; 65536]) -> usi
     let mut scratch = [0u8; 65536];
     print_listing(
         input,
-        n,
+        input.len(),
         &mut events,
         &mut attributes,
         &mut records,

@@ -3,7 +3,6 @@ use Prim.Native.Nat.{ℕ}
 use mathlib.Core.Path.{_≡_, refl, ap, _∙_}
 use mathlib.Core.List.{List}
 use mathlib.Core.Option.{Option, none, some}
-use lib.ListN.{take}
 use Rattle.refusal.specs.Refusal.{Refused, Outcome, accepted, refused}
 use Rattle.read_machine.specs.Reading.{Read, reading}
 use Rattle.public_claims.specs.PublicListing.{refusedText, behindReading}
@@ -33,5 +32,5 @@ pub found-none : (o : Option Table) → none ≡ o → refusedText ≡ foundPrin
 unfolding foundPrinted
 found-none o e = ap foundPrinted e
 
-pub program : (m n : ℕ) (s : List ℕ) (o : Option Table) (k : ℕ) (input : List ℕ) → m ≡ 16384 → n ≡ 16384 → o ≡ inputOf m n s → s ≡ take k input → foundPrinted o ≡ programWrites (take k input)
-program m n s o k input p q e f = ap foundPrinted (e ∙ rw (p, q, f) refl)
+pub program : (m n : ℕ) (o : Option Table) (input : List ℕ) → m ≡ 16384 → n ≡ 16384 → o ≡ inputOf m n input → foundPrinted o ≡ programWrites input
+program m n o input p q e = ap foundPrinted (e ∙ rw (p, q) refl)

@@ -2,7 +2,6 @@
 use area::Stored;
 use area::clear;
 use list_input::Found;
-use list_input::front;
 use list_input::input_of;
 use public_call::refuse;
 use reader::read;
@@ -11,7 +10,7 @@ use write_words::put_table;
 use writer::write;
 ghost use mathlib.Core.Path.{_≡_};
 ghost use Prim.Native.Nat.{min};
-ghost use lib.ListN.{length, take};
+ghost use lib.ListN.{length};
 ghost use Rattle.area.specs.Area.{zeros, laid};
 ghost use Rattle.read_machine.specs.Reading.{reading};
 ghost use Rattle.list_input.specs.Input.{foundOf, Lies};
@@ -100,15 +99,14 @@ fn print_found(
     }
 }
 
-// What the program prints for the n bytes that it read (rules P3 and P5): its buffers are here, so that their sizes are in the
-// promise. Input and output have room for three words, and a buffer each for events, attributes and bytes; what follows is ignored.
-pub fn print_input(input: &[u8; 196620], n: usize, out: &mut [u8; 196620]) -> usize
-    ensures out { λ _. ⌜ now (out .exit) ≡ laid (zeros 196620) (programWrites (take n (now (input .entry)))) ⌝ }
-    ensures count { λ r. ⌜ r ≡ min 196620 (length (programWrites (take n (now (input .entry))))) ⌝ }
+// What the program prints for the bytes that it read (rules P3 and P5): its buffers are here, so that their sizes are in the promise.
+// The output has room for three words, and a buffer each for events, attributes and bytes.
+pub fn print_input(input: &[u8], out: &mut [u8; 196620]) -> usize
+    ensures out { λ _. ⌜ now (out .exit) ≡ laid (zeros 196620) (programWrites (now (input .entry))) ⌝ }
+    ensures count { λ r. ⌜ r ≡ min 196620 (length (programWrites (now (input .entry)))) ⌝ }
 {
     let mut events = [0u32; 16384];
     let mut attributes = [0u32; 16384];
-    let given = front(input, n);
-    let found = input_of(given, &mut events, &mut attributes);
-    print_found(found, given, &events, &attributes, out)
+    let found = input_of(input, &mut events, &mut attributes);
+    print_found(found, input, &events, &attributes, out)
 }

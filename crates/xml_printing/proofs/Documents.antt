@@ -4,6 +4,7 @@ use mathlib.Core.Path.{_≡_, refl, sym, ap, _∙_}
 use mathlib.Core.List.{List}
 use borrow.Author.Tests.{lt-ltb, le-ltb}
 use lib.ListN.{length, take}
+use lib.Seq.{take-length}
 use Rattle.area.specs.Area.{zeros, laid}
 use Rattle.public_claims.specs.PublicListing.{refusedText}
 use Rattle.xml_listing.specs.XmlListing.{Lent, xmlListing}
@@ -27,8 +28,8 @@ module _ (m n : ℕ) (b : Lent) (d document : List ℕ) (e : d ≡ document) whe
 
 -- areas of the program's sizes; b are those lent
 pub program : (m n : ℕ) (b : Lent) (out : List ℕ) (k : ℕ) (document : List ℕ) → m ≡ 16384 → n ≡ 16384 → b ≡ buffers →
-    Prints (b .out) (xmlPrinted m n b document) out k → Prints 65536 (programPrints document) out k
-program m n b out k document p q r h = rw (p, q, r) at h
+    Prints (b .out) (xmlPrinted m n b (take (length document) document)) out k → Prints 65536 (programPrints document) out k
+program m n b out k document p q r h = rw (p, q, r, take-length document) at h
 
 pub sized : (records text scratch out : ℕ) → records ≡ 16384 → text ≡ 65536 → scratch ≡ 65536 → out ≡ 65536 → record { records = records; text = text; scratch = scratch; out = out } ≡ buffers
 sized records text scratch out p q r t = rw (p, q, r, t) refl

@@ -32,11 +32,10 @@ fn print_document(
     list_xml(document, events, attributes, records, text, scratch, out)
 }
 
-// What the program prints for the n bytes that it read: its buffers are here, so that their sizes are in the promise. Its input has
-// room for one byte more than a document may have (rule N12).
-pub fn print_xml(input: &[u8; 65537], n: usize, out: &mut [u8; 65536]) -> usize
-    ensures out { λ _. ⌜ now (out .exit) ≡ laid (zeros 65536) (programPrints (take n (now (input .entry)))) ⌝ }
-    ensures count { λ r. ⌜ r ≡ min 65536 (length (programPrints (take n (now (input .entry))))) ⌝ }
+// What the program prints for the bytes that it read (rule N12): its buffers are here, so that their sizes are in the promise.
+pub fn print_xml(input: &[u8], out: &mut [u8; 65536]) -> usize
+    ensures out { λ _. ⌜ now (out .exit) ≡ laid (zeros 65536) (programPrints (now (input .entry))) ⌝ }
+    ensures count { λ r. ⌜ r ≡ min 65536 (length (programPrints (now (input .entry)))) ⌝ }
 {
     let mut events = [0u32; 16384];
     let mut attributes = [0u32; 16384];
@@ -45,7 +44,7 @@ pub fn print_xml(input: &[u8; 65537], n: usize, out: &mut [u8; 65536]) -> usize
     let mut scratch = [0u8; 65536];
     print_document(
         input,
-        n,
+        input.len(),
         &mut events,
         &mut attributes,
         &mut records,

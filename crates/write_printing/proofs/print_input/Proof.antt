@@ -9,9 +9,6 @@ use borrow.Author.Needs.{needs}
 use Rattle.write_printing.proofs.print_input.Statement.{statement}
 use Rattle.write_printing.proofs.print_input.Tie as tie
 
-front-requires : tie.Need-front-requires
-front-requires c κs = tt
-
 slice-aggregate-input-of : tie.Need-slice-aggregate-input-of
 slice-aggregate-input-of c = sym (length-replicate {A = ℕ} 16384 0)
 
@@ -29,25 +26,23 @@ slice-aggregate-print-found-2 c = let i = c .before .before .before .before .inp
 
 print-found-requires : tie.Need-print-found-requires
 print-found-requires c κs =
-    let front = c .before .before .before .before .before .before .before .before .front in
+    let a = c .before .before .before .before .before .before .before .before .before .args in
     let i = c .before .before .before .before .before .input-of in
-    found-lies (i .result) _ (length (i .last .1 .0)) _ (length (i .last .1 .1 .0)) (front .result .now) (i .ensures .0) (i .kept .1 .0) (i .kept .1 .1 .0)
+    found-lies (i .result) _ (length (i .last .1 .0)) _ (length (i .last .1 .1 .0)) (a .input .now) (i .ensures .0) (i .kept .1 .0) (i .kept .1 .1 .0)
 
 returns : tie.Need-returns
 returns c =
-    let front = c .before .before .before .before .before .before .before .before .before .front in
-    let a = c .before .before .before .before .before .before .before .before .before .before .before .args in
+    let a = c .before .before .before .before .before .before .before .before .before .before .args in
     let i = c .before .before .before .before .before .before .input-of in
     let l : length (a .out .now) ≡ 196620 = search needs in
-    let e = found-table (i .result) (zeros 16384) (i .last .1 .0) (zeros 16384) (i .last .1 .1 .0) (front .result .now) (i .ensures .0) (i .ensures .1 .0) (i .ensures .1 .1) in
+    let e = found-table (i .result) (zeros 16384) (i .last .1 .0) (zeros 16384) (i .last .1 .1 .0) (a .input .now) (i .ensures .0) (i .ensures .1 .0) (i .ensures .1 .1) in
     sized _ _ _ _ l
-    (same-text (length (a .out .now)) (program _ _ _ _ (a .n) (a .input .now) (length-replicate {A = ℕ} 16384 0) (length-replicate {A = ℕ} 16384 0) e (front .ensures)) (c .print-found .ensures))
+    (same-text (length (a .out .now)) (program _ _ _ (a .input .now) (length-replicate {A = ℕ} 16384 0) (length-replicate {A = ℕ} 16384 0) e) (c .print-found .ensures))
 
 pub print-input-spec : {M : Type 1} → statement M
 print-input-spec =
     tie.close
     (tie.spec
-    front-requires
     slice-aggregate-input-of
     slice-aggregate-input-of-2
     input-of-requires
