@@ -88,7 +88,8 @@ returns-2 c =
     let y : length (at-put-tree .put-tree .last .1 .1 .1 .0) ≡ a = at-put-tree .put-tree .kept .1 .1 .1 .0 ∙ at-clear-table .clear-table .kept .1 .0 in
     let z : length (at-put-tree .put-tree .last .1 .1 .1 .1 .0) ≡ b = at-put-tree .put-tree .kept .1 .1 .1 .1 .0 ∙ at-clear-table .clear-table .kept .1 .1 .0 in
     refused-whole words text e a b (c .refuse2 .ensures)
-    (short-writing words text e a b l (at-clear-table .clear-table .ensures .0) (at-clear-table .clear-table .ensures .1 .0) (at-clear-table .clear-table .ensures .1 .1) (at-put-tree .put-tree .ensures)
+    (short-writing words text e a b l (at-clear-table .clear-table .ensures .0) (at-clear-table .clear-table .ensures .1 .0)
+    (at-clear-table .clear-table .ensures .1 .1) (at-put-tree .put-tree .ensures)
     (at-enum-told .enum-told .given .1) (clear-table2 .ensures .0 ∙ ap zeros x) (clear-table2 .ensures .1 .0 ∙ ap zeros y) (clear-table2 .ensures .1 .1 ∙ ap zeros z))
 
 no-refusal-requires : tie.Need-no-refusal-requires
