@@ -1,5 +1,5 @@
-// Demand 3 by running: pairs of agreeing tables, listed with areas of equal lengths, full, short and of 0 bytes, that held other
-// bytes before the call, get the same listing wherever reading accepts both or refuses both.
+// Demand 3 by running: pairs of agreeing tables, read and listed in one call with areas of equal lengths, full, short and of 0 bytes, that
+// held other bytes before the call, get the same listing wherever reading accepts both or refuses both.
 // Build and run: see README.md beside this file.
 use std::{env, fs, path::Path};
 
@@ -25,15 +25,16 @@ fn below(r: &mut Random, n: usize) -> usize { (r.next() % n as u64) as usize }
 // Words of records; bytes of text, scratch and output.
 type Lengths = [usize; 4];
 
-// What a call leaves: whether reading accepted, the answer, and the output area.
+// What a call leaves: whether reading accepted, the length of the listing, and the output area.
 fn run(t: &Table, l: Lengths, dirt: u64) -> (bool, usize, Vec<u8>) {
     let mut r = Random(dirt);
     let mut records: Vec<u32> = (0..l[0]).map(|_| r.next() as u32).collect();
     let mut area = |n: usize| -> Vec<u8> { (0..n).map(|_| r.next() as u8).collect() };
     let (mut text, mut scratch, mut out) = (area(l[1]), area(l[2]), area(l[3]));
-    let n = call::public_listing(&t.events, &t.attributes, &t.source, &mut records, &mut text, &mut scratch, &mut out);
-    // a refusal leaves the records zero, an accepted report has its first record
-    (records.iter().any(|w| *w != 0), n, out)
+    let l = call::read_and_list(&t.events, &t.attributes, &t.source, &mut records, &mut text, &mut scratch, &mut out);
+    assert!(records.iter().all(|w| *w == 0) && text.iter().chain(&scratch).all(|b| *b == 0), "a tree is left");
+    // 16 is listing's: the answer tells of reading's refusals, and the areas, which are zero in every case, don't
+    (l.refusal.number == 0 || l.refusal.number == 16, l.length, out)
 }
 
 fn lengths(r: &mut Random, t: &Table) -> Lengths {

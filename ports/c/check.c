@@ -517,6 +517,56 @@ static void areas(void)
     free(out);
 }
 
+/* ---- reading and listing in one ---- */
+
+static const char small_listing[] = "(report \"r\" 0 0 0 0 -\n(suite \"l\" 0 0 0 0 -))\n";
+
+/* with areas of these lengths: what reading and then listing come to, and no tree behind it */
+static void list_once(struct table t, size_t words, size_t bytes, size_t gathered, size_t n)
+{
+    size_t length = sizeof small_listing - 1;
+    uint32_t *records = room(4 * words);
+    uint8_t *text = room(bytes), *scratch = room(gathered), *out = room(n);
+    kerzhoma_refusal r = read_in(t, words, bytes, gathered);
+    kerzhoma_listing l = kerzhoma_read_and_list(OF(t), records, words, text, bytes, scratch, gathered, out, n);
+    expect(zero(records, 4 * words) && zero(text, bytes) && zero(scratch, gathered), "no tree is left");
+    if (r.number != 0)
+        expect(memcmp(&l.refusal, &r, sizeof r) == 0 && l.length == 0 && zero(out, n), "the refusal of reading, whole");
+    else if (n < length)
+        expect(l.refusal.number == KERZHOMA_REFUSED_OUTPUT && l.refusal.depth == 0 && l.length == 0 && zero(out, n), "no room for the listing");
+    else
+        expect(l.refusal.number == 0 && l.length == length && memcmp(out, small_listing, length) == 0 && zero(out + length, n - length), "the listing");
+    size_t k = kerzhoma_public_listing(OF(t), records, words, text, bytes, scratch, gathered, out, n);
+    bool listed = r.number == 0 && n >= length;
+    const char *want = listed ? small_listing : "(refused)\n";
+    size_t most = listed ? length : 10;
+    expect(k == (n < most ? n : most) && memcmp(out, want, k) == 0 && zero(out + k, n - k), "what is printed of it");
+    expect(zero(records, 4 * words) && zero(text, bytes) && zero(scratch, gathered), "no tree is left there");
+    free(records);
+    free(text);
+    free(scratch);
+    free(out);
+}
+
+static void once(void)
+{
+    struct table t = { small_events, small_attributes, small_source, 35, 10, sizeof small_source - 1, 0 }, none = { 0 };
+    size_t length = sizeof small_listing - 1;
+    list_once(none, 64, 4, 2, 100);
+    for (size_t n = 0; n <= 100; n++)
+        list_once(t, n, 4, 2, 100);
+    for (size_t n = 0; n <= 6; n++)
+        list_once(t, 64, n, 2, 100);
+    for (size_t n = 0; n <= 4; n++)
+        list_once(t, 64, 4, n, 100);
+    for (size_t n = 0; n <= length + 2; n++)
+        list_once(t, 64, 4, 2, n);
+    for (size_t n = 0; n <= length; n++)
+        list_once(t, 64, 4, 1, n);
+    kerzhoma_listing l = kerzhoma_read_and_list(OF(none), NULL, 0, NULL, 0, NULL, 0, NULL, 0);
+    expect(l.length == 0 && l.refusal.number == KERZHOMA_REFUSED_STRUCTURE, "no table to list");
+}
+
 /* ---- documents ---- */
 
 static const char document[] =
@@ -582,6 +632,7 @@ static void documents(void)
     uint8_t *text = room(64), *scratch = room(64), *out = room(256);
     size_t k = kerzhoma_list_xml((const uint8_t *)document, n, events, 55, attributes, 40, words, 1024, text, 64, scratch, 64, out, 256);
     expect(k == sizeof worked - 1 && memcmp(out, worked, k) == 0 && zero(out + k, 256 - k), "the worked document's listing");
+    expect(zero(events, 220) && zero(attributes, 160) && zero(words, 4096) && zero(text, 64) && zero(scratch, 64), "and nothing else");
     k = kerzhoma_list_xml((const uint8_t *)document, n - 1, events, 55, attributes, 40, words, 1024, text, 64, scratch, 64, out, 256);
     expect(k == 10 && memcmp(out, "(refused)\n", 10) == 0 && zero(events, 220) && zero(attributes, 160) && zero(words, 4096)
            && zero(text, 64) && zero(scratch, 64), "(refused), and zeros");
@@ -605,6 +656,7 @@ int main(int argc, char **argv)
         built();
         refusing();
         areas();
+        once();
         documents();
     } else {
         fprintf(stderr, "usage: check | check tell | check rooms FILE..\n");

@@ -9,12 +9,11 @@
  *   - NULL with length 0 is an empty area. Any other NULL, a pointer to words that isn't aligned to 4 bytes, an area that is shorter
  *     than its length says, or a result area that overlaps another area of the same call is the caller's fault, and undefined.
  *   - Inputs (`const`) are never changed. Result areas may hold anything before the call.
- *   - Where a call refuses, every result area of it is zero throughout; but not where kerzhoma_public_listing and kerzhoma_list_xml answer
- *     `(refused)`: events and attributes are then as tokenizing left them, records, text and scratch as reading left them. Where `out` is
- *     too short for a listing, records and text hold the report, private text included.
+ *   - Where a call refuses, every result area of it is zero throughout. Behind kerzhoma_read_and_list, kerzhoma_public_listing and
+ *     kerzhoma_list_xml every result area but `out` is zero whatever they come to: nothing but the listing is left.
  *   - Areas may be longer than the limits; only that much is used.
  *   - Any number of threads may call at the same time, each with areas of its own.
- * Records, texts, scratch and explanations hold private text; listings don't. */
+ * Records, texts and explanations hold private text; listings don't. The source stays with the caller, as it was. */
 #ifndef KERZHOMA_H
 #define KERZHOMA_H
 
@@ -209,22 +208,33 @@ kerzhoma_explained kerzhoma_explain(
 
 /* ---- listing ---- */
 
-/* `length` is how many bytes of `out` the listing takes, 0 where the call refuses (15, 16). */
+/* `length` is how many bytes of `out` the listing takes, 0 where the call refuses. */
 typedef struct kerzhoma_listing {
     size_t length;
     kerzhoma_refusal refusal;
 } kerzhoma_listing;
 
-/* Puts the public listing of a report at the front of `out`, and zeros behind it. */
+/* Puts the public listing of a report at the front of `out`, and zeros behind it; refuses with 15 and 16. */
 kerzhoma_listing kerzhoma_list(
     const uint32_t *records, size_t records_length,
     const uint8_t *text, size_t text_length,
     uint8_t *out, size_t out_length);
 
-/* Reading and listing in one: puts the listing, or `(refused)` and a newline where either refuses, at the front of `out`, and zeros
- * behind it; of a shorter area the part of `(refused)` that fits. Returns how many bytes of `out` that takes. The other areas are as
- * kerzhoma_read leaves them: zero where reading refuses, but where `out` is too short for the listing, `records` and `text` hold the
- * report. */
+/* Reading and listing in one, without a tree that is left: the listing that kerzhoma_read and then kerzhoma_list would put into areas of
+ * the same lengths, or the refusal of the one that refuses, which kerzhoma_explain takes: reading's with its place, or 16. `records`,
+ * `text` and `scratch`, which reading works in, are zero throughout behind it in every case, and so is `out` where it refuses. */
+kerzhoma_listing kerzhoma_read_and_list(
+    const uint32_t *events, size_t events_length,
+    const uint32_t *attributes, size_t attributes_length,
+    const uint8_t *source, size_t source_length,
+    uint32_t *records, size_t records_length,
+    uint8_t *text, size_t text_length,
+    uint8_t *scratch, size_t scratch_length,
+    uint8_t *out, size_t out_length);
+
+/* What is printed of kerzhoma_read_and_list: puts the listing, or `(refused)` and a newline where that refuses, at the front of `out`, and
+ * zeros behind it; of a shorter area the part of `(refused)` that fits. Returns how many bytes of `out` that takes. The other areas are
+ * zero in every case. */
 size_t kerzhoma_public_listing(
     const uint32_t *events, size_t events_length,
     const uint32_t *attributes, size_t attributes_length,
@@ -234,9 +244,8 @@ size_t kerzhoma_public_listing(
     uint8_t *scratch, size_t scratch_length,
     uint8_t *out, size_t out_length);
 
-/* Tokenizing, reading and listing in one: the listing of an XML document, or `(refused)`, as kerzhoma_public_listing puts it. `events` and
- * `attributes` are as kerzhoma_tokenize leaves them; the other areas are zero where that refuses, and else as kerzhoma_public_listing
- * leaves them. */
+/* Tokenizing, reading and listing in one: the listing of an XML document, or `(refused)`, as kerzhoma_public_listing puts it. The other
+ * areas are zero in every case, `events` and `attributes` too. */
 size_t kerzhoma_list_xml(
     const uint8_t *source, size_t source_length,
     uint32_t *events, size_t events_length,

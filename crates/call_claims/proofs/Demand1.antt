@@ -20,8 +20,8 @@ use Rattle.call_claims.specs.Demand1.{Late, Ends, completes, WriteZero, 
 use Rattle.call_claims.proofs.TokenCall.{tokenize-ends}
 use Rattle.call_claims.proofs.ReadCall.{numbered, read-zero, read-placed}
 use Rattle.call_claims.proofs.LateCalls.{Within, ends, ends-leaving, within-late, within-suite}
-use Rattle.call_claims.proofs.ListCalls.{list-ends, explain-ends, explain-xml-ends, time-text-ends, public-ends, output-ends}
-use Rattle.call_claims.proofs.XmlCall.{document-ends, table-ends, listing-ends}
+use Rattle.call_claims.proofs.ListCalls.{list-ends, explain-ends, explain-xml-ends, time-text-ends, once-ends}
+use Rattle.call_claims.proofs.XmlCall.{document-ends, table-ends}
 use Rattle.call_claims.proofs.BuilderCalls.{unnamed-ends, new-ends, builder-calls}
 use Rattle.call_claims.proofs.CodedCalls.{within-coded, coded-calls}
 
@@ -61,11 +61,9 @@ demand-1 =
       read = λ t a. ends (answerTo t a) (read-placed t a) (read-zero t a);
       list = list-ends;
       write = write-ends;
-      publicListing = public-ends;
-      publicOutput = output-ends;
+      readAndList = once-ends;
       listXml = document-ends;
       listXmlTable = table-ends;
-      listXmlOutput = listing-ends;
       explain = explain-ends;
       explainXml = explain-xml-ends;
       timeText = time-text-ends;

@@ -1,8 +1,9 @@
--- What listing, explaining and both calls together refuse, and what they leave then. Assumes nothing.
+-- What listing, explaining, and reading and listing in one call refuse, and what they leave then. Assumes nothing.
 use Prim.Native.Nat.{ℕ}
-use mathlib.Core.Path.{_≡_, refl, ap, _∙_}
+use mathlib.Core.Path.{_≡_, refl, sym, ap, subst, _∙_}
 use mathlib.Core.List.{List, [], _∷_}
 use mathlib.Core.Bool.{Bool, true, false, cond}
+use mathlib.Core.Logic.{inl, inr}
 use native.Mathlib.Omega.{arith}
 use lib.Dec.{leb}
 use lib.ListN.{length}
@@ -20,11 +21,12 @@ use Rattle.read_machine.proofs.TreeReading.{reading-layout, resolve-fair}
 use Rattle.list_text.specs.Listing.{listingOf, listingAnswer, outcomeOf, listed, outputFor, outputOf}
 use Rattle.explain_text.specs.Explanation.{lineOf, lineAnswer, explained, explanationIn}
 use Rattle.explain_xml.specs.XmlExplanation.{xmlLine, xmlLineAnswer, xmlExplanationIn}
-use Rattle.public_claims.specs.PublicListing.{refusedText, written, behindReading, publicListing}
+use Rattle.public_claims.specs.Once.{printedFor}
+use Rattle.public_claims.proofs.Once.{both-calls, once-accepted, once-refused, left-zero}
 use Rattle.read_report.specs.Answer.{Table, Areas}
 use Rattle.read_report.specs.Called.{called}
-use Rattle.call_claims.specs.Demand1.{readNumbers, isOneOf, Placed, Late, Ends, completes, ReadZero, answerTo, listing}
-use Rattle.call_claims.proofs.ReadCall.{read-zero, read-placed}
+use Rattle.call_claims.specs.Demand1.{readNumbers, isOneOf, Placed, Late, OfEither, Ends, completes, refuses, answerTo, onceTo, OnceZero, OnceRefused}
+use Rattle.call_claims.proofs.ReadCall.{read-placed}
 use Rattle.call_claims.proofs.LateCalls.{Within, ends, ends-leaving, within-late}
 
 -- ---- texts put into an output area: listing, explaining
@@ -77,27 +79,8 @@ time-text-ends out seconds nanos = ends-leaving (within-placing refl (length out
     go true why e = let z : _≡_ {A = ℕ} 0 1 = cc in absurd (omega arith)
     go false why e = refl
 
--- ---- both calls
-written-refused : (x : Answer ℕ) (f : List ℕ) (why : Refused) → outcomeOf x ≡ refused why → written x f ≡ refusedText
-written-refused (gives k) f why e = let z : _≡_ {A = ℕ} 0 1 = cc in absurd (omega arith)
-written-refused (fails c) f why e = refl
-
-behind-any : (o : Outcome (Unit {0})) (f : List ℕ) → f ≡ refusedText → behindReading o f ≡ refusedText
-behind-any (accepted u) f e = e
-behind-any (refused r) f e = refl
-
-behind-refused : (o : Outcome (Unit {0})) (f : List ℕ) (why : Refused) → o ≡ refused why → behindReading o f ≡ refusedText
-behind-refused (accepted u) f why e = let z : _≡_ {A = ℕ} 0 1 = cc in absurd (omega arith)
-behind-refused (refused r) f why e = refl
-
+-- ---- reading and listing in one call
 module _ (t : Table) (a : Areas) where
-  pub not-listed : (why : Refused) → answerTo t a ≡ refused why → ReadZero t a × (listing t a ≡ refusedText)
-  unfolding publicListing
-  not-listed why e = (read-zero t a why e, behind-refused (answerTo t a) _ why e)
-
-  pub public-ends : Ends (Placed readNumbers) (ReadZero t a × (listing t a ≡ refusedText)) (answerTo t a)
-  public-ends = ends (answerTo t a) (read-placed t a) not-listed
-
   -- what reading leaves is a layout
   left-layout : answerTo t a ≡ accepted tt → layout (called t a .words) (called t a .text) ≡ true
   unfolding readAs
@@ -109,9 +92,10 @@ module _ (t : Table) (a : Areas) where
       ap (λ (r : Read). layout (r .words) (r .text)) (h .2)
       ∙ reading-layout n m k (resolve (t .events) (t .attributes) (t .source)) (h .0) (resolve-fair (t .events) (t .attributes) (t .source)) (h .1)
 
-  pub output-ends : answerTo t a ≡ accepted tt → Ends (Late (16 ∷ [])) (listing t a ≡ refusedText) (listed (called t a .words) (called t a .text) (a .output))
-  unfolding publicListing listingAnswer
-  output-ends e = ends-leaving (go (layout words text) (left-layout e)) λ why q. behind-any (answerTo t a) _ (written-refused (listingAnswer words text (a .output)) _ why q)
+  -- so that listing it refuses for 16 only
+  output-ends : answerTo t a ≡ accepted tt → Within (16 ∷ []) (listed (called t a .words) (called t a .text) (a .output))
+  unfolding listingAnswer
+  output-ends e = go (layout words text) (left-layout e)
     where
       words : List ℕ
       words = called t a .words
@@ -122,3 +106,33 @@ module _ (t : Table) (a : Areas) where
       go : (b : Bool) → b ≡ true → Within (16 ∷ []) (outcomeOf (cond b (placing cause.OutputFull (a .output) (listingOf words text)) (fails cause.NotLayout)))
       go true q = within-placing refl (a .output) (listingOf words text)
       go false q = let z : _≡_ {A = ℕ} 0 1 = cc in absurd (omega arith)
+
+  -- a refusal is reading's, or listing's
+  pub once-given : {numbers : List ℕ} → ((why : Refused) → answerTo t a ≡ refused why → Placed numbers why) → (why : Refused) → onceTo t a .outcome ≡ refused why → OfEither numbers why
+  once-given {numbers} placed why e = go (answerTo t a) refl
+    where
+      late-given : (o : Outcome ℕ) → Within (16 ∷ []) o → o ≡ refused why → Late (16 ∷ []) why
+      late-given (accepted n) w q = let z : _≡_ {A = ℕ} 0 1 = cc in absurd (omega arith)
+      late-given (refused x) (refuses g u) q = let z : x ≡ why = cc in subst (Late (16 ∷ [])) z g
+
+      go : (o : Outcome (Unit {0})) → answerTo t a ≡ o → OfEither numbers why
+      go (accepted u) q =
+          inr (late-given (listed (called t a .words) (called t a .text) (a .output)) (output-ends q)
+          (once-accepted (t .events) (t .attributes) (t .source) (a .words) (a .text) (a .scratch) (a .output) (called t a .words) (called t a .text) (sym q) refl refl ∙ e))
+      go (refused x) q =
+          let p : refused x ≡ onceTo t a .outcome = once-refused (t .events) (t .attributes) (t .source) (a .words) (a .text) (a .scratch) (a .output) x (sym q) in
+          let z : x ≡ why = cc in
+          inl (placed why (q ∙ ap refused z))
+
+  -- zeros, and `(refused)`
+  pub once-left : (why : Refused) → onceTo t a .outcome ≡ refused why → OnceRefused t a
+  once-left why e =
+      record {
+        output = left-zero (t .events) (t .attributes) (t .source) (a .words) (a .text) (a .scratch) (a .output) why e;
+        printed =
+            sym (both-calls (t .events) (t .attributes) (t .source) (a .words) (a .text) (a .scratch) (a .output))
+            ∙ ap (λ (o : Outcome ℕ). printedFor o (onceTo t a .output)) e;
+      }
+
+  pub once-ends : OnceZero t a × Ends (OfEither readNumbers) (OnceRefused t a) (onceTo t a .outcome)
+  once-ends = (record { words = refl; text = refl; scratch = refl }, ends (onceTo t a .outcome) (once-given (read-placed t a)) once-left)

@@ -1,7 +1,7 @@
 -- What the public listing of a document comes to, by what tokenizing, reading and listing refuse. Assumes nothing.
 use Prim.Native.Nat.{ℕ}
 use mathlib.Core.Path.{_≡_, refl, sym, ap, _∙_}
-use mathlib.Core.List.{List, [], _∷_}
+use mathlib.Core.List.{List}
 use mathlib.Core.Bool.{true}
 use mathlib.Core.Logic.{_⊎_, inl, inr}
 use native.Mathlib.Omega.{arith}
@@ -14,20 +14,17 @@ use Rattle.table.specs.Table as table
 use Rattle.read_element.proofs.Rooms.{IsShort}
 use Rattle.read_machine.specs.Reading.{deserialize}
 use Rattle.read_machine.proofs.RoomsReading.{reading-refuses}
-use Rattle.list_text.specs.Listing.{listed}
 use Rattle.public_claims.specs.PublicListing.{refusedText}
 use Rattle.read_report.specs.Answer.{Table, Areas}
 use Rattle.xml_machine.specs.Tokens as token
-use Rattle.xml_listing.specs.XmlListing.{listingBy, areasBy, xmlListing, xmlAreas}
-use Rattle.xml_listing.specs.XmlListing as xml
+use Rattle.xml_listing.specs.XmlListing.{listingBy, xmlListing}
 use Rattle.xml_tokens.proofs.Tables.{table-good}
-use Rattle.read_report.specs.Called.{called}
-use Rattle.call_claims.specs.Demand1.{readNumbers, documentNumbers, tokenNumbers, isOneOf, Placed, Late, Ends, AtByte, Tokenizes, tabled, stops, TokensZero, answerTo, listing}
-use Rattle.call_claims.specs.Demand1.{Document, tokensOf, tableOf, lentOf, documentListing, documentAreas, NotListed}
+use Rattle.call_claims.specs.Demand1.{readNumbers, documentNumbers, tokenNumbers, isOneOf, Placed, OfEither, Ends, AtByte, Tokenizes, tabled, stops, answerTo, onceTo, listing}
+use Rattle.call_claims.specs.Demand1.{Document, tokensOf, tableOf, lentOf, documentListing, DocumentZero}
 use Rattle.call_claims.proofs.TokenCall.{tokenize-ends}
-use Rattle.call_claims.proofs.ReadCall.{not-table, read-zero, read-placed}
+use Rattle.call_claims.proofs.ReadCall.{not-table, read-placed}
 use Rattle.call_claims.proofs.LateCalls.{ends}
-use Rattle.call_claims.proofs.ListCalls.{not-listed, output-ends}
+use Rattle.call_claims.proofs.ListCalls.{once-given, once-left}
 
 -- ---- tokenizing
 stops-leaving : {Given : ℕ → ℕ → Type 0} {Left More : Type 0} {o : token.Answer} → Tokenizes Given Left o → ((n q : ℕ) → o ≡ token.refused n q → Left → More) → Tokenizes Given More o
@@ -38,23 +35,16 @@ module _ (d : Document) (a : Areas) where
   abbrev textBy : token.Answer → List ℕ
   textBy o = listingBy o (tokensOf d .events) (tokensOf d .attributes) (d .source) (lentOf a)
 
-  abbrev leftBy : token.Answer → xml.Areas
-  leftBy o = areasBy o (tokensOf d .events) (tokensOf d .attributes) (d .source) (lentOf a)
+  no-tokens : (n q : ℕ) → tokensOf d .answer ≡ token.refused n q → documentListing d a ≡ refusedText
+  unfolding xmlListing
+  no-tokens n q e = ap textBy e
 
-  no-tokens : (n q : ℕ) → tokensOf d .answer ≡ token.refused n q → NotListed d a
-  unfolding xmlListing xmlAreas
-  no-tokens n q e =
-      record {
-        answer = ap textBy e;
-        words = ap (λ (o : token.Answer). leftBy o .words) e;
-        text = ap (λ (o : token.Answer). leftBy o .text) e;
-        scratch = ap (λ (o : token.Answer). leftBy o .scratch) e;
-      }
+  pub document-ends : DocumentZero d a × Tokenizes (AtByte tokenNumbers) (documentListing d a ≡ refusedText) (tokensOf d .answer)
+  document-ends =
+      (record { events = refl; attributes = refl; words = refl; text = refl; scratch = refl },
+      stops-leaving (tokenize-ends (d .source) (d .events) (d .attributes)) λ n q e z. no-tokens n q e)
 
-  pub document-ends : Tokenizes (AtByte tokenNumbers) (TokensZero (d .events) (d .attributes) (tokensOf d) × NotListed d a) (tokensOf d .answer)
-  document-ends = stops-leaving (tokenize-ends (d .source) (d .events) (d .attributes)) λ n q e z. (z, no-tokens n q e)
-
-  -- ---- reading its table
+  -- ---- reading and listing its table
   module _ (n k : ℕ) (e : tokensOf d .answer ≡ token.done-with n k) where
     abbrev t : Table
     t = tableOf d n k
@@ -62,28 +52,6 @@ module _ (d : Document) (a : Areas) where
     listed-so : documentListing d a ≡ listing t a
     unfolding xmlListing
     listed-so = ap textBy e
-
-    words-so : documentAreas d a .words ≡ called t a .words
-    unfolding xmlAreas
-    words-so = ap (λ (o : token.Answer). leftBy o .words) e
-
-    text-so : documentAreas d a .text ≡ called t a .text
-    unfolding xmlAreas
-    text-so = ap (λ (o : token.Answer). leftBy o .text) e
-
-    scratch-so : documentAreas d a .scratch ≡ called t a .scratch
-    unfolding xmlAreas
-    scratch-so = ap (λ (o : token.Answer). leftBy o .scratch) e
-
-    not-read : (why : Refused) → answerTo t a ≡ refused why → NotListed d a
-    not-read why q =
-        let z = read-zero t a why q in
-        record {
-          answer = listed-so ∙ not-listed t a why q .1;
-          words = words-so ∙ z .words;
-          text = text-so ∙ z .text;
-          scratch = scratch-so ∙ z .scratch;
-        }
 
     -- 11 doesn't come
     table-passes : (why : Refused) → table.tableOf (t .events) (t .attributes) (t .source) ≡ refused why → ⊥
@@ -109,9 +77,5 @@ module _ (d : Document) (a : Areas) where
         let p = read-placed t a why q in
         record { known = of-document (number (why .cause)) (not-eleven why q) (p .known); short = p .short; ofTable = p .ofTable }
 
-    pub table-ends : Ends (Placed documentNumbers) (NotListed d a) (answerTo t a)
-    table-ends = ends (answerTo t a) document-placed not-read
-
-    -- ---- listing what reading left
-    pub listing-ends : answerTo t a ≡ accepted tt → Ends (Late (16 ∷ [])) (documentListing d a ≡ refusedText) (listed (documentAreas d a .words) (documentAreas d a .text) (a .output))
-    listing-ends q = rw (listed-so, words-so, text-so) (output-ends t a q)
+    pub table-ends : Ends (OfEither documentNumbers) (documentListing d a ≡ refusedText) (onceTo t a .outcome)
+    table-ends = ends (onceTo t a .outcome) (once-given t a document-placed) λ why q. listed-so ∙ once-left t a why q .printed

@@ -14,10 +14,12 @@
 --       listed, outputOf (crate list_text: Listing); 15, 16
 --   kerzhoma_write: writer::write
 --       wrote, eventsLeft, attributesLeft, bytesLeft (crate write_answer: Answer); 15, 16
+--   kerzhoma_read_and_list: public_call::read_and_list
+--       once (crate public_claims: Once); 1 to 14, 16, 20, 21
 --   kerzhoma_public_listing: public_call::public_listing
---       publicListing (crate public_claims: PublicListing), and reading for the areas between; none: `(refused)` stands for those of read and list
+--       publicListing (crate public_claims: PublicListing); none: `(refused)` stands for those of read_and_list
 --   kerzhoma_list_xml: xml_call::list_xml
---       xmlListing, xmlAreas (crate xml_listing: XmlListing), and tokens for both tables; none: `(refused)` stands for those of tokenize, read and list
+--       xmlListing, xmlAreas (crate xml_listing: XmlListing); none: `(refused)` stands for those of tokenize and read_and_list
 --   kerzhoma_explain: explain::explain
 --       explained, explanationIn (crate explain_text: Explanation); 16
 --   kerzhoma_explain_xml: explain_xml::explain_xml
@@ -66,7 +68,8 @@
 -- listingFrom (lister), writingFrom (writer), explainedFrom (explain), countedFrom (tree_counts: Counts), builtFrom (build_draft: Draft); and for C a
 -- struct of numbers (crates port_refusal, port_values, port_c: portOutcome, builtPort and their like). Tokenizing alone has no such struct: its refusal
 -- is a number, 18 and 19 among them, and a byte (result, crate xml_state: Answer). `explain_xml` and `write_time` say only that a text doesn't fit;
--- behind `write_time` the call from C clears the area. Where a listing is `(refused)`, the areas between are as tokenizing and reading left them.
+-- behind `write_time` the call from C clears the area. All areas but the output area are zero behind `read_and_list`, `public_listing` and
+-- `list_xml`, whatever they come to.
 -- The programs (crates list_printing, write_printing: Printed) print what these calls come to, or `(refused)`.
 --
 -- Inputs are unchanged: they are lent as `&`, through which nothing can be stored, or go in by value.
@@ -103,6 +106,7 @@ use Rattle.explain_text.specs.Explanation.{explained, explanationIn}
 use Rattle.write_answer.specs.Answer.{wrote, eventsLeft, attributesLeft, bytesLeft}
 use Rattle.public_claims.specs.PublicListing as public
 use Rattle.public_claims.specs.PublicListing.{refusedText}
+use Rattle.public_claims.specs.Once.{Once, once}
 use Rattle.build_draft.specs.declared.Element.{Element}
 use Rattle.build_draft.specs.declared.Holder.{Holder}
 use Rattle.build_draft.specs.declared.TextField.{TextField}
@@ -149,6 +153,10 @@ pub record Late (numbers : List ℕ) (why : Refused) : Type 0 where
   pub known : isOneOf (number (why .cause)) numbers ≡ true
   pub placeless : why ≡ late (why .cause)
 
+-- a refusal of reading and listing in one call: reading's, which names its place, or 16, which names none
+abbrev pub OfEither : List ℕ → Refused → Type 0
+OfEither numbers why = Placed numbers why ⊎ Late (16 ∷ []) why
+
 -- what a call comes to: it completes, or it refuses, as `Given` says, and `Left` says what it leaves then
 pub data Ends {A : Type 0} (Given : Refused → Type 0) (Left : Type 0) : Outcome A → Type 0 where
   completes : {a : A} → Ends Given Left (accepted a)
@@ -164,9 +172,12 @@ pub data Tokenizes (Given : ℕ → ℕ → Type 0) (Left : Type 0) : token.Answ
   tabled : {events attributes : ℕ} → Tokenizes Given Left (token.done-with events attributes)
   stops : {n byte : ℕ} → Given n byte → Left → Tokenizes Given Left (token.refused n byte)
 
--- ---- what reading answers, and what is listed behind it
+-- ---- what reading answers, and reading and listing in one call; what is printed of that
 abbrev pub answerTo : Table → Areas → Outcome (Unit {0})
 answerTo t a = called t a .outcome
+
+abbrev pub onceTo : Table → Areas → Once
+onceTo t a = once (t .events) (t .attributes) (t .source) (a .words) (a .text) (a .scratch) (a .output)
 
 abbrev pub listing : Table → Areas → List ℕ
 listing t a = public.publicListing (t .events) (t .attributes) (t .source) (a .words) (a .text) (a .scratch) (a .output)
@@ -180,6 +191,17 @@ pub record ReadZero (t : Table) (a : Areas) : Type 0 where
   pub words : called t a .words ≡ zeros (a .words)
   pub text : called t a .text ≡ zeros (a .text)
   pub scratch : called t a .scratch ≡ zeros (a .scratch)
+
+-- behind reading and listing in one call, in every case
+pub record OnceZero (t : Table) (a : Areas) : Type 0 where
+  pub words : onceTo t a .words ≡ zeros (a .words)
+  pub text : onceTo t a .text ≡ zeros (a .text)
+  pub scratch : onceTo t a .scratch ≡ zeros (a .scratch)
+
+-- and where it refuses; `(refused)` is printed then
+pub record OnceRefused (t : Table) (a : Areas) : Type 0 where
+  pub output : onceTo t a .output ≡ zeros (a .output)
+  pub printed : listing t a ≡ refusedText
 
 pub record WriteZero (words text : List ℕ) (n m k : ℕ) : Type 0 where
   pub events : eventsLeft words text n m k ≡ zeros n
@@ -213,11 +235,12 @@ abbrev pub documentListing : Document → Areas → List ℕ
 documentListing d a = xmlListing (d .source) (d .events) (d .attributes) (lentOf a)
 
 abbrev pub documentAreas : Document → Areas → xml.Areas
-documentAreas d a = xmlAreas (d .source) (d .events) (d .attributes) (lentOf a)
+documentAreas d a = xmlAreas (d .events) (d .attributes) (lentOf a)
 
--- `(refused)`, with records, text and scratch zero throughout (rule N11)
-pub record NotListed (d : Document) (a : Areas) : Type 0 where
-  pub answer : documentListing d a ≡ refusedText
+-- both tables, records, text and scratch, in every case (rule N11)
+pub record DocumentZero (d : Document) (a : Areas) : Type 0 where
+  pub events : documentAreas d a .events ≡ zeros (d .events)
+  pub attributes : documentAreas d a .attributes ≡ zeros (d .attributes)
   pub words : documentAreas d a .words ≡ zeros (a .words)
   pub text : documentAreas d a .text ≡ zeros (a .text)
   pub scratch : documentAreas d a .scratch ≡ zeros (a .scratch)
@@ -282,20 +305,14 @@ pub record Demand1 : Type 0 where
   -- Writing: 15 and 16; its three areas are zero then.
   pub write : (words text : List ℕ) (events attributes bytes : ℕ)
       → Ends (Late (15 ∷ 16 ∷ [])) (WriteZero words text events attributes bytes) (wrote words text events attributes bytes)
-  -- The public listing always completes: `(refused)` is its answer where reading refuses, whose areas are zero then,
-  pub publicListing : (t : Table) (a : Areas) → Ends (Placed readNumbers) (ReadZero t a × (listing t a ≡ refusedText)) (answerTo t a)
-  -- and where listing refuses what reading left, which is for 16 only; records and text stay as reading left them.
-  pub publicOutput : (t : Table) (a : Areas) → answerTo t a ≡ accepted tt
-      → Ends (Late (16 ∷ [])) (listing t a ≡ refusedText) (listed (called t a .words) (called t a .text) (a .output))
-  -- So does the public listing of a document: `(refused)` where tokenizing refuses; both tables are zero then, and so are records, text and scratch;
-  pub listXml : (d : Document) (a : Areas)
-      → Tokenizes (AtByte tokenNumbers) (TokensZero (d .events) (d .attributes) (tokensOf d) × NotListed d a) (tokensOf d .answer)
-  -- where reading refuses its table, never with 11; records, text and scratch are zero then, and both tables stay as tokenizing left them;
+  -- Reading and listing in one call: 1 to 14, 20 and 21 with their place, 16 without one; the output area is zero then, and the public listing is
+  -- `(refused)`. Records, text and scratch are zero in every case.
+  pub readAndList : (t : Table) (a : Areas) → OnceZero t a × Ends (OfEither readNumbers) (OnceRefused t a) (onceTo t a .outcome)
+  -- The public listing of a document always completes: `(refused)` where tokenizing refuses, or where reading and listing its table do, never with 11.
+  -- Both tables, records, text and scratch are zero in every case.
+  pub listXml : (d : Document) (a : Areas) → DocumentZero d a × Tokenizes (AtByte tokenNumbers) (documentListing d a ≡ refusedText) (tokensOf d .answer)
   pub listXmlTable : (d : Document) (a : Areas) (n k : ℕ) → tokensOf d .answer ≡ token.done-with n k
-      → Ends (Placed documentNumbers) (NotListed d a) (answerTo (tableOf d n k) a)
-  -- and where listing refuses what reading left, which is for 16 only; both tables, records and text stay as they were left.
-  pub listXmlOutput : (d : Document) (a : Areas) (n k : ℕ) → tokensOf d .answer ≡ token.done-with n k → answerTo (tableOf d n k) a ≡ accepted tt
-      → Ends (Late (16 ∷ [])) (documentListing d a ≡ refusedText) (listed (documentAreas d a .words) (documentAreas d a .text) (a .output))
+      → Ends (OfEither documentNumbers) (documentListing d a ≡ refusedText) (onceTo (tableOf d n k) a .outcome)
   -- Explaining a refusal, also one that was made up, over any table: 16; the output area is zero then.
   pub explain : (t : Table) (r : Refusal) (lent output : ℕ)
       → Ends (Late (16 ∷ [])) (explanationIn (t .events) (t .attributes) (t .source) r lent output ≡ zeros output)

@@ -1,4 +1,4 @@
--- What is left of an input: the same where the same was found in it. Assumes nothing.
+-- What is printed for an input: the same where the same was found in it. Assumes nothing.
 use Prim.Native.Nat.{ℕ, _+_, _-_, _≤_, min}
 use mathlib.Core.Path.{_≡_, refl, sym, ap, _∙_}
 use mathlib.Core.List.{List}
@@ -11,15 +11,14 @@ use Rattle.list_input.specs.Input.{Table, foundOf, Lies}
 use Rattle.list_input.specs.declared.Found.{Found}
 use Rattle.list_input.specs.declared.Found.the-variants.{Is, Not}
 use Rattle.list_input.specs.declared.Parts.{Parts}
-use Rattle.list_printing.specs.Printed.{Buffers, buffers, listingFor, printed, programPrints, Areas, areasFor}
+use Rattle.list_printing.specs.Printed.{Buffers, buffers, listingFor, printed, programPrints}
 
--- the output area holds f, n bytes of it fit, and the three areas of reading are a
-abbrev pub Leaves : (k : ℕ) (f : List ℕ) (a : Areas) (out : List ℕ) (n : ℕ) (words text scratch : List ℕ) → Type 0
-Leaves k f a out n words text scratch = (out ≡ laid (zeros k) f) × ((n ≡ min k (length f)) × ((words ≡ a .words) × ((text ≡ a .text) × (scratch ≡ a .scratch))))
+-- the output area holds f, and n bytes of it fit
+abbrev pub Prints : (k : ℕ) (f out : List ℕ) (n : ℕ) → Type 0
+Prints k f out n = (out ≡ laid (zeros k) f) × (n ≡ min k (length f))
 
-pub same-found : (b : Buffers) (k : ℕ) (o q : Option Table) → o ≡ q → (out : List ℕ) (n : ℕ) (words text scratch : List ℕ) →
-    Leaves k (listingFor b o) (areasFor b o) out n words text scratch → Leaves k (listingFor b q) (areasFor b q) out n words text scratch
-same-found b k o q e out n words text scratch h = rw e at h
+pub same-found : (b : Buffers) (k : ℕ) (o q : Option Table) → o ≡ q → (out : List ℕ) (n : ℕ) → Prints k (listingFor b o) out n → Prints k (listingFor b q) out n
+same-found b k o q e out n h = rw e at h
 
 module _ (found : Found) (x : Parts) (e : found ≡ Is x) where
   -- the three slices that the code takes by the answer's numbers are the input's table
@@ -41,8 +40,7 @@ found-not found e events attributes input = sym (ap (λ (f : Found). foundOf f e
 
 -- areas of the program's sizes; b are those lent
 pub program : (m n : ℕ) (b : Buffers) (out : List ℕ) (k : ℕ) (input : List ℕ) → m ≡ 16384 → n ≡ 16384 → b ≡ buffers →
-    (out ≡ laid (zeros (b .out)) (printed m n b (take (length input) input))) × (k ≡ min (b .out) (length (printed m n b (take (length input) input)))) →
-    (out ≡ laid (zeros 65536) (programPrints input)) × (k ≡ min 65536 (length (programPrints input)))
+    Prints (b .out) (printed m n b (take (length input) input)) out k → Prints 65536 (programPrints input) out k
 program m n b out k input p q r h = rw (p, q, r, take-length input) at h
 
 pub sized : (records text scratch out : ℕ) → records ≡ 16384 → text ≡ 65536 → scratch ≡ 65536 → out ≡ 65536 → record { records = records; text = text; scratch = scratch; out = out } ≡ buffers

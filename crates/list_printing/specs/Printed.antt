@@ -1,11 +1,9 @@
--- What is printed for an input, and what the lent areas hold afterwards (rules P2 to P4). Definitions only.
+-- What is printed for an input (rules P2 to P4). Definitions only.
 use Prim.Native.Nat.{ℕ}
 use mathlib.Core.List.{List}
 use mathlib.Core.Option.{Option, none, some}
 use lib.ListN.{length}
-use Rattle.area.specs.Area.{zeros}
 use Rattle.list_input.specs.Input.{Table, inputOf}
-use Rattle.read_machine.specs.Reading.{reading}
 use Rattle.public_claims.specs.PublicListing.{refusedText, publicListing}
 
 -- how long the lent areas are: the words of records, the bytes of text, scratch and output
@@ -34,18 +32,3 @@ buffers = record { records = 16384; text = 65536; scratch = 65536; out = 65536 }
 -- rule P4
 abbrev pub programPrints : List ℕ → List ℕ
 programPrints input = printed 16384 16384 buffers input
-
--- the three areas of reading
-pub record Areas : Type 0 where
-  pub words : List ℕ
-  pub text : List ℕ
-  pub scratch : List ℕ
-
--- as reading left them; zero where there is no table to read
-abbrev pub areasFor : Buffers → Option Table → Areas
-areasFor b none = record { words = zeros (b .records); text = zeros (b .text); scratch = zeros (b .scratch) }
-areasFor b (some t) =
-    let r = reading (t .events) (t .attributes) (t .source) (b .records) (b .text) (b .scratch) in record { words = r .words; text = r .text; scratch = r .scratch }
-
-unfoldable pub areasLeft : (m n : ℕ) → Buffers → List ℕ → Areas
-areasLeft m n b input = areasFor b (inputOf m n input)

@@ -1,6 +1,6 @@
 // All that the program does between its input and its output: the public listing of the table that its input holds.
-use area::clear;
 use area::clear_words;
+use clearing::clear_all;
 use list_input::Found;
 use list_input::front;
 use list_input::input_of;
@@ -11,7 +11,7 @@ ghost use Prim.Native.Nat.{min};
 ghost use lib.ListN.{length, take};
 ghost use Rattle.area.specs.Area.{zeros, laid};
 ghost use Rattle.public_claims.specs.PublicListing.{refusedText};
-ghost use Rattle.list_printing.specs.Printed.{lent, listingFor, printed, programPrints, areasFor, areasLeft};
+ghost use Rattle.list_printing.specs.Printed.{lent, listingFor, printed, programPrints};
 ghost use Rattle.list_input.specs.Input.{foundOf, Lies};
 
 // An input that is no table.
@@ -22,9 +22,7 @@ fn refuse_input(records: &mut [u32], text: &mut [u8], scratch: &mut [u8], out: &
     ensures text { λ _. ⌜ now (text .exit) ≡ zeros (length (now (text .entry))) ⌝ }
     ensures scratch { λ _. ⌜ now (scratch .exit) ≡ zeros (length (now (scratch .entry))) ⌝ }
 {
-    clear_words(records);
-    clear(text);
-    clear(scratch);
+    clear_all(records, text, scratch);
     refuse(out)
 }
 
@@ -44,12 +42,9 @@ fn print_found(
         (foundOf found (now (events .entry)) (now (attributes .entry)) (now (input .entry)))) ⌝ }
     ensures count { λ r. ⌜ r ≡ min (length (now (out .entry))) (length (listingFor (lent (now (records .entry)) (now (text .entry)) (now (scratch .entry)) (now (out .entry)))
         (foundOf found (now (events .entry)) (now (attributes .entry)) (now (input .entry))))) ⌝ }
-    ensures records { λ _. ⌜ now (records .exit) ≡ areasFor (lent (now (records .entry)) (now (text .entry)) (now (scratch .entry)) (now (out .entry)))
-        (foundOf found (now (events .entry)) (now (attributes .entry)) (now (input .entry))) .words ⌝ }
-    ensures text { λ _. ⌜ now (text .exit) ≡ areasFor (lent (now (records .entry)) (now (text .entry)) (now (scratch .entry)) (now (out .entry)))
-        (foundOf found (now (events .entry)) (now (attributes .entry)) (now (input .entry))) .text ⌝ }
-    ensures scratch { λ _. ⌜ now (scratch .exit) ≡ areasFor (lent (now (records .entry)) (now (text .entry)) (now (scratch .entry)) (now (out .entry)))
-        (foundOf found (now (events .entry)) (now (attributes .entry)) (now (input .entry))) .scratch ⌝ }
+    ensures records { λ _. ⌜ now (records .exit) ≡ zeros (length (now (records .entry))) ⌝ }
+    ensures text { λ _. ⌜ now (text .exit) ≡ zeros (length (now (text .entry))) ⌝ }
+    ensures scratch { λ _. ⌜ now (scratch .exit) ≡ zeros (length (now (scratch .entry))) ⌝ }
 {
     match found {
         Found::Is(x) => {
@@ -71,8 +66,8 @@ fn print_found(
     }
 }
 
-// What is printed for the first n bytes of an input, at the front of `out`; the words of the table go to the first two areas, which
-// end zero.
+// What is printed for the first n bytes of an input, at the front of `out`; the words of the table go to the first two areas. All areas
+// but `out` end zero.
 pub fn print_listing(
     input: &[u8],
     n: usize,
@@ -89,12 +84,9 @@ pub fn print_listing(
         (lent (now (records .entry)) (now (text .entry)) (now (scratch .entry)) (now (out .entry))) (take n (now (input .entry))))) ⌝ }
     ensures events { λ _. ⌜ now (events .exit) ≡ zeros (length (now (events .entry))) ⌝ }
     ensures attributes { λ _. ⌜ now (attributes .exit) ≡ zeros (length (now (attributes .entry))) ⌝ }
-    ensures records { λ _. ⌜ now (records .exit) ≡ areasLeft (length (now (events .entry))) (length (now (attributes .entry)))
-        (lent (now (records .entry)) (now (text .entry)) (now (scratch .entry)) (now (out .entry))) (take n (now (input .entry))) .words ⌝ }
-    ensures text { λ _. ⌜ now (text .exit) ≡ areasLeft (length (now (events .entry))) (length (now (attributes .entry)))
-        (lent (now (records .entry)) (now (text .entry)) (now (scratch .entry)) (now (out .entry))) (take n (now (input .entry))) .text ⌝ }
-    ensures scratch { λ _. ⌜ now (scratch .exit) ≡ areasLeft (length (now (events .entry))) (length (now (attributes .entry)))
-        (lent (now (records .entry)) (now (text .entry)) (now (scratch .entry)) (now (out .entry))) (take n (now (input .entry))) .scratch ⌝ }
+    ensures records { λ _. ⌜ now (records .exit) ≡ zeros (length (now (records .entry))) ⌝ }
+    ensures text { λ _. ⌜ now (text .exit) ≡ zeros (length (now (text .entry))) ⌝ }
+    ensures scratch { λ _. ⌜ now (scratch .exit) ≡ zeros (length (now (scratch .entry))) ⌝ }
 {
     let given = front(input, n);
     let found = input_of(given, events, attributes);

@@ -58,13 +58,20 @@ pub extern "C" fn kerzhoma_list_xml(
     scratch: &mut [u8],
     out: &mut [u8],
 ) -> usize
-    ensures out { λ _. ⌜ now (out .exit) ≡ laid (zeros (length (now (out .entry)))) (xmlListing (now (source .entry)) (length (now (events .entry))) (length (now (attributes .entry))) (lent (now (records .entry)) (now (text .entry)) (now (scratch .entry)) (now (out .entry)))) ⌝ }
-    ensures count { λ r. ⌜ r ≡ min (length (now (out .entry))) (length (xmlListing (now (source .entry)) (length (now (events .entry))) (length (now (attributes .entry))) (lent (now (records .entry)) (now (text .entry)) (now (scratch .entry)) (now (out .entry))))) ⌝ }
-    ensures events { λ _. ⌜ now (events .exit) ≡ tokens (now (source .entry)) (length (now (events .entry))) (length (now (attributes .entry))) .events ⌝ }
-    ensures attributes { λ _. ⌜ now (attributes .exit) ≡ tokens (now (source .entry)) (length (now (events .entry))) (length (now (attributes .entry))) .attributes ⌝ }
-    ensures records { λ _. ⌜ now (records .exit) ≡ xmlAreas (now (source .entry)) (length (now (events .entry))) (length (now (attributes .entry))) (lent (now (records .entry)) (now (text .entry)) (now (scratch .entry)) (now (out .entry))) .words ⌝ }
-    ensures text { λ _. ⌜ now (text .exit) ≡ xmlAreas (now (source .entry)) (length (now (events .entry))) (length (now (attributes .entry))) (lent (now (records .entry)) (now (text .entry)) (now (scratch .entry)) (now (out .entry))) .text ⌝ }
-    ensures scratch { λ _. ⌜ now (scratch .exit) ≡ xmlAreas (now (source .entry)) (length (now (events .entry))) (length (now (attributes .entry))) (lent (now (records .entry)) (now (text .entry)) (now (scratch .entry)) (now (out .entry))) .scratch ⌝ }
+    ensures out { λ _. ⌜ now (out .exit) ≡ laid (zeros (length (now (out .entry)))) (xmlListing (now (source .entry)) (length (now (events .entry))) (length (now (attributes .entry)))
+        (lent (now (records .entry)) (now (text .entry)) (now (scratch .entry)) (now (out .entry)))) ⌝ }
+    ensures count { λ r. ⌜ r ≡ min (length (now (out .entry))) (length (xmlListing (now (source .entry)) (length (now (events .entry))) (length (now (attributes .entry)))
+        (lent (now (records .entry)) (now (text .entry)) (now (scratch .entry)) (now (out .entry))))) ⌝ }
+    ensures events { λ _. ⌜ now (events .exit) ≡ xmlAreas (length (now (events .entry))) (length (now (attributes .entry)))
+        (lent (now (records .entry)) (now (text .entry)) (now (scratch .entry)) (now (out .entry))) .events ⌝ }
+    ensures attributes { λ _. ⌜ now (attributes .exit) ≡ xmlAreas (length (now (events .entry))) (length (now (attributes .entry)))
+        (lent (now (records .entry)) (now (text .entry)) (now (scratch .entry)) (now (out .entry))) .attributes ⌝ }
+    ensures records { λ _. ⌜ now (records .exit) ≡ xmlAreas (length (now (events .entry))) (length (now (attributes .entry)))
+        (lent (now (records .entry)) (now (text .entry)) (now (scratch .entry)) (now (out .entry))) .words ⌝ }
+    ensures text { λ _. ⌜ now (text .exit) ≡ xmlAreas (length (now (events .entry))) (length (now (attributes .entry)))
+        (lent (now (records .entry)) (now (text .entry)) (now (scratch .entry)) (now (out .entry))) .text ⌝ }
+    ensures scratch { λ _. ⌜ now (scratch .exit) ≡ xmlAreas (length (now (events .entry))) (length (now (attributes .entry)))
+        (lent (now (records .entry)) (now (text .entry)) (now (scratch .entry)) (now (out .entry))) .scratch ⌝ }
 {
     xml_call::list_xml(source, events, attributes, records, text, scratch, out)
 }

@@ -12,7 +12,7 @@ ghost use Rattle.time_text.specs.Written.{writtenTime, count, whole};
 ghost use Rattle.tree_report.specs.Layout.{layout};
 ghost use Rattle.list_text.specs.Listing.{listed, outputOf};
 ghost use Rattle.write_answer.specs.Answer.{wrote, eventsLeft, attributesLeft, bytesLeft};
-ghost use Rattle.public_call.specs.Called.{readInto, listingInto};
+ghost use Rattle.public_call.specs.Called.{readInto, onceInto, listingInto};
 ghost use Rattle.explain_text.specs.Explanation.{explained, explanationIn};
 ghost use Rattle.port_refusal.specs.Port.{portOutcome};
 ghost use Rattle.port_refusal.specs.Back.{plainRefusal};
@@ -77,6 +77,37 @@ pub extern "C" fn kerzhoma_list(records: &[u32], text: &[u8], out: &mut [u8]) ->
 }
 
 #[no_mangle]
+pub extern "C" fn kerzhoma_read_and_list(
+    events: &[u32],
+    attributes: &[u32],
+    source: &[u8],
+    records: &mut [u32],
+    text: &mut [u8],
+    scratch: &mut [u8],
+    out: &mut [u8],
+) -> KListing
+    ensures answer { λ r. ⌜ r ≡ listingPort
+        (onceInto (now (events .entry)) (now (attributes .entry)) (now (source .entry)) (now (records .entry)) (now (text .entry)) (now (scratch .entry)) (now (out .entry)) .outcome) ⌝ }
+    ensures out { λ _. ⌜ now (out .exit) ≡
+        onceInto (now (events .entry)) (now (attributes .entry)) (now (source .entry)) (now (records .entry)) (now (text .entry)) (now (scratch .entry)) (now (out .entry)) .output ⌝ }
+    ensures records { λ _. ⌜ now (records .exit) ≡
+        onceInto (now (events .entry)) (now (attributes .entry)) (now (source .entry)) (now (records .entry)) (now (text .entry)) (now (scratch .entry)) (now (out .entry)) .words ⌝ }
+    ensures text { λ _. ⌜ now (text .exit) ≡
+        onceInto (now (events .entry)) (now (attributes .entry)) (now (source .entry)) (now (records .entry)) (now (text .entry)) (now (scratch .entry)) (now (out .entry)) .text ⌝ }
+    ensures scratch { λ _. ⌜ now (scratch .exit) ≡
+        onceInto (now (events .entry)) (now (attributes .entry)) (now (source .entry)) (now (records .entry)) (now (text .entry)) (now (scratch .entry)) (now (out .entry)) .scratch ⌝ }
+{
+    let answer =
+        public_call::read_and_list(events, attributes, source, records, text, scratch, out);
+    let verdict = answer.verdict;
+    let refusal = answer.refusal;
+    KListing {
+        length: answer.length,
+        refusal: from_refusal(verdict, refusal),
+    }
+}
+
+#[no_mangle]
 pub extern "C" fn kerzhoma_public_listing(
     events: &[u32],
     attributes: &[u32],
@@ -90,11 +121,9 @@ pub extern "C" fn kerzhoma_public_listing(
         (listingInto (now (events .entry)) (now (attributes .entry)) (now (source .entry)) (now (records .entry)) (now (text .entry)) (now (scratch .entry)) (now (out .entry))) ⌝ }
     ensures count { λ r. ⌜ r ≡ min (length (now (out .entry)))
         (length (listingInto (now (events .entry)) (now (attributes .entry)) (now (source .entry)) (now (records .entry)) (now (text .entry)) (now (scratch .entry)) (now (out .entry)))) ⌝ }
-    ensures records { λ _.
-        ⌜ now (records .exit) ≡ readInto (now (events .entry)) (now (attributes .entry)) (now (source .entry)) (now (records .entry)) (now (text .entry)) (now (scratch .entry)) .words ⌝ }
-    ensures text { λ _. ⌜ now (text .exit) ≡ readInto (now (events .entry)) (now (attributes .entry)) (now (source .entry)) (now (records .entry)) (now (text .entry)) (now (scratch .entry)) .text ⌝ }
-    ensures scratch { λ _.
-        ⌜ now (scratch .exit) ≡ readInto (now (events .entry)) (now (attributes .entry)) (now (source .entry)) (now (records .entry)) (now (text .entry)) (now (scratch .entry)) .scratch ⌝ }
+    ensures records { λ _. ⌜ now (records .exit) ≡ zeros (length (now (records .entry))) ⌝ }
+    ensures text { λ _. ⌜ now (text .exit) ≡ zeros (length (now (text .entry))) ⌝ }
+    ensures scratch { λ _. ⌜ now (scratch .exit) ≡ zeros (length (now (scratch .entry))) ⌝ }
 {
     public_call::public_listing(events, attributes, source, records, text, scratch, out)
 }

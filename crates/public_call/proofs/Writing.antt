@@ -11,11 +11,7 @@ use Rattle.area.specs.Answer.{Answer, gives, refuses}
 use Rattle.area.specs.Area.{zeros, placing, laid}
 use Rattle.area.proofs.Laying.{length-laid, laid-zeros, put-fits, full-over}
 use Rattle.tree_report.specs.Layout.{layout}
-use Rattle.refusal.specs.declared.Cause.{Cause}
-use Rattle.refusal.specs.declared.Verdict.the-variants.{Accepted, Refused}
-use Rattle.list_text.specs.Listing.{listingOf, listingAnswer, outcomeOf, listed, outputFor, outputOf}
-use Rattle.lister.specs.declared.Listing.{Listing}
-use Rattle.lister.specs.Answer.{listingFrom}
+use Rattle.list_text.specs.Listing.{listingOf, listingAnswer, outputFor, outputOf}
 use Rattle.public_claims.specs.PublicListing.{refusedText, written}
 use Rattle.refusal.specs.declared.Cause.the-variants as cause
 
@@ -57,42 +53,15 @@ given (gives m) k n f out e h q o =
     (o ∙ ap (laid (zeros k)) (sym w), q ∙ sym (ap (λ (l : List ℕ). min k (length l)) w ∙ min-eq-right h))
 given (refuses m) k n f out e h q o = let z : _≡_ {A = ℕ} 0 1 = cc in absurd (omega arith)
 
-module _ (words text : List ℕ) (k : ℕ) where
-  put : (n : ℕ) (out : List ℕ) → gives n ≡ listingAnswer words text k → out ≡ outputOf words text k →
-      (out ≡ laid (zeros k) (written (listingAnswer words text k) (outputOf words text k))) × (n ≡ min k (length (written (listingAnswer words text k) (outputOf words text k))))
-  unfolding listingAnswer outputOf
-  put n out e o =
-      let p = fitting (layout words text) k n (listingOf words text) e in
-      given (listingAnswer words text k) k n (listingOf words text) out e (p .0) (p .1) o
-
-  unlisted : (m : Cause) → refuses m ≡ listingAnswer words text k → written (listingAnswer words text k) (outputOf words text k) ≡ refusedText
-  unlisted m e = ap (λ (a : Answer ℕ). written a (outputOf words text k)) (sym e)
-
-  -- by what listing answered
-  abbrev Answers : Listing → Type 0
-  Answers x = x ≡ listingFrom (listed words text k)
-
-  wrote : (x : Listing) → Answers x → x .verdict ≡ Accepted → gives (x .length) ≡ listingAnswer words text k
-  wrote x e v = go (listingAnswer words text k) e
-    where
-      go : (a : Answer ℕ) → x ≡ listingFrom (outcomeOf a) → gives (x .length) ≡ a
-      go (gives m) q = ap (λ (y : Listing). gives (y .length)) q
-      go (refuses m) q = let w : x .verdict ≡ Refused = ap (λ (y : Listing). y .verdict) q in let z : _≡_ {A = ℕ} 0 1 = cc in absurd (omega arith)
-
-  pub listing-wrote : (x : Listing) (out : List ℕ) → Answers x → x .verdict ≡ Accepted → out ≡ outputOf words text k →
-      (out ≡ laid (zeros k) (written (listingAnswer words text k) (outputOf words text k))) × (x .length ≡ min k (length (written (listingAnswer words text k) (outputOf words text k))))
-  listing-wrote x out e v o = put (x .length) out (wrote x e v) o
-
-  pub listing-refuses : (x : Listing) → Answers x → x .verdict ≡ Refused → written (listingAnswer words text k) (outputOf words text k) ≡ refusedText
-  listing-refuses x e v = go (listingAnswer words text k) refl
-    where
-      go : (a : Answer ℕ) → listingAnswer words text k ≡ a → written (listingAnswer words text k) (outputOf words text k) ≡ refusedText
-      go (refuses m) q = unlisted m (sym q)
-      go (gives m) q =
-          let w : x .verdict ≡ Accepted = ap (λ (y : Listing). y .verdict) e ∙ ap (λ (b : Answer ℕ). listingFrom (outcomeOf b) .verdict) q in
-          let z : _≡_ {A = ℕ} 0 1 = cc in absurd (omega arith)
+-- a listing in its area is laid out there, and all of it is counted
+pub put : (words text : List ℕ) (k n : ℕ) (out : List ℕ) → gives n ≡ listingAnswer words text k → out ≡ outputOf words text k →
+    (out ≡ laid (zeros k) (written (listingAnswer words text k) (outputOf words text k))) × (n ≡ min k (length (written (listingAnswer words text k) (outputOf words text k))))
+unfolding listingAnswer outputOf
+put words text k n out e o =
+    let p = fitting (layout words text) k n (listingOf words text) e in
+    given (listingAnswer words text k) k n (listingOf words text) out e (p .0) (p .1) o
 
 -- a refusal, put into an area that another call left
-pub left-refused : (k : ℕ) (x out f : List ℕ) (n : ℕ) → length x ≡ k → f ≡ refusedText → out ≡ laid (zeros (length x)) refusedText → n ≡ min (length x) (length refusedText) →
+pub refused-there : (k : ℕ) (x out f : List ℕ) (n : ℕ) → length x ≡ k → f ≡ refusedText → out ≡ laid (zeros (length x)) refusedText → n ≡ min (length x) (length refusedText) →
     (out ≡ laid (zeros k) f) × (n ≡ min k (length f))
-left-refused k x out f n s e p q = (p ∙ rw (s, e) refl, q ∙ rw (s, e) refl)
+refused-there k x out f n s e p q = (p ∙ rw (s, e) refl, q ∙ rw (s, e) refl)

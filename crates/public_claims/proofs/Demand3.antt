@@ -9,8 +9,8 @@ use native.Mathlib.Omega.{arith}
 use borrow.Author.Tests.{leb-false, lt-leb}
 use lib.Dec.{leb}
 use lib.ListN.{length, getD}
-use Rattle.refusal.specs.Refusal.{number, OfRules, Refused, Outcome, accepted, refused}
-use Rattle.refusal.specs.declared.Cause.the-variants.{BadTable}
+use Rattle.refusal.specs.Refusal.{number, OfRules, Refused, Outcome, accepted, refused, late}
+use Rattle.refusal.specs.declared.Cause.the-variants.{BadTable, OutputFull}
 use Rattle.tree_report.specs.Report.{Report}
 use Rattle.read_element.specs.Outcome.{roomsOf}
 use Rattle.read_machine.specs.Reading as present
@@ -21,11 +21,11 @@ use Rattle.list_text.specs.Listing.{renderPublic, header, render, renderedOr}
 use Rattle.public_claims.specs.Agree.{public}
 use Rattle.public_claims.specs.inside.PublicMachine.{publicText}
 use Rattle.public_claims.specs.OwnStatus.{ownStatuses, casesListed, Ruled}
-use Rattle.public_claims.specs.PublicListing.{refusedText, isAccepted, publicListing}
-use Rattle.public_claims.specs.Demand3.{isRead, listing, listedAs, Agreeing, fitted, TooShort, RefusesTable, RefusesEvents, LacksRoom, Listed, Demand3}
+use Rattle.public_claims.specs.PublicListing.{refusedText, isAccepted}
+use Rattle.public_claims.specs.Demand3.{isRead, listedIn, printed, listing, Agreeing, fitted, TooShort, RefusesTable, RefusesEvents, LacksRoom, Listed, Demand3}
 use Rattle.public_claims.proofs.Trees.{publicOr}
 use Rattle.public_claims.proofs.AcceptedRun.{listing-public, listed-ruled}
-use Rattle.public_claims.proofs.BothCalls.{Accepted, accepted-table, refused-table}
+use Rattle.public_claims.proofs.AcceptedTable.{Accepted, accepted-table}
 
 -- a listing begins with `(rep`, a refusal with `(ref`
 never-refused : (r : Report) → render r ≡ refusedText → ⊥
@@ -33,7 +33,7 @@ unfolding render renderPublic header refusedText
 never-refused r e = let z : _≡_ {A = ℕ} 112 102 = ap (λ (f : List ℕ). getD f 3 0) e in omega arith
 
 fitted-short : (n : ℕ) (f : List ℕ) → n < length f → fitted n f ≡ refusedText
-fitted-short n f h = ap (λ (b : Bool). cond b f refusedText) (lt-leb (length f) n h)
+fitted-short n f h = ap (λ (b : Bool). printed (cond b (accepted f) (refused (late OutputFull)))) (lt-leb (length f) n h)
 
 same-report : (o : Outcome Report) (r q : Report) → o ≡ accepted r → o ≡ accepted q → r ≡ q
 same-report o r q e f = cc
@@ -51,31 +51,25 @@ either : {A : Type 0} (b : Bool) → (b ≡ true → A) → (b ≡ false → A) 
 either true y n = y refl
 either false y n = n refl
 
--- ---- both calls over words
+-- ---- an accepted table
 module _ (t : Table) (a : Areas) where
-  abbrev pub listingCalled : List ℕ
-  listingCalled = publicListing (t .events) (t .attributes) (t .source) (a .words) (a .text) (a .scratch) (a .output)
-
   abbrev Came : Type 0
-  Came = Accepted (t .events) (t .attributes) (t .source) (a .words) (a .text) (a .scratch) (a .output)
+  Came = Accepted (t .events) (t .attributes) (t .source) (a .words) (a .text) (a .scratch)
 
   module _ (r : Report) (e : answerTo t a ≡ accepted r) where
     came : Came
-    came = accepted-table (t .events) (t .attributes) (t .source) (a .words) (a .text) (a .scratch) (a .output) (ap isAccepted (accepted-over-words t a r e))
+    came = accepted-table (t .events) (t .attributes) (t .source) (a .words) (a .text) (a .scratch) (accepted-over-words t a r e)
 
     came-report : came .report ≡ r
     came-report = same-report _ (came .report) r (report-on-values t (came .report) (came .read)) (accepts-only t a r e .1)
 
     shows : listing t a ≡ fitted (a .output) (render r)
-    shows = ap (listedAs (a .output)) e
-
-    lists-report : listingCalled ≡ listing t a
-    lists-report = came .shown ∙ ap (λ (q : Report). fitted (a .output) (render q)) came-report ∙ sym shows
+    shows = ap (λ (o : Outcome Report). printed (listedIn (a .output) o)) e
 
     -- A (rule L4): what is listed is what the public machine reads from the public events
     only-public : listing t a ≡ fitted (a .output) (publicText (public (eventsOf t)))
     only-public =
-        sym lists-report ∙ came .shown
+        shows ∙ ap (λ (q : Report). fitted (a .output) (render q)) (sym came-report)
         ∙ ap (λ (o : Option Report). fitted (a .output) (renderedOr o)) (sym (came .left))
         ∙ ap (fitted (a .output)) (listing-public (roomsOf (a .words) (a .text) (a .scratch)) (eventsOf t) (came .machine) (came .ran) [])
 
@@ -90,25 +84,16 @@ module _ (t : Table) (a : Areas) where
               (listed-ruled (roomsOf (a .words) (a .text) (a .scratch)) (eventsOf t) (came .machine) (came .ran) []);
         }
 
-  -- the listing of the calls is the listing on values
-  pub lists-so : listingCalled ≡ listing t a
-  lists-so = either (isRead t a) (λ y. let q = accepted-as (answerTo t a) y in lists-report (q .0) (q .1)) (λ n. let q = refused-as (answerTo t a) n in none (q .0) (q .1))
-    where
-      none : (why : Refused) → answerTo t a ≡ refused why → listingCalled ≡ listing t a
-      none why e =
-          refused-table (t .events) (t .attributes) (t .source) (a .words) (a .text) (a .scratch) (a .output) (ap isAccepted (refusal-over-words t a why e))
-          ∙ sym (ap (listedAs (a .output)) e)
-
   -- ---- `(refused)`
   refuses : isRead t a ≡ false → listing t a ≡ refusedText
-  refuses n = let q = refused-as (answerTo t a) n in ap (listedAs (a .output)) (q .1)
+  refuses n = let q = refused-as (answerTo t a) n in ap (λ (o : Outcome Report). printed (listedIn (a .output) o)) (q .1)
 
   why-refused : listing t a ≡ refusedText → (isRead t a ≡ false) ⊎ TooShort t a
   why-refused e = either (isRead t a) (λ y. let q = accepted-as (answerTo t a) y in inr (short (q .0) (q .1))) inl
     where
       short : (r : Report) → answerTo t a ≡ accepted r → TooShort t a
       short r q = either (leb (length (render r)) (a .output))
-          (λ y. absurd (never-refused r (sym (ap (λ (b : Bool). cond b (render r) refusedText) y) ∙ sym (shows r q) ∙ e)))
+          (λ y. absurd (never-refused r (sym (ap (λ (b : Bool). printed (cond b (accepted (render r)) (refused (late OutputFull)))) y) ∙ sym (shows r q) ∙ e)))
           (λ n. (r, accepts-only t a r q .1, leb-false (length (render r)) (a .output) n))
 
   is-refused : (isRead t a ≡ false) ⊎ TooShort t a → listing t a ≡ refusedText

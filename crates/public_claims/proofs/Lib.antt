@@ -14,6 +14,8 @@ mod Rules
 mod Walks
 mod CaseNodes
 mod OwnCases
-mod BothCalls
+mod AcceptedTable
+pub mod Once
+mod OneCall
 pub mod Demand3
 pub mod OnValues

@@ -5,11 +5,12 @@
 --   deserialize, deserializeIn (crate read_report: Deserialize) the report that the rules of reading give for events, with no areas; and in areas
 --   answerTo (crate read_report: Answer)                        what reading a table answers
 --   render (crate list_text: Listing)                           the text of a report's listing
---   refusedText (PublicListing)                                 what stands for any refusal
+--   refusedText (PublicListing)                                 what stands for any refusal where a listing is printed
 --   public, tablesAgree (Agree)                                 the public part of a table; when two tables agree
 --   ownStatuses, rule, Ruled (OwnStatus)                        each case's own status elements in a table, the status rule, and both side by side
 --
--- That the calls answer and list this, whatever the areas held before, is what OnValues claims.
+-- The listing is that of reading and listing in one call, `listedTo`. That the calls answer and list this, whatever the areas held before, is what
+-- OnValues claims.
 use Prim.Native.Nat.{ℕ, _<_}
 use mathlib.Core.Path.{_≡_}
 use mathlib.Core.List.{List}
@@ -17,8 +18,8 @@ use mathlib.Core.Bool.{Bool, true, false, cond}
 use mathlib.Core.Logic.{_⊎_, _↔_}
 use lib.Dec.{leb}
 use lib.ListN.{length}
-use Rattle.refusal.specs.Refusal.{Refused, Outcome, accepted, refused}
-use Rattle.refusal.specs.declared.Cause.the-variants.{RecordsSpent, TextFull, ScratchFull}
+use Rattle.refusal.specs.Refusal.{Refused, Outcome, accepted, refused, late}
+use Rattle.refusal.specs.declared.Cause.the-variants.{RecordsSpent, TextFull, ScratchFull, OutputFull}
 use Rattle.tree_report.specs.Report.{Report}
 use Rattle.read_report.specs.Deserialize.{deserialize}
 use Rattle.read_report.specs.Answer.{Table, Areas, eventsOf, checked, answerTo}
@@ -32,17 +33,30 @@ use Rattle.public_claims.specs.PublicListing.{refusedText, isAccepted}
 abbrev pub isRead : Table → Areas → Bool
 isRead t a = isAccepted (answerTo t a)
 
--- a text in an output area of n bytes; `(refused)` if that is too short, 16
-abbrev pub fitted : ℕ → List ℕ → List ℕ
-fitted n f = cond (leb (length f) n) f refusedText
+-- a text in an output area of n bytes; 16, which names no place, if that is too short (rule L11)
+abbrev pub placedIn : ℕ → List ℕ → Outcome (List ℕ)
+placedIn n f = cond (leb (length f) n) (accepted f) (refused (late OutputFull))
 
--- listing behind reading (rule L3)
-abbrev pub listedAs : ℕ → Outcome Report → List ℕ
-listedAs n (accepted r) = fitted n (render r)
-listedAs n (refused why) = refusedText
+-- listing behind reading, whose refusal is passed on whole
+abbrev pub listedIn : ℕ → Outcome Report → Outcome (List ℕ)
+listedIn n (accepted r) = placedIn n (render r)
+listedIn n (refused why) = refused why
+
+-- reading and listing in one call: the bytes of the listing, or the refusal (rule L13)
+abbrev pub listedTo : Table → Areas → Outcome (List ℕ)
+listedTo t a = listedIn (a .output) (answerTo t a)
+
+-- what is printed of it (rule L3)
+abbrev pub printed : Outcome (List ℕ) → List ℕ
+printed (accepted f) = f
+printed (refused why) = refusedText
 
 abbrev pub listing : Table → Areas → List ℕ
-listing t a = listedAs (a .output) (answerTo t a)
+listing t a = printed (listedTo t a)
+
+-- a text that is printed where it fits
+abbrev pub fitted : ℕ → List ℕ → List ℕ
+fitted n f = printed (placedIn n f)
 
 -- rule L2
 abbrev pub Agreeing : Table → Table → Type 0

@@ -10,8 +10,8 @@ use borrow.Author.Tests.{le-leb}
 use lib.ListN.{length}
 use Rattle.area.specs.Limits.{mostRecords, mostBytes}
 use Rattle.area.specs.Answer.{Answer}
-use Rattle.refusal.specs.Refusal.{number, OfRules, Refused, Outcome, accepted, refused}
-use Rattle.refusal.specs.declared.Cause.the-variants.{BadTable}
+use Rattle.refusal.specs.Refusal.{number, OfRules, Refused, Outcome, accepted, refused, late}
+use Rattle.refusal.specs.declared.Cause.the-variants.{BadTable, OutputFull}
 use Rattle.tree_report.specs.Report.{Report}
 use Rattle.tree_report.specs.Encode.{rowsOf, wordsOf, textOf, fits as fitsAreas}
 use Rattle.tree_report.proofs.Encode.{encode-layout, encode-report}
@@ -33,8 +33,7 @@ use Rattle.write_table.specs.Laid.{laidOut, fits}
 use Rattle.write_answer.specs.Answer.{Sizes, outcomeOf}
 use Rattle.write_resolved.proofs.Resolved.{resolve-written, table-written}
 use Rattle.list_text.specs.Listing.{render}
-use Rattle.public_claims.specs.PublicListing.{refusedText}
-use Rattle.public_claims.specs.Demand3.{listing, listedAs, IsReport, RefusesTable, RefusesEvents, LacksRoom}
+use Rattle.public_claims.specs.Demand3.{listedIn, printed, listing, IsReport, RefusesTable, RefusesEvents, LacksRoom}
 use Rattle.round_elements.specs.Plain.{plain, sound}
 use Rattle.round_sound.proofs.Sound.{layout-sound, layout-rows, layout-room}
 use Rattle.round_rooms.proofs.Sufficing.{reading-roomy}
@@ -232,7 +231,9 @@ module _ (r : Report) (p : plain r ≡ true) (s : sound r ≡ true) (n : length 
 
   -- ---- F
   own-listing : (output : ℕ) → length (render r) ≤ output → listing (ownTable r) (limits output) ≡ render r
-  own-listing output h = ap (listedAs output) (own-answer output) ∙ ap (λ (b : Bool). cond b (render r) refusedText) (le-leb (length (render r)) output h)
+  own-listing output h =
+      ap (λ (o : Outcome Report). printed (listedIn output o)) (own-answer output)
+      ∙ ap (λ (b : Bool). printed (cond b (accepted (render r)) (refused (late OutputFull)))) (le-leb (length (render r)) output h)
 
 -- ---- G
 lays-out : (r : Report) (n m : ℕ) → fitsAreas r n m ≡ true → Placed r n m

@@ -3,7 +3,6 @@ use Prim.Native.Nat.{ℕ, _*_}
 use mathlib.Core.List.{List}
 use lib.ListN.{length, take}
 use Rattle.area.specs.Area.{zeros}
-use Rattle.read_machine.specs.Reading.{reading}
 use Rattle.public_claims.specs.PublicListing.{refusedText, publicListing}
 use Rattle.xml_machine.specs.Tokens.{Answer, done-with, refused, Result, tokens}
 
@@ -17,8 +16,10 @@ pub record Lent : Type 0 where
 abbrev pub lent : (records text scratch out : List ℕ) → Lent
 lent records text scratch out = record { records = length records; text = length text; scratch = length scratch; out = length out }
 
--- the three areas of reading
+-- the areas of tokenizing and reading
 pub record Areas : Type 0 where
+  pub events : List ℕ
+  pub attributes : List ℕ
   pub words : List ℕ
   pub text : List ℕ
   pub scratch : List ℕ
@@ -32,22 +33,14 @@ abbrev pub listingBy : Answer → (events attributes source : List ℕ) → Lent
 listingBy (done-with n k) events attributes source b = publicListing (tableIn n events) (tableIn k attributes) source (b .records) (b .text) (b .scratch) (b .out)
 listingBy (refused number byte) events attributes source b = refusedText
 
--- as reading left them; zero where there is no table to read
-abbrev pub areasBy : Answer → (events attributes source : List ℕ) → Lent → Areas
-areasBy (done-with n k) events attributes source b =
-    let r = reading (tableIn n events) (tableIn k attributes) source (b .records) (b .text) (b .scratch) in record { words = r .words; text = r .text; scratch = r .scratch }
-areasBy (refused number byte) events attributes source b = record { words = zeros (b .records); text = zeros (b .text); scratch = zeros (b .scratch) }
-
 abbrev pub listingFor : Result → List ℕ → Lent → List ℕ
 listingFor r source b = listingBy (r .answer) (r .events) (r .attributes) source b
-
-abbrev pub areasFor : Result → List ℕ → Lent → Areas
-areasFor r source b = areasBy (r .answer) (r .events) (r .attributes) source b
 
 -- of a document, with areas of so many words for events and attributes (rule N11)
 unfoldable pub xmlListing : List ℕ → (events attributes : ℕ) → Lent → List ℕ
 xmlListing source events attributes b = listingFor (tokens source events attributes) source b
 
--- rule N11
-unfoldable pub xmlAreas : List ℕ → (events attributes : ℕ) → Lent → Areas
-xmlAreas source events attributes b = areasFor (tokens source events attributes) source b
+-- zero in every case (rule N11)
+abbrev pub xmlAreas : (events attributes : ℕ) → Lent → Areas
+xmlAreas events attributes b =
+    record { events = zeros events; attributes = zeros attributes; words = zeros (b .records); text = zeros (b .text); scratch = zeros (b .scratch) }

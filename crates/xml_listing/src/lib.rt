@@ -1,6 +1,5 @@
 // What comes behind the tokenizer: the public listing of the table that it left.
-use area::clear;
-use area::clear_words;
+use clearing::clear_all;
 use public_call::public_listing;
 use public_call::refuse;
 use xml_state::Tokenized;
@@ -10,7 +9,7 @@ ghost use lib.ListN.{length};
 ghost use Rattle.area.specs.Area.{zeros, laid};
 ghost use Rattle.public_claims.specs.PublicListing.{refusedText};
 ghost use Rattle.xml_state.specs.Answer.{result};
-ghost use Rattle.xml_listing.specs.XmlListing.{lent, tableIn, listingFor, areasFor};
+ghost use Rattle.xml_listing.specs.XmlListing.{lent, tableIn, listingFor};
 
 // The n records, five words each, at the front of an area.
 fn table_in(words: &[u32], n: u32) -> &[u32]
@@ -31,13 +30,12 @@ fn refuse_all(records: &mut [u32], text: &mut [u8], scratch: &mut [u8], out: &mu
     ensures text { λ _. ⌜ now (text .exit) ≡ zeros (length (now (text .entry))) ⌝ }
     ensures scratch { λ _. ⌜ now (scratch .exit) ≡ zeros (length (now (scratch .entry))) ⌝ }
 {
-    clear_words(records);
-    clear(text);
-    clear(scratch);
+    clear_all(records, text, scratch);
     refuse(out)
 }
 
-// The listing of what the tokenizer answered; `events` and `attributes` are the areas that hold its table (rule N11).
+// The listing of what the tokenizer answered; `events` and `attributes` are the areas that hold its table. Nothing is left in the areas of
+// reading (rule N11).
 pub fn list_tokens(
     told: Tokenized,
     source: &[u8],
@@ -48,11 +46,13 @@ pub fn list_tokens(
     scratch: &mut [u8],
     out: &mut [u8],
 ) -> usize
-    ensures out { λ _. ⌜ now (out .exit) ≡ laid (zeros (length (now (out .entry)))) (listingFor (result told (now (events .entry)) (now (attributes .entry))) (now (source .entry)) (lent (now (records .entry)) (now (text .entry)) (now (scratch .entry)) (now (out .entry)))) ⌝ }
-    ensures count { λ r. ⌜ r ≡ min (length (now (out .entry))) (length (listingFor (result told (now (events .entry)) (now (attributes .entry))) (now (source .entry)) (lent (now (records .entry)) (now (text .entry)) (now (scratch .entry)) (now (out .entry))))) ⌝ }
-    ensures records { λ _. ⌜ now (records .exit) ≡ areasFor (result told (now (events .entry)) (now (attributes .entry))) (now (source .entry)) (lent (now (records .entry)) (now (text .entry)) (now (scratch .entry)) (now (out .entry))) .words ⌝ }
-    ensures text { λ _. ⌜ now (text .exit) ≡ areasFor (result told (now (events .entry)) (now (attributes .entry))) (now (source .entry)) (lent (now (records .entry)) (now (text .entry)) (now (scratch .entry)) (now (out .entry))) .text ⌝ }
-    ensures scratch { λ _. ⌜ now (scratch .exit) ≡ areasFor (result told (now (events .entry)) (now (attributes .entry))) (now (source .entry)) (lent (now (records .entry)) (now (text .entry)) (now (scratch .entry)) (now (out .entry))) .scratch ⌝ }
+    ensures out { λ _. ⌜ now (out .exit) ≡ laid (zeros (length (now (out .entry))))
+        (listingFor (result told (now (events .entry)) (now (attributes .entry))) (now (source .entry)) (lent (now (records .entry)) (now (text .entry)) (now (scratch .entry)) (now (out .entry)))) ⌝ }
+    ensures count { λ r. ⌜ r ≡ min (length (now (out .entry)))
+        (length (listingFor (result told (now (events .entry)) (now (attributes .entry))) (now (source .entry)) (lent (now (records .entry)) (now (text .entry)) (now (scratch .entry)) (now (out .entry))))) ⌝ }
+    ensures records { λ _. ⌜ now (records .exit) ≡ zeros (length (now (records .entry))) ⌝ }
+    ensures text { λ _. ⌜ now (text .exit) ≡ zeros (length (now (text .entry))) ⌝ }
+    ensures scratch { λ _. ⌜ now (scratch .exit) ≡ zeros (length (now (scratch .entry))) ⌝ }
 {
     match told {
         Tokenized::Table(n, k) => public_listing(

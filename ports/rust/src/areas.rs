@@ -6,7 +6,9 @@ use crate::table::Table;
 
 /// The areas that a report is read or built in, allocated once and used again by each call.
 ///
-/// They hold the report's texts, private ones too, until [`clear`](Areas::clear) or the next call that reads or builds.
+/// Behind [`read`](crate::read) and a builder they hold the report's texts, private ones too, until [`clear`](Areas::clear) or the next
+/// call that reads or builds. Behind [`read_and_list`](crate::read_and_list), [`public_listing`](crate::public_listing) and
+/// [`list_xml`](crate::list_xml) they are zero.
 ///
 /// ```
 /// use kerzhoma::{read, Areas, TableBuilder};
@@ -75,7 +77,8 @@ impl Areas {
         self.scratch.fill(0);
     }
 
-    /// Whether all areas are zero: as they are new, behind [`clear`](Areas::clear), and behind a refusal of reading or building.
+    /// Whether all areas are zero: as they are new, behind [`clear`](Areas::clear), behind a refusal of reading or building, and behind the
+    /// calls that read and list in one.
     pub fn is_clear(&self) -> bool {
         let bytes = |area: &[u8]| area.iter().all(|b| *b == 0);
         self.records.iter().all(|w| *w == 0) && bytes(&self.text) && bytes(&self.scratch)

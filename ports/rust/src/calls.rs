@@ -67,7 +67,50 @@ pub fn list_into(tree: &Tree<'_>, out: &mut [u8]) -> Result<usize, Refusal> {
     Ok(listing.length)
 }
 
-/// Reading and listing in one call: the public listing of a table, or `(refused)` and a newline. The claims on public listings are
+/// Reading and listing in one call: what [`read`] and then [`list`] give, and no tree that is left. The areas are zero behind it in every
+/// case, so that they hold no text of the report; the table stays with the caller.
+///
+/// # Errors
+///
+/// The refusal of reading, with its place, and the areas for it; 16 as for [`list`]. [`explain`] takes either.
+///
+/// ```
+/// use kerzhoma::{explain, read_and_list, Areas, TableBuilder};
+///
+/// let mut table = TableBuilder::new();
+/// table.start("testsuites");
+/// table.start("testsuite").attribute("name", "lab");
+/// let mut areas = Areas::for_table(&table.table());
+/// let refusal = read_and_list(&table.table(), &mut areas).unwrap_err();
+/// assert!(explain(&refusal, &table.table()).starts_with("refused 8 at testsuites/testsuite[0](\"lab\"): "));
+/// assert!(areas.is_clear());
+///
+/// table.end("testsuite").end("testsuites");
+/// let mut areas = Areas::for_table(&table.table());
+/// assert_eq!(read_and_list(&table.table(), &mut areas)?, "(report - 0 0 0 0 -\n(suite \"lab\" 0 0 0 0 -))\n");
+/// assert!(areas.is_clear());
+/// # Ok::<(), kerzhoma::Refusal>(())
+/// ```
+pub fn read_and_list(table: &Table<'_>, areas: &mut Areas) -> Result<String, Refusal> {
+    let mut out = area(table.needs().listing);
+    let length = read_and_list_into(table, areas, &mut out)?;
+    Ok(text_of(out, length))
+}
+
+/// The same into an area, with zeros behind it: how many bytes it takes.
+///
+/// # Errors
+///
+/// The same; 16 where the area is too short. All of it is zero then.
+pub fn read_and_list_into(table: &Table<'_>, areas: &mut Areas, out: &mut [u8]) -> Result<usize, Refusal> {
+    let Areas { records, text, scratch } = areas;
+    let lent = Lent { records: records.len(), text: text.len(), scratch: scratch.len(), out: out.len() };
+    let listing = sys::read_and_list(table.events, table.attributes, table.source, records, text, scratch, out);
+    Refusal::result(listing.refusal, lent)?;
+    Ok(listing.length)
+}
+
+/// What is printed of [`read_and_list`]: the public listing of a table, or `(refused)` and a newline. The claims on public listings are
 /// proved of this call.
 ///
 /// ```
@@ -88,7 +131,7 @@ pub fn public_listing(table: &Table<'_>, areas: &mut Areas) -> String {
 }
 
 /// The same into an area, with zeros behind it: how many bytes it takes. Where the area is too short for the listing, `(refused)` stands
-/// there, as far as it fits, and `areas` hold the report, private text included.
+/// there, as far as it fits. `areas` are zero in every case.
 pub fn public_listing_into(table: &Table<'_>, areas: &mut Areas, out: &mut [u8]) -> usize {
     let Areas { records, text, scratch } = areas;
     sys::public_listing(table.events, table.attributes, table.source, records, text, scratch, out)

@@ -2,7 +2,7 @@
 #![forbid(unsafe_code)]
 
 use crate::limits::{self, ENTRY};
-use crate::{sys, Areas, Table, TableBuf};
+use crate::{explain, read_and_list, sys, Areas, Refusal, Table, TableBuf};
 use std::{error, fmt};
 
 /// Why and where a document isn't tokenized: 18 not well-formed XML, 19 a document type declaration, both with the byte; 11 longer than
@@ -19,6 +19,11 @@ pub struct XmlRefusal {
 }
 
 impl XmlRefusal {
+    // where both areas were as long as the document can need, 16 comes only where the limits are too short
+    fn above(self) -> Self {
+        XmlRefusal { events: limits::EVENTS * ENTRY, attributes: limits::ATTRIBUTES * ENTRY, ..self }
+    }
+
     /// 11, 16, 18 or 19, by docs/REFUSALS.md.
     pub fn number(&self) -> u32 {
         self.number
@@ -60,9 +65,7 @@ impl error::Error for XmlRefusal {}
 /// ```
 pub fn tokenize(source: &[u8]) -> Result<TableBuf, XmlRefusal> {
     let (mut events, mut attributes) = entries(source);
-    // both areas are as long as the document can need, so that 16 comes only where the limits are too short
-    let above = |refusal| XmlRefusal { events: limits::EVENTS * ENTRY, attributes: limits::ATTRIBUTES * ENTRY, ..refusal };
-    let table = tokenize_into(source, &mut events, &mut attributes).map_err(above)?;
+    let table = tokenize_into(source, &mut events, &mut attributes).map_err(XmlRefusal::above)?;
     let (m, n) = (table.events.len(), table.attributes.len());
     events.truncate(m);
     attributes.truncate(n);
@@ -115,7 +118,68 @@ pub fn explain_xml(refusal: &XmlRefusal, source: &[u8]) -> String {
     String::from_utf8_lossy(out.get(..length).unwrap_or_default()).into_owned()
 }
 
-/// Tokenizing, reading and listing in one call: the public listing of a document, or `(refused)` and a newline.
+/// Why a document has no listing.
+#[derive(Clone, Copy, Debug, PartialEq, Eq, Hash)]
+pub enum DocumentRefusal {
+    /// It isn't tokenized.
+    Document(XmlRefusal),
+    /// Its table isn't read, or the listing is too long.
+    Report(Refusal),
+}
+
+impl DocumentRefusal {
+    /// The refusal in words, from the document that was refused: one line, ended by a newline. It may tell the names of suite and case, so it
+    /// isn't for the public.
+    pub fn explain(&self, source: &[u8]) -> String {
+        match self {
+            DocumentRefusal::Document(refusal) => explain_xml(refusal, source),
+            DocumentRefusal::Report(refusal) => match tokenize(source) {
+                Ok(table) => explain(refusal, &table.as_table()),
+                Err(_) => format!("{refusal}\n"),
+            },
+        }
+    }
+}
+
+impl fmt::Display for DocumentRefusal {
+    /// Numbers only, and no text of the document.
+    fn fmt(&self, f: &mut fmt::Formatter<'_>) -> fmt::Result {
+        match self {
+            DocumentRefusal::Document(refusal) => refusal.fmt(f),
+            DocumentRefusal::Report(refusal) => refusal.fmt(f),
+        }
+    }
+}
+
+impl error::Error for DocumentRefusal {}
+
+/// The public listing of a document, or why there is none: document in, listing or refusal out, and nothing is kept. The areas that it
+/// works in are its own, as long as the document can need.
+///
+/// # Errors
+///
+/// The refusal of [`tokenize`] or of [`read_and_list`].
+///
+/// ```
+/// use kerzhoma::{read_and_list_xml, DocumentRefusal};
+///
+/// assert_eq!(read_and_list_xml(b"<testsuites/>")?, "(report - 0 0 0 0 -)\n");
+/// let document = b"<testsuites><testsuite name='lab'><testcase/></testsuite></testsuites>";
+/// let refusal = read_and_list_xml(document).unwrap_err();
+/// assert_eq!(
+///     refusal.explain(document),
+///     "refused 7 at testsuites/testsuite[0](\"lab\")/testcase[0]/@name: this attribute is missing (event 2)\n"
+/// );
+/// assert!(matches!(read_and_list_xml(b"<testsuites>"), Err(DocumentRefusal::Document(_))));
+/// # Ok::<(), DocumentRefusal>(())
+/// ```
+pub fn read_and_list_xml(source: &[u8]) -> Result<String, DocumentRefusal> {
+    let (mut events, mut attributes) = entries(source);
+    let table = tokenize_into(source, &mut events, &mut attributes).map_err(|r| DocumentRefusal::Document(r.above()))?;
+    read_and_list(&table, &mut Areas::for_table(&table)).map_err(DocumentRefusal::Report)
+}
+
+/// What is printed of a document in one call: its public listing, or `(refused)` and a newline. The areas are zero behind it in every case.
 ///
 /// ```
 /// use kerzhoma::{list_xml, Areas};

@@ -6,8 +6,8 @@
 //! - A [`Table`] is events, attributes and source bytes: of an XML document ([`tokenize()`]), from a file ([`TableBuf::from_bytes`]) or made
 //!   by a [`TableBuilder`].
 //! - [`Areas`] are what reading works in, allocated once. [`read`] gives a [`Tree`] that borrows them, or a [`Refusal`].
-//! - [`list`] and [`public_listing`] give the listing without private text, [`write()`] the table of a report, [`explain`] a refusal in
-//!   words.
+//! - [`list`] gives the listing without private text, [`read_and_list`] and [`read_and_list_xml`] the same in one call that keeps no tree,
+//!   [`write()`] the table of a report, [`explain`] a refusal in words.
 //! - A [`ReportBuilder`] makes a report from nothing.
 //!
 //! ```
@@ -41,8 +41,10 @@ mod values;
 
 pub use areas::Areas;
 pub use builder::{CaseBuilder, ReportBuilder, RunBuilder, SuiteBuilder};
-pub use calls::{explain, list, list_into, public_listing, public_listing_into, read, write, write_into};
-pub use document::{explain_xml, list_xml, tokenize, tokenize_into, XmlRefusal};
+pub use calls::{
+    explain, list, list_into, public_listing, public_listing_into, read, read_and_list, read_and_list_into, write, write_into,
+};
+pub use document::{explain_xml, list_xml, read_and_list_xml, tokenize, tokenize_into, DocumentRefusal, XmlRefusal};
 pub use refusal::{Cause, PathElement, Refusal};
 pub use table::{Table, TableBuf, TableBuilder, TableError, Tag};
 pub use tree::{Case, Cases, Extras, Properties, Property, Reruns, Run, Runs, Status, Suite, Suites, Tree};

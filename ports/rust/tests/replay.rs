@@ -270,7 +270,10 @@ fn areas_for_a_table_suffice() {
                 continue;
             }
             assert_eq!(got, want, "table {i}, round {round}");
+            assert_eq!(read_and_list(&table, &mut areas), got, "table {i}, round {round}");
+            assert!(areas.is_clear());
             let public = public_listing(&table, &mut areas);
+            assert!(areas.is_clear());
             match got {
                 Ok(listing) => {
                     accepted += 1;
@@ -278,7 +281,7 @@ fn areas_for_a_table_suffice() {
                 }
                 Err(refusal) => {
                     refused += 1;
-                    assert!(large.is_clear() && areas.is_clear());
+                    assert!(large.is_clear());
                     assert_eq!(public, "(refused)\n");
                     assert!(explain(&refusal, &table).starts_with(&format!("refused {}", refusal.number())));
                 }
@@ -286,4 +289,81 @@ fn areas_for_a_table_suffice() {
         }
     }
     assert!(accepted > 250 && refused > 900, "{accepted} {refused}");
+}
+
+// One call against two, with areas that suffice and that are too short, of odd lengths, and dirty before: the same bytes or the same
+// refusal, and no tree behind it.
+#[test]
+fn one_call_gives_what_two_give() {
+    let mut random = Random(0xd1b5_4a32_d192_ed03);
+    let (mut listed, mut refused, mut short) = (0, 0, 0);
+    let tables = replayed();
+    for (i, table) in tables.iter().enumerate() {
+        for round in 0..6 {
+            let mut table = table.clone();
+            spoil(&mut table, &mut random, round / 4);
+            let table = table.as_table();
+            let mut length = |most: usize| if random.below(4) > 0 { most } else { random.below(most / 8) };
+            let (records, text, scratch, output) = (length(512), length(8192), length(8192), length(4096));
+            let (mut one, mut two) = (Areas::new(records, text, scratch), Areas::new(records, text, scratch));
+            // what an earlier call left
+            let _ = read(&tables[0].as_table(), &mut one);
+            let (mut out, mut wanted) = (vec![7; output], vec![9; output]);
+            let want = read(&table, &mut two).and_then(|tree| list_into(&tree, &mut wanted));
+            if want.is_err() {
+                wanted.fill(0);
+            }
+            let got = read_and_list_into(&table, &mut one, &mut out);
+            assert_eq!(got, want, "table {i}, round {round}");
+            assert!(out == wanted && one.is_clear(), "table {i}, round {round}");
+            match got {
+                Ok(_) => listed += 1,
+                Err(refusal) if refusal.number() == 16 => short += 1,
+                Err(refusal) => {
+                    refused += 1;
+                    assert!(explain(&refusal, &table).starts_with(&format!("refused {}", refusal.number())));
+                }
+            }
+        }
+    }
+    assert!(listed > 400 && refused > 900 && short > 50, "{listed} {refused} {short}");
+}
+
+// A document's listing, or the refusal of its tokenizing or its reading, as the single calls give them.
+#[test]
+fn documents_in_one_call() {
+    for document in [
+        "<testsuites name='r'><testsuite name='s'><testcase name='c'><failure>private</failure></testcase></testsuite></testsuites>",
+        "<testsuites><testsuite name='s'><testcase/></testsuite></testsuites>",
+        "<testsuites><testsuite name='s' time='soon'/></testsuites>",
+        "<testsuites/>",
+        "<a/>",
+        "<testsuites>",
+        "<!DOCTYPE a><a/>",
+    ] {
+        let got = read_and_list_xml(document.as_bytes());
+        let mut areas = Areas::new(64, 512, 512);
+        let printed = list_xml(document.as_bytes(), &mut areas);
+        assert!(areas.is_clear());
+        match tokenize(document.as_bytes()) {
+            Err(refusal) => {
+                assert_eq!(got, Err(DocumentRefusal::Document(refusal)));
+                assert_eq!(got.unwrap_err().explain(document.as_bytes()), explain_xml(&refusal, document.as_bytes()));
+                assert_eq!(printed, "(refused)\n");
+            }
+            Ok(table) => {
+                let table = table.as_table();
+                let want = read(&table, &mut Areas::for_table(&table)).and_then(|tree| list(&tree));
+                assert_eq!(got, want.map_err(DocumentRefusal::Report), "{document}");
+                match (got, want) {
+                    (Ok(listing), _) => assert_eq!(printed, listing),
+                    (Err(refusal), Err(why)) => {
+                        assert_eq!(refusal.explain(document.as_bytes()), explain(&why, &table));
+                        assert_eq!((refusal.to_string(), printed.as_str()), (why.to_string(), "(refused)\n"));
+                    }
+                    _ => unreachable!(),
+                }
+            }
+        }
+    }
 }

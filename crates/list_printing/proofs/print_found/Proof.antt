@@ -84,8 +84,9 @@ returns c =
     let public-listing = c .before .before .before .before .before .before .before .before .public-listing in
     let a = c .before .before .before .before .before .before .before .before .before .before .before .before .before .before
     .before .before .before .before .before .before .before .before .before .before .before .before .before .args in
-    same-found (lent (a .records .now) (a .text .now) (a .scratch .now) (a .out .now)) (length (a .out .now)) _ _
-    (found-is (a .found) _ (found .given .1) (a .events .now) (a .attributes .now) (a .input .now)) _ _ _ _ _ (public-listing .ensures)
+    let h = same-found (lent (a .records .now) (a .text .now) (a .scratch .now) (a .out .now)) (length (a .out .now)) _ _
+    (found-is (a .found) _ (found .given .1) (a .events .now) (a .attributes .now) (a .input .now)) _ _ (public-listing .ensures .0, public-listing .ensures .1 .0) in
+    (h .0, (h .1, public-listing .ensures .1 .1))
 
 same-length-5 : tie.Need-same-length-5
 same-length-5 c = search needs
@@ -104,8 +105,9 @@ returns-2 c =
     let enum-told-step = c .before .before .before .before .before .before .before .before .before .before .before .before .before .enum-told in
     let refuse-input = c .before .before .before .before .before .before .before .before .refuse-input in
     let a = c .before .before .before .before .before .before .before .before .before .before .before .before .before .before .before .before .before .before .before .before .before .before .args in
-    same-found (lent (a .records .now) (a .text .now) (a .scratch .now) (a .out .now)) (length (a .out .now)) _ _
-    (found-not (a .found) (enum-told-step .given .1) (a .events .now) (a .attributes .now) (a .input .now)) _ _ _ _ _ (refuse-input .ensures)
+    let h = same-found (lent (a .records .now) (a .text .now) (a .scratch .now) (a .out .now)) (length (a .out .now)) _ _
+    (found-not (a .found) (enum-told-step .given .1) (a .events .now) (a .attributes .now) (a .input .now)) _ _ (refuse-input .ensures .0, refuse-input .ensures .1 .0) in
+    (h .0, (h .1, refuse-input .ensures .1 .1))
 
 pub print-found-spec : {M : Type 1} → statement M
 print-found-spec =

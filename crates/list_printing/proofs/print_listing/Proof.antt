@@ -6,7 +6,7 @@ use borrow.Author.Needs.{needs}
 use Rattle.area.specs.Area.{zeros}
 use Rattle.list_input.specs.Input.{inputOf}
 use Rattle.list_input.proofs.Inputs.{found-lies, found-table}
-use Rattle.list_printing.specs.Printed.{lent, printed, areasLeft}
+use Rattle.list_printing.specs.Printed.{lent, printed}
 use Rattle.list_printing.proofs.Inputs.{same-found}
 use Rattle.list_printing.proofs.print_listing.Statement.{statement}
 use Rattle.list_printing.proofs.print_listing.Tie as tie
@@ -50,7 +50,7 @@ same-length-6 : tie.Need-same-length-6
 same-length-6 c = search needs
 
 returns : tie.Need-returns
-unfolding printed areasLeft
+unfolding printed
 returns c =
     let at-print-found = c .before .before .before .before .before .before .before .before .before .before .before .before .before .before .before .before in
     let front = at-print-found .before .before .before .before .before .before .before .before .before .before .before .before .before .before .front in
@@ -63,8 +63,9 @@ returns c =
     let n = length (a .attributes .now) in
     let e = found-table (i .result) (a .events .now) (i .last .1 .0) (a .attributes .now) (i .last .1 .1 .0) (front .result .now) (i .ensures .0) (i .ensures .1 .0) (i .ensures .1 .1)
     ∙ ap (λ (s : List ℕ). inputOf m n s) (front .ensures) in
-    let h = same-found (lent (a .records .now) (a .text .now) (a .scratch .now) (a .out .now)) (length (a .out .now)) _ _ e _ _ _ _ _ (at-print-found .print-found .ensures) in
-    (h .0, (h .1 .0, (clear-words .ensures ∙ ap zeros (i .kept .1 .0), (c .before .before .clear-words2 .ensures ∙ ap zeros (i .kept .1 .1 .0), h .1 .1))))
+    let f = at-print-found .print-found .ensures in
+    let h = same-found (lent (a .records .now) (a .text .now) (a .scratch .now) (a .out .now)) (length (a .out .now)) _ _ e _ _ (f .0, f .1 .0) in
+    (h .0, (h .1, (clear-words .ensures ∙ ap zeros (i .kept .1 .0), (c .before .before .clear-words2 .ensures ∙ ap zeros (i .kept .1 .1 .0), f .1 .1))))
 
 pub print-listing-spec : {M : Type 1} → statement M
 print-listing-spec =

@@ -1,6 +1,6 @@
 use lib.ListN.{length}
 use Rattle.xml_listing.specs.XmlListing.{lent}
-use Rattle.xml_listing.proofs.Answers.{table-left, refused-left}
+use Rattle.xml_listing.proofs.Answers.{table-shown, refused-shown}
 use borrow.Author.Needs.{needs}
 use Rattle.xml_listing.proofs.list_tokens.Statement.{statement}
 use Rattle.xml_listing.proofs.list_tokens.Tie as tie
@@ -36,9 +36,17 @@ same-length-4 : tie.Need-same-length-4
 same-length-4 c = search needs
 
 returns : tie.Need-returns
-returns c = let a = c .before .before .before .before .before .before .before .before .before .before .before .before .before .before .before .before .before .before .before .before .before .before .before .before .before .args in
+returns c =
+    let a = c .before .before .before .before .before .before .before .before .before .before .before .before .before .before .before .before .before .before .before .before
+    .before .before .before .before .before .args in
     let b = lent (a .records .now) (a .text .now) (a .scratch .now) (a .out .now) in
-    table-left (a .events .now) (a .attributes .now) (a .source .now) b (length (a .out .now)) _ _ _ _ _ (a .told) _ _ (c .before .before .before .before .before .before .before .before .before .before .before .before .before .before .before .before .told .given .1) (c .before .before .before .before .before .before .before .before .before .before .before .before .before .before .table-in .result .now) (c .before .before .before .before .before .before .before .before .before .before .before .before .before .table-in2 .result .now) (c .before .before .before .before .before .before .before .before .before .before .before .before .before .before .table-in .ensures) (c .before .before .before .before .before .before .before .before .before .before .before .before .before .table-in2 .ensures) (c .before .before .before .before .before .before .before .before .public-listing .ensures)
+    let told-step = c .before .before .before .before .before .before .before .before .before .before .before .before .before .before .before .before .told in
+    let events-step = c .before .before .before .before .before .before .before .before .before .before .before .before .before .before .table-in in
+    let attributes-step = c .before .before .before .before .before .before .before .before .before .before .before .before .before .table-in2 in
+    let p = c .before .before .before .before .before .before .before .before .public-listing .ensures in
+    let h = table-shown (a .events .now) (a .attributes .now) (a .source .now) b (length (a .out .now)) _ _ (a .told) _ _ (told-step .given .1)
+    (events-step .result .now) (attributes-step .result .now) (events-step .ensures) (attributes-step .ensures) (p .0, p .1 .0) in
+    (h .0, (h .1, p .1 .1))
 
 same-length-5 : tie.Need-same-length-5
 same-length-5 c = search needs
@@ -53,9 +61,14 @@ same-length-8 : tie.Need-same-length-8
 same-length-8 c = search needs
 
 returns-2 : tie.Need-returns-2
-returns-2 c = let a = c .before .before .before .before .before .before .before .before .before .before .before .before .before .before .before .before .before .before .before .before .before .before .args in
+returns-2 c =
+    let a = c .before .before .before .before .before .before .before .before .before .before .before .before .before .before .before .before .before .before .before .before
+    .before .before .args in
     let b = lent (a .records .now) (a .text .now) (a .scratch .now) (a .out .now) in
-    refused-left (a .events .now) (a .attributes .now) (a .source .now) b (length (a .out .now)) _ _ _ _ _ (a .told) _ _ (c .before .before .before .before .before .before .before .before .before .before .before .before .before .enum-told .given .1) (c .before .before .before .before .before .before .before .before .refuse-all .ensures)
+    let told-step = c .before .before .before .before .before .before .before .before .before .before .before .before .before .enum-told in
+    let p = c .before .before .before .before .before .before .before .before .refuse-all .ensures in
+    let h = refused-shown (a .events .now) (a .attributes .now) (a .source .now) b (length (a .out .now)) _ _ (a .told) _ _ (told-step .given .1) (p .0, p .1 .0) in
+    (h .0, (h .1, p .1 .1))
 
 pub list-tokens-spec : {M : Type 1} → statement M
 list-tokens-spec =

@@ -2,7 +2,8 @@
 #![forbid(unsafe_code)]
 
 use kerzhoma::input::{is_named_xml, load_document, load_table};
-use kerzhoma::{explain, explain_xml, list, read, tokenize, write, Areas, TableBuf, Tree};
+use kerzhoma::{explain, explain_xml, read, read_and_list, read_and_list_xml, tokenize, write};
+use kerzhoma::{Areas, DocumentRefusal, Refusal, TableBuf, XmlRefusal};
 use std::ffi::{OsStr, OsString};
 use std::io::{self, ErrorKind, Write};
 use std::path::{Path, PathBuf};
@@ -141,14 +142,29 @@ fn failed(file: &Path, why: &dyn std::fmt::Display) -> u8 {
 }
 
 fn tokenized(task: &Task, document: &[u8]) -> u8 {
+    if matches!(task, Task::List) {
+        return match read_and_list_xml(document) {
+            Ok(listing) => put(listing.as_bytes(), ACCEPTED),
+            Err(DocumentRefusal::Document(refusal)) => no_table(task, &refusal, document),
+            Err(DocumentRefusal::Report(refusal)) => not_done(task, &refusal),
+        };
+    }
     match (tokenize(document), task) {
         (Ok(table), _) => done(task, &table),
         (Err(refusal), Task::Explain) => put(explain_xml(&refusal, document).as_bytes(), REFUSED),
-        (Err(refusal), task) => {
-            say(explain_xml(&refusal, document).trim_end());
-            refused(task)
-        }
+        (Err(refusal), task) => no_table(task, &refusal, document),
     }
+}
+
+fn no_table(task: &Task, refusal: &XmlRefusal, document: &[u8]) -> u8 {
+    say(explain_xml(refusal, document).trim_end());
+    refused(task)
+}
+
+// What this says has no names.
+fn not_done(task: &Task, refusal: &Refusal) -> u8 {
+    say(&refusal.to_string());
+    refused(task)
 }
 
 fn shown(file: &Path) -> String {
@@ -161,36 +177,17 @@ fn shown(file: &Path) -> String {
 fn done(task: &Task, table: &TableBuf) -> u8 {
     let table = table.as_table();
     let mut areas = Areas::for_table(&table);
-    match (read(&table, &mut areas), task) {
-        (Ok(tree), _) => accepted(task, &tree),
-        (Err(refusal), Task::Explain) => put(explain(&refusal, &table).as_bytes(), REFUSED),
-        (Err(refusal), task) => {
-            say(&refusal.to_string());
-            refused(task)
-        }
-    }
-}
-
-// A listing of what is refused is `(refused)`.
-fn refused(task: &Task) -> u8 {
-    match task {
-        Task::List => put(b"(refused)\n", REFUSED),
-        _ => REFUSED,
-    }
-}
-
-fn accepted(task: &Task, tree: &Tree<'_>) -> u8 {
     let made = match task {
-        Task::Check => return ACCEPTED,
-        Task::Explain => return put(b"accepted\n", ACCEPTED),
-        Task::List => list(tree).map(String::into_bytes),
-        Task::Write(_) => write(tree).map(|table| table.to_bytes()),
+        // no tree is left while the listing goes out
+        Task::List => read_and_list(&table, &mut areas).map(String::into_bytes),
+        Task::Check => read(&table, &mut areas).map(|_| Vec::new()),
+        Task::Explain => read(&table, &mut areas).map(|_| b"accepted\n".to_vec()),
+        Task::Write(_) => read(&table, &mut areas).and_then(|tree| write(&tree)).map(|written| written.to_bytes()),
     };
     match (made, task) {
-        (Err(refusal), _) => {
-            say(&refusal.to_string());
-            refused(task)
-        }
+        (Err(refusal), Task::Explain) => put(explain(&refusal, &table).as_bytes(), REFUSED),
+        (Err(refusal), _) => not_done(task, &refusal),
+        (Ok(_), Task::Check) => ACCEPTED,
         (Ok(bytes), Task::Write(to)) if to.as_os_str() != OsStr::new("-") => match fs::write(to, bytes) {
             Ok(()) => ACCEPTED,
             Err(e) => {
@@ -199,5 +196,13 @@ fn accepted(task: &Task, tree: &Tree<'_>) -> u8 {
             }
         },
         (Ok(bytes), _) => put(&bytes, ACCEPTED),
+    }
+}
+
+// A listing of what is refused is `(refused)`.
+fn refused(task: &Task) -> u8 {
+    match task {
+        Task::List => put(b"(refused)\n", REFUSED),
+        _ => REFUSED,
     }
 }
