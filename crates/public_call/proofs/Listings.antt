@@ -77,5 +77,6 @@ module _ (events attributes source : List ℕ) (words text scratch k : ℕ) (x :
 
   pub once-unprinted : x .verdict ≡ IsRefused → listing ≡ refusedText
   once-unprinted v =
+      let q = listing-refused x (listedOnce events attributes source words text scratch k) e v in
       sym (both-calls events attributes source words text scratch k)
-      ∙ ap (λ (o : Outcome ℕ). printedFor o (onceLeft events attributes source words text scratch k)) (listing-refused x _ e v .1)
+      ∙ ap (λ (o : Outcome ℕ). printedFor o (onceLeft events attributes source words text scratch k)) (q .1)
