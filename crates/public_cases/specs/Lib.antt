@@ -1,3 +1,4 @@
 pub mod Document
 pub mod Reports
 pub mod Cases
+pub mod OneCall
