@@ -40,9 +40,10 @@ module _ (d : Document) (a : Areas) where
   no-tokens n q e = ap textBy e
 
   pub document-ends : DocumentZero d a × Tokenizes (AtByte tokenNumbers) (documentListing d a ≡ refusedText) (tokensOf d .answer)
-  document-ends =
-      (record { events = refl; attributes = refl; words = refl; text = refl; scratch = refl },
-      stops-leaving (tokenize-ends (d .source) (d .events) (d .attributes)) λ n q e z. no-tokens n q e)
+  document-ends = (
+    record { events = refl; attributes = refl; words = refl; text = refl; scratch = refl },
+    stops-leaving (tokenize-ends (d .source) (d .events) (d .attributes)) λ n q e z. no-tokens n q e,
+  )
 
   -- ---- reading and listing its table
   module _ (n k : ℕ) (e : tokensOf d .answer ≡ token.done-with n k) where

@@ -97,8 +97,15 @@ pub extern "C" fn kerzhoma_read_and_list(
     ensures scratch { λ _. ⌜ now (scratch .exit) ≡
         onceInto (now (events .entry)) (now (attributes .entry)) (now (source .entry)) (now (records .entry)) (now (text .entry)) (now (scratch .entry)) (now (out .entry)) .scratch ⌝ }
 {
-    let answer =
-        public_call::read_and_list(events, attributes, source, records, text, scratch, out);
+    let answer = public_call::read_and_list(
+        events,
+        attributes,
+        source,
+        records,
+        text,
+        scratch,
+        out,
+    );
     let verdict = answer.verdict;
     let refusal = answer.refusal;
     KListing {

@@ -47,9 +47,11 @@ pub fn list_tokens(
     out: &mut [u8],
 ) -> usize
     ensures out { λ _. ⌜ now (out .exit) ≡ laid (zeros (length (now (out .entry))))
-        (listingFor (result told (now (events .entry)) (now (attributes .entry))) (now (source .entry)) (lent (now (records .entry)) (now (text .entry)) (now (scratch .entry)) (now (out .entry)))) ⌝ }
+        (listingFor (result told (now (events .entry)) (now (attributes .entry))) (now (source .entry))
+        (lent (now (records .entry)) (now (text .entry)) (now (scratch .entry)) (now (out .entry)))) ⌝ }
     ensures count { λ r. ⌜ r ≡ min (length (now (out .entry)))
-        (length (listingFor (result told (now (events .entry)) (now (attributes .entry))) (now (source .entry)) (lent (now (records .entry)) (now (text .entry)) (now (scratch .entry)) (now (out .entry))))) ⌝ }
+        (length (listingFor (result told (now (events .entry)) (now (attributes .entry))) (now (source .entry))
+        (lent (now (records .entry)) (now (text .entry)) (now (scratch .entry)) (now (out .entry))))) ⌝ }
     ensures records { λ _. ⌜ now (records .exit) ≡ zeros (length (now (records .entry))) ⌝ }
     ensures text { λ _. ⌜ now (text .exit) ≡ zeros (length (now (text .entry))) ⌝ }
     ensures scratch { λ _. ⌜ now (scratch .exit) ≡ zeros (length (now (scratch .entry))) ⌝ }

@@ -326,7 +326,7 @@ fn one_call_gives_what_two_give() {
             }
         }
     }
-    assert!(listed > 400 && refused > 900 && short > 50, "{listed} {refused} {short}");
+    assert!(listed > 700 && refused > 1200 && short > 30, "{listed} {refused} {short}");
 }
 
 // A document's listing, or the refusal of its tokenizing or its reading, as the single calls give them.
@@ -354,7 +354,7 @@ fn documents_in_one_call() {
             Ok(table) => {
                 let table = table.as_table();
                 let want = read(&table, &mut Areas::for_table(&table)).and_then(|tree| list(&tree));
-                assert_eq!(got, want.map_err(DocumentRefusal::Report), "{document}");
+                assert_eq!(got, want.clone().map_err(DocumentRefusal::Report), "{document}");
                 match (got, want) {
                     (Ok(listing), _) => assert_eq!(printed, listing),
                     (Err(refusal), Err(why)) => {

@@ -7,85 +7,74 @@ use mathlib.Core.Path.{ap, _∙_}
 use borrow.Author.Needs.{needs}
 use Rattle.public_call.proofs.read_and_list.Statement.{statement}
 use Rattle.public_call.proofs.read_and_list.Tie as tie
-use Rattle.public_call.proofs.read_and_list.Reads as reads
-use Rattle.public_call.proofs.read_and_list.Lts as lts
-use Rattle.list_cleared.proofs.list_and_clear.Reads as list-and-clear-reads
-use Rattle.list_cleared.proofs.pass_on.Reads as pass-on-reads
-use Rattle.reader.proofs.read.Reads as read-reads
 
--- src/lib.rt:40:9
 read-requires : tie.Need-read-requires
 read-requires c κs = search needs
 
--- src/lib.rt:44:45
 enum-told : tie.Need-enum-told
 enum-told c = search needs
 
--- src/lib.rt:44:30
 list-and-clear-requires : tie.Need-list-and-clear-requires
 list-and-clear-requires c κs = search needs
 
--- src/lib.rt:45:46
 enum-told-2 : tie.Need-enum-told-2
 enum-told-2 c = search needs
 
--- src/lib.rt:45:29
 pass-on-requires : tie.Need-pass-on-requires
 pass-on-requires c κs = search needs
 
--- src/lib.rt:20:1
 same-length : tie.Need-same-length
 same-length c = search needs
 
--- src/lib.rt:20:1
 same-length-2 : tie.Need-same-length-2
 same-length-2 c = search needs
 
--- src/lib.rt:20:1
 same-length-3 : tie.Need-same-length-3
 same-length-3 c = search needs
 
--- src/lib.rt:20:1
 same-length-4 : tie.Need-same-length-4
 same-length-4 c = search needs
 
--- src/lib.rt:20:1
 returns : tie.Need-returns
-returns c = 
-    let a = c .before .before .before .before .before .before .before .before .before .before .before .before .before .before .before .before .before .before .before .before .before .before .before .before .before .before .before .before .before .before .args in
+returns c =
+    let a = c .before .before .before .before .before .before .before .before .before .before .before .before .before .before .before .before .before .before .before .before .before
+    .before .before .before .before .before .before .before .before .before .args in
     let r = c .before .before .before .before .before .before .before .before .before .before .before .before .before .before .before .before .before .before .before .read in
     let l = c .before .before .before .before .before .before .list-and-clear in
     let e = read-accepted (r .result) _ (r .ensures .0) (c .before .before .before .before .before .before .before .before .before .before .enum-told .given .1) in
     let m = length (a .records .now) in
     let n = length (a .text .now) in
     let s = length (a .scratch .now) in
-    let k = length (a .out .now) in
-    (l .ensures .1 .1 .0 ∙ ap listingFrom (once-accepted (a .events .now) (a .attributes .now) (a .source .now) m n s k _ _ e (r .ensures .1 .0) (r .ensures .1 .1 .0)),
-    (l .ensures .1 .1 .1 ∙ left-accepted (a .events .now) (a .attributes .now) (a .source .now) m n s k _ _ e (r .ensures .1 .0) (r .ensures .1 .1 .0),
-    (l .ensures .1 .0 ∙ ap zeros (r .kept .1 .1 .1 .0),
-    (l .ensures .0 ∙ ap zeros (r .kept .1 .1 .1 .1 .0),
-    r .ensures .1 .1 .1 ∙ reads-scratch (a .events .now) (a .attributes .now) (a .source .now) m n s))))
+    let k = length (a .out .now) in (
+      l .ensures .1 .1 .0 ∙ ap listingFrom (once-accepted (a .events .now) (a .attributes .now) (a .source .now) m n s k _ _ e (r .ensures .1 .0) (r .ensures .1 .1 .0)),
+      (
+        l .ensures .1 .1 .1 ∙ left-accepted (a .events .now) (a .attributes .now) (a .source .now) m n s k _ _ e (r .ensures .1 .0) (r .ensures .1 .1 .0),
+        (
+          l .ensures .1 .0 ∙ ap zeros (r .kept .1 .1 .1 .0),
+          (
+            l .ensures .0 ∙ ap zeros (r .kept .1 .1 .1 .1 .0),
+            r .ensures .1 .1 .1 ∙ reads-scratch (a .events .now) (a .attributes .now) (a .source .now) m n s,
+          ),
+        ),
+      ),
+    )
 
--- src/lib.rt:20:1
 same-length-5 : tie.Need-same-length-5
 same-length-5 c = search needs
 
--- src/lib.rt:20:1
 same-length-6 : tie.Need-same-length-6
 same-length-6 c = search needs
 
--- src/lib.rt:20:1
 same-length-7 : tie.Need-same-length-7
 same-length-7 c = search needs
 
--- src/lib.rt:20:1
 same-length-8 : tie.Need-same-length-8
 same-length-8 c = search needs
 
--- src/lib.rt:20:1
 returns-2 : tie.Need-returns-2
-returns-2 c = 
-    let a = c .before .before .before .before .before .before .before .before .before .before .before .before .before .before .before .before .before .before .before .before .before .before .before .before .args in
+returns-2 c =
+    let a = c .before .before .before .before .before .before .before .before .before .before .before .before .before .before .before .before .before .before .before .before .before
+    .before .before .before .args in
     let r = c .before .before .before .before .before .before .before .before .before .before .before .before .before .read in
     let p = c .before .before .pass-on in
     let q = read-refused (r .result) _ (r .ensures .0) (c .before .before .before .before .enum-told2 .given .1) in
@@ -93,10 +82,13 @@ returns-2 c =
     let n = length (a .text .now) in
     let s = length (a .scratch .now) in
     let k = length (a .out .now) in
-    let z = reads-refused (a .events .now) (a .attributes .now) (a .source .now) m n s (q .0) (q .1) in
-    (passed (r .result) _ (r .ensures .0) (q .0) (q .1) _ (p .ensures .0) ∙ ap listingFrom (once-refused (a .events .now) (a .attributes .now) (a .source .now) m n s k (q .0) (q .1)),
-    (p .ensures .1 ∙ left-refused (a .events .now) (a .attributes .now) (a .source .now) m n s k (q .0) (q .1),
-    (r .ensures .1 .0 ∙ z .0, (r .ensures .1 .1 .0 ∙ z .1, r .ensures .1 .1 .1 ∙ reads-scratch (a .events .now) (a .attributes .now) (a .source .now) m n s))))
+    let z = reads-refused (a .events .now) (a .attributes .now) (a .source .now) m n s (q .0) (q .1) in (
+      passed (r .result) _ (r .ensures .0) (q .0) (q .1) _ (p .ensures .0) ∙ ap listingFrom (once-refused (a .events .now) (a .attributes .now) (a .source .now) m n s k (q .0) (q .1)),
+      (
+        p .ensures .1 ∙ left-refused (a .events .now) (a .attributes .now) (a .source .now) m n s k (q .0) (q .1),
+        (r .ensures .1 .0 ∙ z .0, (r .ensures .1 .1 .0 ∙ z .1, r .ensures .1 .1 .1 ∙ reads-scratch (a .events .now) (a .attributes .now) (a .source .now) m n s)),
+      ),
+    )
 
 pub read-and-list-spec : {M : Type 1} → statement M
 read-and-list-spec =
