@@ -84,7 +84,7 @@ fn tried(records: usize, bytes: usize) -> String {
     }
 }
 
-// The stored output begins with this report, and ends with it in areas that just suffice, and in shorter ones.
+// The stored output begins with this report, and has it again in areas that just suffice, and in shorter ones.
 #[test]
 fn the_example_is_built() {
     let mut areas = Areas::new(64, 2048, 0);
@@ -93,8 +93,8 @@ fn the_example_is_built() {
     let stored = String::from_utf8_lossy(&stored);
     let begins = format!("{records} records, {bytes} bytes\n") + &listed(&tree).unwrap() + &events_of(&write(&tree).unwrap());
     same(&stored[..begins.len()], &begins);
-    let ends = tried(records, bytes) + &tried(records - 1, bytes) + &tried(records, bytes - 1);
-    same(&stored[stored.len() - ends.len()..], &ends);
+    let again = tried(records, bytes) + &tried(records - 1, bytes) + &tried(records, bytes - 1);
+    assert!(stored[begins.len()..].contains(&again), "{again}");
 }
 
 // All calls behind a refusal are refused, and nothing of the report is left.
