@@ -13,7 +13,7 @@
  *     kerzhoma_list_xml every result area but `out` is zero whatever they come to: nothing but the listing is left.
  *   - Areas may be longer than the limits; only that much is used.
  *   - Any number of threads may call at the same time, each with areas of its own.
- * Records, texts and explanations hold private text; listings don't. The source stays with the caller, as it was. */
+ * Records, texts, scratch and explanations hold private text, and so does the source, which stays with the caller; listings don't. */
 #ifndef KERZHOMA_H
 #define KERZHOMA_H
 
