@@ -18,6 +18,7 @@ use xml_ends::refused;
 use xml_moves::move_at;
 use xml_put::act_on;
 use xml_skip::ahead;
+use xml_skip::pass_name;
 use xml_state::Step;
 use xml_state::Tokenized;
 
@@ -49,6 +50,7 @@ fn run_with(
                 match act_on(st, m, b, i as u32, source, events, attributes) {
                     Step::Go(s) => {
                         st = s;
+                        at = pass_name(source, at, s);
                     }
                     Step::Full => return Tokenized::Refused(16, NOWHERE),
                     Step::Bad => return refused(st, i as u32, source, events.len()),

@@ -1,3 +1,4 @@
 pub mod Loose
+pub mod Naming
 pub mod Passing
 pub mod Widths

@@ -4,9 +4,13 @@ ghost use Prim.Native.Nat.{_+_, _≤_, _<_};
 ghost use lib.ListN.{length, getD};
 ghost use Rattle.xml_state.specs.inside.Tables.{classTable, nextTable, actTable};
 ghost use Rattle.xml_state.specs.inside.Rows.{moveOf};
-ghost use Rattle.xml_skip.specs.inside.Passes.{Passes, loose, Wide, twoBytes, threeBytes, fourBytes};
+ghost use Rattle.xml_skip.specs.inside.Passes.{Passes, Keeps, loose, Wide, twoBytes, threeBytes, fourBytes};
+use area::wide;
+use xml_checks::byte_at;
+use xml_checks::less;
 use xml_moves::move_at;
 use xml_state::Move;
+use xml_state::State;
 use xml_state::mode;
 
 // Modes in which any character beyond ASCII may stand, and leaves the mode as it is.
@@ -138,4 +142,26 @@ pub fn ahead(
         return from;
     }
     skip(source, from + w, mode, classes, nexts, acts)
+}
+
+// The place behind the letters of an end tag's name from `from` on, but for its last: the registers stay as they are until then.
+pub fn pass_name(source: &[u8], from: usize, st: State) -> usize
+    requires { ⌜ length (now source) ≤ 16777216 ⌝ }
+    ensures { λ r. ⌜ (from ≤ r) × Keeps (now (source .entry)) st from r ⌝ }
+{
+    if st.mode != b'w' {
+        return from;
+    }
+    let mut at = from;
+    while at < source.len() {
+        let k = less(at as u32, st.mark);
+        if wide(st.long) <= wide(k) + 1 {
+            return at;
+        }
+        if source[at] != byte_at(source, wide(st.name) + wide(k)) {
+            return at;
+        }
+        at += 1;
+    }
+    at
 }

@@ -4,6 +4,7 @@ use mathlib.Core.Path.{_∙_}
 use native.Mathlib.Omega.{arith}
 use lib.ListN.{length}
 use Rattle.xml_skip.proofs.Passing.{passed}
+use Rattle.xml_skip.proofs.Naming.{kept}
 use Rattle.xml_records.specs.inside.Loop.{At}
 use Rattle.xml_records.proofs.Loop.{at-start, mode-here, over, stay-on, go-on, full-out, bad-out, whole}
 use Rattle.xml_agree.proofs.Whole.{agrees}
@@ -67,20 +68,25 @@ act-on-requires c κs =
 enum-known-s : tie.Need-enum-known-s Inv-loop μ-loop
 enum-known-s c = search needs
 
+pass-name-requires : tie.Need-pass-name-requires Inv-loop μ-loop
+pass-name-requires c κs =
+    let loop = c .before .before .before .before .before .before .before .before .before .before .before .before .before .before .before .before .before .loop in
+    loop .inv .short
+
 loop-less-2 : tie.Need-loop-less-2 Inv-loop μ-loop
 loop-less-2 c =
-    let loop-test = c .before .before .before .before .before .before .before .before .before .before .before .before .before .before .before .before .loop-test in
-    omega (arith, loop-test .taken)
+    let loop-test = c .before .before .before .before .before .before .before .before .before .before .before .before .before .before .before .before .before .loop-test in
+    omega (arith, loop-test .taken, c .pass-name .ensures .0)
 
 loop-again-2 : tie.Need-loop-again-2 Inv-loop μ-loop
 loop-again-2 c =
-    let loop-test = c .before .before .before .before .before .before .before .before .before .before .before .before .before .before .before .before .loop-test in
-    let move-at = c .before .before .before .before .before .before .before .before .before .before .before .before .before .before .move-at in
-    let if2 = c .before .before .before .before .before .before .before .before .before .before .if2 in
-    let inv = c .before .before .before .before .before .before .before .before .before .before .before .before .before .before .before .before .before .loop .inv in
-    let act-on = c .before .before .before .before .before .before .before .act-on in
-    go-on inv (agrees (loop-test .taken) (inv .stands .rep)) (loop-test .taken) _ (move-at .ensures) (if2 .left)
-    _ _ _ (act-on .ensures) (act-on .kept .1 .1 .1 .1 .1 .0) (act-on .kept .1 .1 .1 .1 .1 .1 .0) _ (c .before .s .given .1)
+    let loop-test = c .before .before .before .before .before .before .before .before .before .before .before .before .before .before .before .before .before .loop-test in
+    let move-at = c .before .before .before .before .before .before .before .before .before .before .before .before .before .before .before .move-at in
+    let if2 = c .before .before .before .before .before .before .before .before .before .before .before .if2 in
+    let inv = c .before .before .before .before .before .before .before .before .before .before .before .before .before .before .before .before .before .before .loop .inv in
+    let act-on = c .before .before .before .before .before .before .before .before .act-on in
+    kept (c .pass-name .ensures .1) (go-on inv (agrees (loop-test .taken) (inv .stands .rep)) (loop-test .taken) _ (move-at .ensures) (if2 .left)
+    _ _ _ (act-on .ensures) (act-on .kept .1 .1 .1 .1 .1 .0) (act-on .kept .1 .1 .1 .1 .1 .1 .0) _ (c .before .before .s .given .1))
 
 enum-told : tie.Need-enum-told Inv-loop μ-loop
 enum-told c = search needs
@@ -191,6 +197,7 @@ run-with-spec =
     cast-act-on
     act-on-requires
     enum-known-s
+    pass-name-requires
     loop-less-2
     loop-again-2
     enum-told

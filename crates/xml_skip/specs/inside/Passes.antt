@@ -13,6 +13,10 @@ abbrev pub Passes : List ℕ → ℕ → ℕ → ℕ → Type 0
 Passes src mode start end =
     (words wide : ℕ) (st : Registers) (events attributes : List ℕ) → st .mode ≡ mode → At src words wide start st events attributes → At src words wide end st events attributes
 
+-- with these registers, what stands behind `start` bytes stands behind `end` bytes too, areas alike
+abbrev pub Keeps : List ℕ → Registers → ℕ → ℕ → Type 0
+Keeps src st start end = (words wide : ℕ) (events attributes : List ℕ) → At src words wide start st events attributes → At src words wide end st events attributes
+
 -- modes in which any character beyond ASCII may stand, and leaves the mode as it is
 abbrev pub loose : ℕ → Bool
 loose m = eqb m row.textIn || (eqb m row.valueD || (eqb m row.valueS || (eqb m row.cdata || (eqb m row.comment || eqb m row.piData))))
