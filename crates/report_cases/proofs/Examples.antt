@@ -16,15 +16,16 @@ use Rattle.integer.specs.Integer.{unsigned}
 use Rattle.time.specs.Time.{makeTime}
 use Rattle.calendar.specs.Calendar.{isLeap, monthLength}
 use Rattle.timestamp.specs.Timestamp as stamp
+use Rattle.timestamp.specs.declared.Moment.{Moment}
 use Rattle.uuid.specs.Uuid.{isUuid, uuidOf}
 use Rattle.reference.specs.Reference as reference
-use Rattle.refusal.specs.Refusal.{Outcome, accepted, refused}
+use Rattle.refusal.specs.Refusal.{nowhere, Outcome, accepted, refused}
 use Rattle.refusal.specs.declared.Cause.{Cause}
 use Rattle.refusal.specs.declared.PathElement.{PathElement}
 use Rattle.refusal.specs.declared.Cause.the-variants as cause
-use Rattle.table.specs.Event.{Attribute, Start, Empty, End, Text as Chars, Event, Tag, Piece}
+use Rattle.table.specs.Event.{Attribute, Start, Empty, End, Text as Chars, Event, Tag, Piece, Fault}
 use Rattle.tree_status.specs.Status.{tallied, ruled}
-use Rattle.tree_report.specs.Report.{Text, Pair, Counts, NonSuccessKind, failure, error, flaky, rerun, TestRerun, Reason}
+use Rattle.tree_report.specs.Report.{Text, Duration, Pair, Counts, NonSuccessKind, failure, error, flaky, rerun, TestRerun, Reason}
 use Rattle.tree_report.specs.Report.{TestCaseStatus, success, nonSuccess, skipped, TestCase, TestSuite, Report}
 use Rattle.read_element.specs.Outcome as outcome
 use Rattle.read_element.specs.Outcome.{Rooms, unlimited}
@@ -94,11 +95,13 @@ abbrev runOf : NonSuccessKind → TestRerun
 runOf k =
     record { kind = k; timestamp = none; time = none; message = none; type = none; stackTrace = none; systemOut = none; systemErr = none; description = none }
 
--- ---- what an example says: the report that events give, or the cause that they are refused with, if any, or the key that the refusal's path ends in
+-- ---- what an example says: the report that events give, or the cause that they are refused with, if any, or the key or index that the refusal's path
+-- ends in, or the event and attribute that the refusal names
 data Case : Type 0 where
   gives : List Event → Report → Case
   tells : Rooms → List Event → Option Cause → Case
   names : List Event → ℕ → Case
+  points : List Event → ℕ → ℕ → Case
 
 abbrev suiteGives : List Event → TestSuite → Case
 suiteGives es s = gives es (reportWith (s ∷ []))
@@ -122,10 +125,15 @@ abbrev lastOf : Outcome Report → ℕ
 lastOf (accepted r) = 0
 lastOf (refused r) = lastIndex (r .path)
 
+abbrev placeOf : Outcome Report → ℕ × ℕ
+placeOf (accepted r) = (0, 0)
+placeOf (refused r) = (r .event, r .attribute)
+
 abbrev Holds : Case → Type 0
 Holds (gives es r) = deserialize es ≡ accepted r
 Holds (tells rooms es c) = why (deserializeIn rooms es) ≡ c
 Holds (names es k) = lastOf (deserialize es) ≡ k
+Holds (points es e a) = placeOf (deserialize es) ≡ (e, a)
 
 data All : List Case → Type 0 where
   none-left : All []
@@ -396,12 +404,185 @@ output-room = tells (record { records = some 3; text = some 2; scratch = some 9 
 abbrev name-first : Case
 name-first = names (inSuite (holding (bytes "properties") [] (alone (bytes "property") [] ∷ []))) key.name
 
+-- ---- nothing is lost on the way
+abbrev stamp-text : List ℕ
+stamp-text = bytes "2024-02-29T01:02:03Z"
+
+abbrev moment : Moment
+moment = record { year = 2024; month = 2; day = 29; hour = 1; minute = 2; second = 3; nanos = 0; offset = 1439 }
+
+abbrev times : List Attribute
+times = attribute (bytes "timestamp") stamp-text ∷ attribute (bytes "time") (bytes "2") ∷ []
+
+abbrev twoSeconds : Duration
+twoSeconds = record { seconds = 2; nanos = 0 }
+
+-- a report keeps its attributes when suites come (rules A5 and R5)
+abbrev whole-report : Case
+whole-report = gives (holding (bytes "testsuites") (name (bytes "r") ∷ attribute (bytes "uuid") (bytes "00000001-0002-0003-0004-000000000005") ∷ attribute (bytes "tests") (bytes "1") ∷ times)
+    (alone (bytes "testsuite") (name (bytes "s") ∷ []) ∷ []))
+    (record {
+      name = some (bytes "r");
+      uuid = some (record { a = 1; b = 131075; c = 262144; d = 5 });
+      timestamp = some moment;
+      time = some twoSeconds;
+      counts = record { tests = 1; failures = 0; errors = 0; skipped = 0; disabled = none };
+      suites = suiteWith [] [] none none [] ∷ [];
+    })
+
+-- a suite keeps its attributes, its list, outputs and cases, whichever of them comes next; a `uuid` is an extra there (rules A5, A7, R10, R13 and R17)
+abbrev whole-suite : Case
+whole-suite = suiteGives (inReport (holding (bytes "testsuite")
+    (name (bytes "s") ∷ attribute (bytes "tests") (bytes "1") ∷ attribute (bytes "failures") (bytes "2") ∷ attribute (bytes "errors") (bytes "3") ∷ attribute (bytes "skipped") (bytes "4")
+    ∷ attribute (bytes "disabled") (bytes "5") ∷ attribute (bytes "uuid") (bytes "u") ∷ times)
+    (holding (bytes "properties") [] (property (bytes "a") (bytes "1") ∷ []) ++ texted (bytes "system-out") (bytes "x") ++ texted (bytes "system-err") (bytes "y")
+    ++ (alone (bytes "testcase") (name (bytes "c") ∷ []) ∷ holding (bytes "testcase") (name (bytes "c") ∷ []) (alone (bytes "skipped") [] ∷ [])))))
+    (record {
+      name = bytes "s";
+      counts = record { tests = 1; failures = 2; errors = 3; skipped = 4; disabled = some 5 };
+      timestamp = some moment;
+      time = some twoSeconds;
+      cases = caseWith (success []) [] none none ∷ caseWith (skipped bare) [] none none ∷ [];
+      properties = pair (bytes "a") (bytes "1") ∷ [];
+      systemOut = some (bytes "x");
+      systemErr = some (bytes "y");
+      extra = pair (bytes "uuid") (bytes "u") ∷ [];
+    })
+
+abbrev late-suite-parts : Case
+late-suite-parts = suiteGives (inSuite (alone (bytes "testcase") (name (bytes "c") ∷ []) ∷ texted (bytes "system-err") (bytes "y")
+    ++ holding (bytes "properties") [] (property (bytes "a") (bytes "1") ∷ []) ++ texted (bytes "system-out") (bytes "x")))
+    (suiteWith (caseWith (success []) [] none none ∷ []) (pair (bytes "a") (bytes "1") ∷ []) (some (bytes "x")) (some (bytes "y")) [])
+
+-- so does a case, with its status elements; `tests` is an extra there, and a list may hold a key twice (rules A5, A7, R13, R16 and S10)
+abbrev whole-case : Case
+whole-case = suiteGives (inSuite (holding (bytes "testcase")
+    (name (bytes "c") ∷ attribute (bytes "classname") (bytes "k") ∷ attribute (bytes "assertions") (bytes "7") ∷ attribute (bytes "tests") (bytes "q") ∷ times)
+    (alone (bytes "flakyFailure") [] ∷ texted (bytes "system-err") (bytes "y") ++ holding (bytes "properties") [] (property (bytes "a") (bytes "1") ∷ property (bytes "a") (bytes "2") ∷ [])
+    ++ texted (bytes "system-out") (bytes "x"))))
+    (suiteWith (record {
+      name = bytes "c";
+      classname = some (bytes "k");
+      assertions = some 7;
+      timestamp = some moment;
+      time = some twoSeconds;
+      status = success (runOf failure ∷ []);
+      systemOut = some (bytes "x");
+      systemErr = some (bytes "y");
+      extra = pair (bytes "tests") (bytes "q") ∷ [];
+      properties = pair (bytes "a") (bytes "1") ∷ pair (bytes "a") (bytes "2") ∷ [];
+    } ∷ []) [] none none [])
+
+-- a run keeps its attributes when texts come (rules A6 and S3)
+abbrev whole-run : Case
+whole-run = statusGives (holding (bytes "flakyFailure") (attribute (bytes "message") (bytes "m") ∷ attribute (bytes "type") (bytes "t") ∷ times)
+    (Piece Chars (bytes "a") ∷ Piece Chars (bytes "b") ∷ texted (bytes "stackTrace") (bytes "s")))
+    (success (record {
+      kind = failure;
+      timestamp = some moment;
+      time = some twoSeconds;
+      message = some (bytes "m");
+      type = some (bytes "t");
+      stackTrace = some (bytes "s");
+      systemOut = none;
+      systemErr = none;
+      description = some (bytes "ab");
+    } ∷ []))
+
+-- a main keeps message and type beside its description, and its output is no description (rules A6, S3 and S12)
+abbrev whole-main : Case
+whole-main = statusGives (holding (bytes "error") (attribute (bytes "message") (bytes "m") ∷ attribute (bytes "type") (bytes "t") ∷ []) (Piece Chars (bytes "d") ∷ []))
+    (nonSuccess error (record { message = some (bytes "m"); type = some (bytes "t"); description = some (bytes "d") }) rerun [])
+
+abbrev main-output : Case
+main-output = statusGives (holding (bytes "error") [] (texted (bytes "system-out") (bytes "o"))) (nonSuccess error bare rerun [])
+
+-- a run behind its main has its own family (rule S11)
+abbrev main-first : Case
+main-first = statusGives (alone (bytes "failure") [] ∷ alone (bytes "flakyError") [] ∷ []) (nonSuccess failure bare flaky (runOf error ∷ []))
+
+-- a description that the filter alone empties is there (rule X11)
+abbrev filtered-description : Case
+filtered-description = statusGives (holding (bytes "failure") [] (Piece Chars (1 ∷ []) ∷ [])) (nonSuccess failure (record { message = none; type = none; description = some [] }) rerun [])
+
+-- ---- more of values, room and order
+abbrev bad-report-timestamp : Case
+bad-report-timestamp = tells unlimited (holding (bytes "testsuites") (attribute (bytes "timestamp") (bytes "x") ∷ []) []) (some cause.BadTimestamp)
+
+abbrev bad-report-time : Case
+bad-report-time = tells unlimited (holding (bytes "testsuites") (attribute (bytes "time") (bytes "x") ∷ []) []) (some cause.BadTime)
+
+abbrev bad-key : Case
+bad-key = tells unlimited (inSuite (holding (bytes "properties") [] (property (255 ∷ []) [] ∷ []))) (some cause.NotUtf8)
+
+abbrev bad-message : Case
+bad-message = tells unlimited (inCase (alone (bytes "failure") (attribute (bytes "message") (255 ∷ []) ∷ []) ∷ [])) (some cause.NotUtf8)
+
+-- a status element has no name (rule A6)
+abbrev named-status : Case
+named-status = tells unlimited (inCase (alone (bytes "failure") (name (255 ∷ []) ∷ []) ∷ [])) none
+
+-- of an extra the key is tested first (rule A9), and its path has no Attribute
+abbrev key-first : Case
+key-first = tells unlimited (inReport (alone (bytes "testsuite") (name (bytes "s") ∷ attribute (bytes "&x;") (255 ∷ []) ∷ []) ∷ [])) (some cause.BadReference)
+
+abbrev extra-path : Case
+extra-path = names (inReport (alone (bytes "testsuite") (name (bytes "s") ∷ []) ∷ alone (bytes "testsuite") (name (bytes "s") ∷ attribute (bytes "x") (255 ∷ []) ∷ []) ∷ [])) 1
+
+-- a key is repeated wherever it stood before (rule A3); an extra that isn't the first is found, too (rule A8)
+abbrev repeated-later : Case
+repeated-later = tells unlimited (holding (bytes "testsuites") (attribute (bytes "x") [] ∷ attribute (bytes "y") [] ∷ attribute (bytes "x") [] ∷ []) []) (some cause.RepeatedKey)
+
+abbrev second-extra : Case
+second-extra = tells (record { records = some 4; text = some 9; scratch = some 0 }) (inReport (alone (bytes "testsuite")
+    (name (bytes "s") ∷ attribute (bytes "x") (bytes "1") ∷ attribute (bytes "y") (bytes "2") ∷ attribute (bytes "&#121;") (bytes "3") ∷ []) ∷ [])) none
+
+-- a text takes the room of its decoded bytes (rule M4), a description takes room, too
+abbrev decoded-room : Case
+decoded-room = tells (record { records = some 1; text = some 1; scratch = some 0 }) (holding (bytes "testsuites") (name (bytes "&lt;") ∷ []) []) none
+
+abbrev description-room : Case
+description-room = tells (record { records = some 4; text = some 2; scratch = some 9 }) (inCase (texted (bytes "failure") (bytes "d"))) (some cause.TextFull)
+
+-- pieces of one text share scratch, which an ended description gives back (rule M6)
+abbrev pieces-shared : Case
+pieces-shared = tells (record { records = some 9; text = some 9; scratch = some 2 })
+    (inCase (holding (bytes "system-out") [] (Piece Chars (bytes "ab") ∷ Piece Chars (bytes "c") ∷ []))) (some cause.ScratchFull)
+
+abbrev scratch-back : Case
+scratch-back = tells (record { records = some 9; text = some 9; scratch = some 2 }) (inCase (texted (bytes "flakyError") (bytes "  ") ++ texted (bytes "flakyError") (bytes "  "))) none
+
+-- a faulty attribute's number and, behind a text, an event's (rule F4)
+abbrev faulty-second : Case
+faulty-second = points (holding (bytes "testsuites") (attribute (bytes "x") [] ∷ record { good = false; key = bytes "y"; value = [] } ∷ []) []) 0 1
+
+abbrev behind-text : Case
+behind-text = points (inReport (Piece Chars (bytes "t") ∷ alone (bytes "testsuite") [] ∷ [])) 2 nowhere
+
+-- ---- outside elements
+-- text that no element gathers isn't looked at, and is nobody's (rule R20)
+abbrev text-outside : Case
+text-outside = statusGives (Piece Chars (255 ∷ []) ∷ texted (bytes "failure") (bytes "d")) (nonSuccess failure (record { message = none; type = none; description = some (bytes "d") }) rerun [])
+
+-- a report that isn't closed is refused at the end (rule R8); a Fault is refused also behind a closed one (rules R4 and R19)
+abbrev unclosed : Case
+unclosed = tells unlimited (opens (bytes "testsuites") [] ∷ []) (some cause.EofInElement)
+
+abbrev closed : Case
+closed = tells unlimited (alone (bytes "testsuites") [] ∷ []) none
+
+abbrev fault-behind : Case
+fault-behind = tells unlimited (alone (bytes "testsuites") [] ∷ Fault ∷ []) (some cause.XmlFault)
+
 -- ---- each holds
 abbrev examples : List Case
 examples = list-replaced ∷ empty-list-replaces ∷ case-list ∷ outputs-replaced ∷ case-outputs ∷ pieces-joined ∷ second-report ∷ later-suite ∷ flaky-runs ∷ flaky-error ∷ reruns ∷ no-runs
     ∷ skipped-case ∷ two-mains ∷ next-case ∷ run-texts ∷ main-texts ∷ blank-description ∷ extra-replaced ∷ case-extra ∷ no-extra ∷ report-attributes ∷ report-uuid ∷ case-attributes
     ∷ unnamed-suite ∷ unnamed-case ∷ mark-first ∷ repeated ∷ bad-time ∷ room-kept ∷ room-enough ∷ replaced-extra-room ∷ extra-room ∷ scratch-shared ∷ bad-disabled ∷ bad-assertions ∷ bad-value
-    ∷ bad-type ∷ bad-timestamp ∷ bad-extra ∷ bad-extra-key ∷ decoded ∷ no-value ∷ status-extra ∷ extra-record ∷ record-first ∷ run-moment ∷ suites-in-order ∷ output-room ∷ name-first ∷ []
+    ∷ bad-type ∷ bad-timestamp ∷ bad-extra ∷ bad-extra-key ∷ decoded ∷ no-value ∷ status-extra ∷ extra-record ∷ record-first ∷ run-moment ∷ suites-in-order ∷ output-room ∷ name-first
+    ∷ whole-report ∷ whole-suite ∷ late-suite-parts ∷ whole-case ∷ whole-run ∷ whole-main ∷ main-output ∷ main-first ∷ filtered-description ∷ bad-report-timestamp
+    ∷ bad-report-time ∷ bad-key ∷ bad-message ∷ named-status ∷ key-first ∷ extra-path ∷ repeated-later ∷ second-extra ∷ decoded-room ∷ description-room
+    ∷ pieces-shared ∷ scratch-back ∷ faulty-second ∷ behind-text ∷ text-outside ∷ unclosed ∷ closed ∷ fault-behind ∷ []
 
 examples-hold : All examples
 unfolding utf8.need utf8.low utf8.high codeFrom sameBytes keys tags
@@ -411,10 +592,12 @@ unfolding utf8.need utf8.low utf8.high codeFrom sameBytes keys tags
     reference.base reference.digitsIn reference.number reference.xmlChar chars.encode tallied ruled
     outcome._>>=_ outcome.there outcome.need outcome.fits
     rules.outputs rules.emptied rules.atTop rules.atSuite rules.atCase rules.child rules.atStatus rules.inText
-    rules.inList rules.inSkip rules.planAt rules.planEof control.gathers control.turn marksAfter
+    rules.inList rules.inSkip rules.planAt rules.planEof rules.planFault control.gathers control.turn marksAfter
     content.pieceOf read.attributes read.completed read.element read.perform read.gather read.act read.step read.steps deserializeIn deserialize
 examples-hold =
     one refl (one refl (one refl (one refl (one refl (one refl (one refl (one refl (one refl (one refl (one refl (one refl (one refl (one refl (one refl (one refl
     (one refl (one refl (one refl (one refl (one refl (one refl (one refl (one refl (one refl (one refl (one refl (one refl (one refl (one refl (one refl (one refl
     (one refl (one refl (one refl (one refl (one refl (one refl (one refl (one refl (one refl (one refl (one refl (one refl (one refl (one refl (one refl (one refl
-    (one refl (one refl none-left)))))))))))))))))))))))))))))))))))))))))))))))))
+    (one refl (one refl (one refl (one refl (one refl (one refl (one refl (one refl (one refl (one refl (one refl (one refl (one refl (one refl (one refl (one refl
+    (one refl (one refl (one refl (one refl (one refl (one refl (one refl (one refl (one refl
+    (one refl (one refl (one refl (one refl (one refl none-left)))))))))))))))))))))))))))))))))))))))))))))))))))))))))))))))))))))))))))))
