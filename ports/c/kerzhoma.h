@@ -91,7 +91,9 @@ enum kerzhoma_refused {
     KERZHOMA_REFUSED_XML = 18,       /* the document isn't well-formed XML */
     KERZHOMA_REFUSED_DOCTYPE = 19,   /* a document type declaration */
     KERZHOMA_REFUSED_STATUS = 20,    /* a case's status elements don't go together */
-    KERZHOMA_REFUSED_NAME = 21       /* the name of a Ref in gathered text is unknown */
+    KERZHOMA_REFUSED_NAME = 21,      /* the name of a Ref in gathered text is unknown */
+    KERZHOMA_REFUSED_CASES = 23,     /* more than 4,096 cases are ordered */
+    KERZHOMA_REFUSED_ORDER = 24      /* failures, errors, skipped and flaky together exceed the cases that are ordered */
 };
 
 enum kerzhoma_cause {
@@ -116,7 +118,9 @@ enum kerzhoma_cause {
     KERZHOMA_CAUSE_SCRATCH_FULL = 19,     /* 14 */
     KERZHOMA_CAUSE_NOT_LAYOUT = 20,       /* 15 */
     KERZHOMA_CAUSE_OUTPUT_FULL = 21,      /* 16 */
-    KERZHOMA_CAUSE_COUNT_LIMIT = 22       /* 17 */
+    KERZHOMA_CAUSE_COUNT_LIMIT = 22,      /* 17 */
+    KERZHOMA_CAUSE_TOO_MANY_CASES = 23,   /* 23 */
+    KERZHOMA_CAUSE_NO_SUCH_REPORT = 24    /* 24 */
 };
 
 /* Kinds of path elements. Index and event are KERZHOMA_NONE but where a comment says otherwise. */
@@ -257,7 +261,7 @@ size_t kerzhoma_list_xml(
 
 /* ---- writing ---- */
 
-/* How many events, attributes and bytes were put (five words for each event and attribute); all 0 where the call refuses (15, 16). */
+/* How many events, attributes and bytes were put (five words for each event and attribute); all 0 where the call refuses. */
 typedef struct kerzhoma_writing {
     size_t events;
     size_t attributes;
@@ -265,10 +269,20 @@ typedef struct kerzhoma_writing {
     kerzhoma_refusal refusal;
 } kerzhoma_writing;
 
-/* Puts the table that a report is written as at the front of the last three areas, and zeros behind it. */
+/* Puts the table that a report is written as at the front of the last three areas, and zeros behind it (15, 16). */
 kerzhoma_writing kerzhoma_write(
     const uint32_t *records, size_t records_length,
     const uint8_t *text, size_t text_length,
+    uint32_t *events, size_t events_length,
+    uint32_t *attributes, size_t attributes_length,
+    uint8_t *bytes, size_t bytes_length);
+
+/* A report to order: puts the table of a report with these numbers at the front of the three areas, and zeros behind it. Its one suite has `cases` cases
+ * named case0, case1, ..: so many failures, errors and skipped ones, then those that passed with one flaky failure, then those that just passed. 23
+ * where there are more than 4,096 cases, then 24 where the four kinds together exceed them, then 16. Room for 7 events and 4 more a case, 10 attributes
+ * and 1 more a case, and 400 bytes and 68 more a case is always enough. */
+kerzhoma_writing kerzhoma_rehearse(
+    uint64_t cases, uint64_t failures, uint64_t errors, uint64_t skipped, uint64_t flaky,
     uint32_t *events, size_t events_length,
     uint32_t *attributes, size_t attributes_length,
     uint8_t *bytes, size_t bytes_length);

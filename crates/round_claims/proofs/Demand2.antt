@@ -216,7 +216,7 @@ module _ (r : Report) (p : plain r ≡ true) (s : sound r ≡ true) (n : length 
   limits-room : (output : ℕ) → Roomy r (limits output .words) (limits output .text) (limits output .scratch)
   limits-room output = let l = own-bytes r p in record { records = omega arith; texts = omega arith; pieces = omega arith }
 
-  own-answer : (output : ℕ) → answerTo (ownTable r) (limits output) ≡ accepted r
+  pub own-answer : (output : ℕ) → answerTo (ownTable r) (limits output) ≡ accepted r
   own-answer output = answers-with (ownTable r) (limits output) r (own-accepted r s p (limits-room output)) (own-given r s p)
 
   back : (words text : List ℕ) → Holds r words text → Back words text r
@@ -230,7 +230,7 @@ module _ (r : Report) (p : plain r ≡ true) (s : sound r ≡ true) (n : length 
       }
 
   -- ---- F
-  own-listing : (output : ℕ) → length (render r) ≤ output → listing (ownTable r) (limits output) ≡ render r
+  pub own-listing : (output : ℕ) → length (render r) ≤ output → listing (ownTable r) (limits output) ≡ render r
   own-listing output h =
       ap (λ (o : Outcome Report). printed (listedIn output o)) (own-answer output)
       ∙ ap (λ (b : Bool). printed (cond b (accepted (render r)) (refused (late OutputFull)))) (le-leb (length (render r)) output h)

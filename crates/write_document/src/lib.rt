@@ -49,7 +49,7 @@ fn put_head(
 }
 
 // The report's End, Eof and Indent (rule W7).
-fn put_tail(events: &mut [u32], bytes: &mut [u8], k: Marks) -> Marks
+pub fn put_tail(events: &mut [u32], bytes: &mut [u8], k: Marks) -> Marks
     ensures { λ m. ⌜ ((at : List ℕ) → Wrote (kept k (now (events .entry)) at (now (bytes .entry))) tailItems (kept m (now (events .exit)) at (now (bytes .exit)))) ⌝ }
 {
     let closed = put_tag(events, bytes, k, END, tag::TESTSUITES as u8, 0);

@@ -28,7 +28,7 @@ pub struct Writing {
     pub refusal: Refusal,
 }
 
-fn refuse(cause: Cause) -> Writing
+pub fn refuse(cause: Cause) -> Writing
     ensures { λ r. ⌜ r ≡ writingFrom (refused (late cause)) ⌝ }
 {
     Writing {

@@ -1,4 +1,4 @@
-//! Reading, listing, writing and explaining.
+//! Reading, listing, writing, ordering and explaining.
 #![forbid(unsafe_code)]
 
 use crate::limits::{self, ENTRY};
@@ -166,14 +166,19 @@ pub fn write(tree: &Tree<'_>) -> Result<TableBuf, Refusal> {
         source: vec![0; within(bounds.bytes, limits::BYTES)],
     };
     let table = write_into(tree, &mut made.events, &mut made.attributes, &mut made.source)?;
-    let (events, attributes, bytes) = (table.events.len(), table.attributes.len(), table.source.len());
+    let used = [table.events.len(), table.attributes.len(), table.source.len()];
+    Ok(front_of(made, used))
+}
+
+// The parts of a table's areas that are in use.
+fn front_of(mut made: TableBuf, [events, attributes, bytes]: [usize; 3]) -> TableBuf {
     made.events.truncate(events);
     made.attributes.truncate(attributes);
     made.source.truncate(bytes);
     made.events.shrink_to_fit();
     made.attributes.shrink_to_fit();
     made.source.shrink_to_fit();
-    Ok(made)
+    made
 }
 
 /// The same into three areas: words of events, words of attributes, bytes.
@@ -185,6 +190,13 @@ pub fn write_into<'o>(
     tree: &Tree<'_>, events: &'o mut [u32], attributes: &'o mut [u32], bytes: &'o mut [u8],
 ) -> Result<Table<'o>, Refusal> {
     let writing = sys::write(tree.records(), tree.text().as_bytes(), events, attributes, bytes);
+    written(writing, events, attributes, bytes)
+}
+
+// The table that was put into three areas, or why there is none.
+fn written<'o>(
+    writing: sys::Writing, events: &'o [u32], attributes: &'o [u32], bytes: &'o [u8],
+) -> Result<Table<'o>, Refusal> {
     // where one of them is as long as the limits, these may be too short
     let most = events.len() >= limits::EVENTS * ENTRY || attributes.len() >= limits::ATTRIBUTES * ENTRY;
     let out = if most { limits::BYTES } else { bytes.len() };
@@ -193,6 +205,61 @@ pub fn write_into<'o>(
     let (m, n) = (front(writing.events * ENTRY, events.len()), front(writing.attributes * ENTRY, attributes.len()));
     let k = front(writing.bytes, bytes.len());
     Ok(Table::new(&events[..m], &attributes[..n], &bytes[..k]))
+}
+
+/// What a report to order has: so many cases, and of them failures, errors, skipped ones, and such as passed with one flaky failure; the
+/// others just passed.
+#[derive(Clone, Copy, Debug, Default, PartialEq, Eq, Hash)]
+pub struct Order {
+    pub cases: u64,
+    pub failures: u64,
+    pub errors: u64,
+    pub skipped: u64,
+    pub flaky: u64,
+}
+
+/// The table of a report with just these numbers, to rehearse with.
+///
+/// Report and suite are named `rehearsal`, the cases `case0`, `case1` and so on: failures first, then errors, skipped, flaky, plain.
+///
+/// # Errors
+///
+/// 23 where there are more than 4,096 cases, and then 24 where the four kinds together exceed the cases, so that no report has such
+/// numbers.
+///
+/// ```
+/// use kerzhoma::{public_listing, rehearse, Areas, Order};
+///
+/// let table = rehearse(&Order { cases: 2, failures: 1, flaky: 1, ..Order::default() })?;
+/// let mut areas = Areas::for_table(&table.as_table());
+/// assert_eq!(
+///     public_listing(&table.as_table(), &mut areas),
+///     "(report \"rehearsal\" 2 1 0 0 -\n(suite \"rehearsal\" 2 1 0 0 -\n(case \"case0\" - - failure rerun 0)\n\
+///      (case \"case1\" - - success flaky 1\n(run failure -))))\n"
+/// );
+/// assert_eq!(rehearse(&Order { cases: 1, failures: 2, ..Order::default() }).unwrap_err().number(), 24);
+/// # Ok::<(), kerzhoma::Refusal>(())
+/// ```
+pub fn rehearse(order: &Order) -> Result<TableBuf, Refusal> {
+    let cases = order.cases.min(limits::CASES) as usize;
+    let mut made =
+        TableBuf { events: vec![0; (7 + 4 * cases) * ENTRY], attributes: vec![0; (10 + cases) * ENTRY], source: vec![0; 400 + 68 * cases] };
+    let table = rehearse_into(order, &mut made.events, &mut made.attributes, &mut made.source)?;
+    let used = [table.events.len(), table.attributes.len(), table.source.len()];
+    Ok(front_of(made, used))
+}
+
+/// The same into three areas: words of events, words of attributes, bytes.
+///
+/// # Errors
+///
+/// 23 and 24, and then 16 where one of them is too short; all of them are zero then.
+pub fn rehearse_into<'o>(
+    order: &Order, events: &'o mut [u32], attributes: &'o mut [u32], bytes: &'o mut [u8],
+) -> Result<Table<'o>, Refusal> {
+    let Order { cases, failures, errors, skipped, flaky } = *order;
+    let writing = sys::rehearse(cases, failures, errors, skipped, flaky, events, attributes, bytes);
+    written(writing, events, attributes, bytes)
 }
 
 /// A refusal in words, with the names of suite and case from the table that was refused: one line, ended by a newline.

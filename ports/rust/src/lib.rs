@@ -8,7 +8,7 @@
 //! - [`Areas`] are what reading works in, allocated once. [`read`] gives a [`Tree`] that borrows them, or a [`Refusal`].
 //! - [`list`] gives the listing without private text, [`read_and_list`] and [`read_and_list_xml`] the same in one call that keeps no tree,
 //!   [`write()`] the table of a report, [`explain`] a refusal in words.
-//! - A [`ReportBuilder`] makes a report from nothing.
+//! - A [`ReportBuilder`] makes a report from nothing, [`rehearse()`] the table of one with the numbers of an [`Order`].
 //!
 //! ```
 //! use kerzhoma::{list, read, Areas, TableBuf};
@@ -42,7 +42,8 @@ mod values;
 pub use areas::Areas;
 pub use builder::{CaseBuilder, ReportBuilder, RunBuilder, SuiteBuilder};
 pub use calls::{
-    explain, list, list_into, public_listing, public_listing_into, read, read_and_list, read_and_list_into, write, write_into,
+    explain, list, list_into, public_listing, public_listing_into, read, read_and_list, read_and_list_into, rehearse, rehearse_into, write,
+    write_into, Order,
 };
 pub use document::{explain_xml, list_xml, read_and_list_xml, tokenize, tokenize_into, DocumentRefusal, XmlRefusal};
 pub use refusal::{Cause, PathElement, Refusal};

@@ -32,10 +32,12 @@ pub enum Cause {
     NotLayout,
     OutputFull,
     CountLimit,
+    TooManyCases,
+    NoSuchReport,
 }
 
 // In the order of their codes, from 1 on, with their numbers.
-const CAUSES: [(Cause, u32); 22] = [
+const CAUSES: [(Cause, u32); 24] = [
     (Cause::XmlFault, 1),
     (Cause::EofInSkip, 1),
     (Cause::NotUtf8, 2),
@@ -58,6 +60,8 @@ const CAUSES: [(Cause, u32); 22] = [
     (Cause::NotLayout, 15),
     (Cause::OutputFull, 16),
     (Cause::CountLimit, 17),
+    (Cause::TooManyCases, 23),
+    (Cause::NoSuchReport, 24),
 ];
 
 impl Cause {
@@ -66,7 +70,7 @@ impl Cause {
         CAUSES.iter().map(|c| c.0)
     }
 
-    /// The number of the refusal: 1 to 17, 20 or 21.
+    /// The number of the refusal: 1 to 17, 20, 21, 23 or 24.
     pub fn number(self) -> u32 {
         CAUSES[self as usize].1
     }

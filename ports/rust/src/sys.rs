@@ -150,6 +150,10 @@ extern "C" {
         records: *const u32, records_len: usize, text: *const u8, text_len: usize, events: *mut u32, events_len: usize,
         attributes: *mut u32, attributes_len: usize, bytes: *mut u8, bytes_len: usize,
     ) -> Writing;
+    fn kerzhoma_rehearse(
+        cases: u64, failures: u64, errors: u64, skipped: u64, flaky: u64, events: *mut u32, events_len: usize, attributes: *mut u32,
+        attributes_len: usize, bytes: *mut u8, bytes_len: usize,
+    ) -> Writing;
     fn kerzhoma_explain(
         refusal: Refusal, lent: usize, events: *const u32, events_len: usize, attributes: *const u32, attributes_len: usize,
         source: *const u8, source_len: usize, out: *mut u8, out_len: usize,
@@ -329,6 +333,27 @@ pub fn write(records: &[u32], text: &[u8], events: &mut [u32], attributes: &mut 
             records.len(),
             text.as_ptr(),
             text.len(),
+            events.as_mut_ptr(),
+            events.len(),
+            attributes.as_mut_ptr(),
+            attributes.len(),
+            bytes.as_mut_ptr(),
+            bytes.len(),
+        )
+    }
+}
+
+#[allow(clippy::too_many_arguments)]
+pub fn rehearse(
+    cases: u64, failures: u64, errors: u64, skipped: u64, flaky: u64, events: &mut [u32], attributes: &mut [u32], bytes: &mut [u8],
+) -> Writing {
+    unsafe {
+        kerzhoma_rehearse(
+            cases,
+            failures,
+            errors,
+            skipped,
+            flaky,
             events.as_mut_ptr(),
             events.len(),
             attributes.as_mut_ptr(),

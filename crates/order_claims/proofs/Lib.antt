@@ -1,0 +1,4 @@
+pub mod Counting
+pub mod Sizes
+pub mod Plain
+pub mod Ordering

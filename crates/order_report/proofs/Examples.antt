@@ -1,0 +1,1 @@
+-- Orders worked out: the report, its table and its answer. Assumes nothing.
