@@ -28,7 +28,7 @@ use Rattle.order_report.specs.declared.Order.{Order}
 use Rattle.order_report.specs.declared.Kind.{Kind}
 use Rattle.order_report.specs.declared.Kind.the-variants as kind
 use Rattle.order_report.specs.Rehearsal.{stated, caseName, caseOf, casesFrom, kindsIn, suiteOf, rehearsal}
-use Rattle.order_report.specs.inside.Items.{openingItems, mainItems, flakyItems, caseItems, casesItems, suiteTagItems, headItems}
+use Rattle.order_report.specs.inside.Items.{openingItems, mainItems, flakyItems, caseItems, casesItems, reportItems, suiteTagItems, headItems}
 use Rattle.order_report.proofs.Names.{escaped-name, escaped-rehearsal}
 
 -- ---- one case of each kind
@@ -167,6 +167,10 @@ module _ (o : Order) where
 
   abbrev front : List Event
   front = declaration ∷ startTag (bytes "testsuites") (reportAttributes (rehearsal o)) ∷ []
+
+  pub head-parts : (entry event.other (bytes "xml version=\"1.0\" encoding=\"UTF-8\"") 0 ∷ []) ++ reportItems o ≡ headItems o
+  unfolding itemsOf declaration
+  head-parts = refl
 
   head-items : headItems o ≡ itemsOf front
   unfolding itemsOf declaration tagName tags keyName keys

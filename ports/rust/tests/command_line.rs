@@ -265,11 +265,52 @@ fn usage() {
         &["write", "x", "-o"],
         &["write", "x", "-o", "y", "-o", "z"],
         &["list", "--all", "x"],
+        &["rehearse", "1", "0", "0", "0", "0"],
+        &["rehearse", "1", "0", "0", "0", "-o", "y"],
+        &["rehearse", "1", "0", "0", "0", "0", "0", "-o", "y"],
+        &["rehearse", "1", "0", "0", "0", "x", "-o", "y"],
+        &["rehearse", "1", "0", "0", "0", "18446744073709551616", "-o", "y"],
+        &["rehearse", "1", "0", "0", "0", "0", "-o", "y.xml"],
+        &["rehearse", "--xml", "1", "0", "0", "0", "0", "-o", "y"],
         &[""],
     ] {
         let ran = run(arguments, b"");
         assert_eq!((ran.status, ran.out.len()), (2, 0), "{arguments:?}");
         assert!(ran.err.contains("usage: kerzhoma"), "{arguments:?}");
+    }
+}
+
+const REHEARSED: &str = "\
+(report \"rehearsal\" 5 1 1 1 -
+(suite \"rehearsal\" 5 1 1 1 -
+(case \"case0\" - - failure rerun 0)
+(case \"case1\" - - error rerun 0)
+(case \"case2\" - - skipped none 0)
+(case \"case3\" - - success flaky 1
+(run failure -))
+(case \"case4\" - - success flaky 0)))
+";
+
+#[test]
+fn reports_to_order() {
+    let path = room("ordered.bin");
+    let file = path.to_str().unwrap();
+    let ran = run(&["rehearse", "5", "1", "1", "1", "1", "-o", file], b"");
+    assert_eq!((ran.status, ran.out.len(), ran.err.as_str()), (0, 0, ""));
+    let listed = run(&["list", file], b"");
+    assert_eq!((listed.status, text(&listed)), (0, REHEARSED));
+    fs::remove_file(path).unwrap();
+    let ran = run(&["rehearse", "0", "0", "0", "0", "0", "-o", "-"], b"");
+    assert_eq!(text(&run(&["list", "-"], &ran.out)), "(report \"rehearsal\" 0 0 0 0 -\n(suite \"rehearsal\" 0 0 0 0 -))\n");
+    // written again it is the same table
+    assert_eq!(run(&["write", "-", "-o", "-"], &ran.out).out, ran.out);
+    for (order, line) in [
+        (["4097", "9", "9", "9", "9"], "refused 23: a report to order has at most 4096 cases"),
+        (["5", "2", "2", "2", "0"], "refused 24: failures, errors, skipped and flaky cases together are more than the cases"),
+        (["1", "18446744073709551615", "1", "0", "0"], "refused 24: failures, errors, skipped and flaky cases together are more than the cases"),
+    ] {
+        let ran = run(&[&["rehearse"], &order[..], &["-o", "-"]].concat(), b"");
+        assert_eq!((ran.status, ran.out.len(), ran.err), (1, 0, format!("kerzhoma: {line}\n")));
     }
 }
 

@@ -1,9 +1,9 @@
-//! The command line: lists, explains, writes and checks a report.
+//! The command line: lists, explains, writes and checks a report, or makes one to order.
 #![forbid(unsafe_code)]
 
 use kerzhoma::input::{is_named_xml, load_document, load_table};
-use kerzhoma::{explain, explain_xml, read, read_and_list, read_and_list_xml, tokenize, write};
-use kerzhoma::{Areas, DocumentRefusal, Refusal, TableBuf, XmlRefusal};
+use kerzhoma::{explain, explain_xml, read, read_and_list, read_and_list_xml, rehearse, tokenize, write};
+use kerzhoma::{Areas, DocumentRefusal, Order, Refusal, TableBuf, XmlRefusal};
 use std::ffi::{OsStr, OsString};
 use std::io::{self, ErrorKind, Write};
 use std::path::{Path, PathBuf};
@@ -17,6 +17,8 @@ kerzhoma: JUnit test reports, read by a proved library
     kerzhoma check FILE            only tells whether the report is accepted
     kerzhoma explain FILE          writes why the report is refused, or accepted
     kerzhoma write FILE -o FILE    writes the report again, as a table
+    kerzhoma rehearse CASES FAILURES ERRORS SKIPPED FLAKY -o FILE
+                                   writes a report with just these numbers
 
 FILE is an XML document if its name ends in .xml or --xml is given, else a table
 of XML events: three little-endian words, the numbers of events, attributes and
@@ -48,28 +50,35 @@ enum Task {
     Write(PathBuf),
 }
 
+enum Command {
+    Help,
+    Read(Task, Input),
+    Rehearse(Order, PathBuf),
+}
+
 fn main() -> ExitCode {
     let arguments: Vec<OsString> = env::args_os().skip(1).collect();
     let status = match parse(&arguments) {
-        Ok(Some((task, input))) => run(&task, &input),
-        Ok(None) => put(HELP.as_bytes(), ACCEPTED),
+        Ok(Command::Read(task, input)) => run(&task, &input),
+        Ok(Command::Rehearse(order, to)) => rehearsed(&order, &to),
+        Ok(Command::Help) => put(HELP.as_bytes(), ACCEPTED),
         Err(what) => {
             say(&what);
-            say("usage: kerzhoma list|check|explain [--xml] FILE, kerzhoma write [--xml] FILE -o FILE, kerzhoma --help");
+            say("usage: kerzhoma list|check|explain [--xml] FILE, kerzhoma write [--xml] FILE -o FILE, \
+                 kerzhoma rehearse CASES FAILURES ERRORS SKIPPED FLAKY -o FILE, kerzhoma --help");
             FAILED
         }
     };
     ExitCode::from(status)
 }
 
-// The task and its input; none where help is asked for.
-fn parse(arguments: &[OsString]) -> Result<Option<(Task, Input)>, String> {
+fn parse(arguments: &[OsString]) -> Result<Command, String> {
     if arguments.iter().take_while(|a| *a != "--").any(|a| a == "--help" || a == "-h") {
-        return Ok(None);
+        return Ok(Command::Help);
     }
     let mut rest = arguments.iter();
     let task = rest.next().ok_or("there is no command")?;
-    let (mut file, mut output, mut xml, mut options) = (None, None, false, true);
+    let (mut given, mut output, mut xml, mut options) = (Vec::new(), None, false, true);
     while let Some(a) = rest.next() {
         if options && a == "--" {
             options = false;
@@ -82,22 +91,48 @@ fn parse(arguments: &[OsString]) -> Result<Option<(Task, Input)>, String> {
             }
         } else if options && a != "-" && a.as_encoded_bytes().starts_with(b"-") {
             return Err(format!("there is no option {}", a.display()));
-        } else if file.replace(PathBuf::from(a)).is_some() {
-            return Err(format!("one file is taken, and {} is another", a.display()));
+        } else {
+            given.push(a);
         }
     }
     let task = match (task.to_str(), output) {
+        (Some("rehearse"), to) => return order(&given, to.ok_or("rehearse needs -o FILE")?, xml),
         (Some("write"), Some(to)) => Task::Write(to),
         (Some("write"), None) => return Err("write needs -o FILE".to_owned()),
-        (Some("list" | "check" | "explain"), Some(_)) => return Err("-o belongs to write".to_owned()),
+        (Some("list" | "check" | "explain"), Some(_)) => return Err("-o belongs to write and rehearse".to_owned()),
         (Some("list"), None) => Task::List,
         (Some("check"), None) => Task::Check,
         (Some("explain"), None) => Task::Explain,
         _ => return Err(format!("there is no command {}", task.display())),
     };
-    let file = file.ok_or("there is no file")?;
+    let file = match given[..] {
+        [] => return Err("there is no file".to_owned()),
+        [file] => PathBuf::from(file),
+        [_, other, ..] => return Err(format!("one file is taken, and {} is another", other.display())),
+    };
     let xml = xml || is_named_xml(&file);
-    Ok(Some((task, Input { file, xml })))
+    Ok(Command::Read(task, Input { file, xml }))
+}
+
+// The numbers of an order, and the file that its table goes to.
+fn order(given: &[&OsString], to: PathBuf, xml: bool) -> Result<Command, String> {
+    if xml || is_named_xml(&to) {
+        return Err("a report to order is written as a table: --xml and names that end in .xml are not taken".to_owned());
+    }
+    let [cases, failures, errors, skipped, flaky] = given else {
+        return Err("rehearse needs five numbers".to_owned());
+    };
+    let number = |a: &OsString| {
+        a.to_str().and_then(|a| a.parse().ok()).ok_or(format!("{} is no number up to 18446744073709551615", a.display()))
+    };
+    let order = Order {
+        cases: number(cases)?,
+        failures: number(failures)?,
+        errors: number(errors)?,
+        skipped: number(skipped)?,
+        flaky: number(flaky)?,
+    };
+    Ok(Command::Rehearse(order, to))
 }
 
 fn say(what: &str) {
@@ -174,6 +209,29 @@ fn shown(file: &Path) -> String {
     file.display().to_string()
 }
 
+fn rehearsed(order: &Order, to: &Path) -> u8 {
+    match rehearse(order) {
+        Ok(table) => written(&table.to_bytes(), to),
+        Err(refusal) => {
+            say(&refusal.to_string());
+            REFUSED
+        }
+    }
+}
+
+fn written(bytes: &[u8], to: &Path) -> u8 {
+    if to.as_os_str() == OsStr::new("-") {
+        return put(bytes, ACCEPTED);
+    }
+    match fs::write(to, bytes) {
+        Ok(()) => ACCEPTED,
+        Err(e) => {
+            say(&format!("{}: {e}", to.display()));
+            FAILED
+        }
+    }
+}
+
 fn done(task: &Task, table: &TableBuf) -> u8 {
     let table = table.as_table();
     let mut areas = Areas::for_table(&table);
@@ -188,13 +246,7 @@ fn done(task: &Task, table: &TableBuf) -> u8 {
         (Err(refusal), Task::Explain) => put(explain(&refusal, &table).as_bytes(), REFUSED),
         (Err(refusal), _) => not_done(task, &refusal),
         (Ok(_), Task::Check) => ACCEPTED,
-        (Ok(bytes), Task::Write(to)) if to.as_os_str() != OsStr::new("-") => match fs::write(to, bytes) {
-            Ok(()) => ACCEPTED,
-            Err(e) => {
-                say(&format!("{}: {e}", to.display()));
-                FAILED
-            }
-        },
+        (Ok(bytes), Task::Write(to)) => written(&bytes, to),
         (Ok(bytes), _) => put(&bytes, ACCEPTED),
     }
 }
