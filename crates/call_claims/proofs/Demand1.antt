@@ -16,7 +16,10 @@ use Rattle.write_table.specs.Laid.{fits}
 use Rattle.write_answer.specs.Answer.{Sizes, wrote, eventsLeft, attributesLeft, bytesLeft, writingAnswer, leftFor}
 use Rattle.write_answer.specs.Answer as writing
 use Rattle.port_values.specs.Codes.{outcomeAt}
-use Rattle.call_claims.specs.Demand1.{Late, Ends, completes, WriteZero, codedCase, Demand1, answerTo}
+use Rattle.order_report.specs.declared.Order.{Order}
+use Rattle.order_report.specs.Rehearsal.{stated}
+use Rattle.order_report.specs.Answer.{mostCases, orderedTable, orderAnswer, ordered, eventsOrdered, attributesOrdered, bytesOrdered}
+use Rattle.call_claims.specs.Demand1.{Late, Ends, completes, WriteZero, OrderZero, codedCase, Demand1, answerTo}
 use Rattle.call_claims.proofs.TokenCall.{tokenize-ends}
 use Rattle.call_claims.proofs.ReadCall.{numbered, read-zero, read-placed}
 use Rattle.call_claims.proofs.LateCalls.{Within, ends, ends-leaving, within-late, within-suite}
@@ -42,6 +45,21 @@ write-ends words text events attributes bytes =
     ends-leaving (within-writing (layout words text) (fits (writing.tableOf words text) events attributes bytes) _) λ why e.
     record { events = left-zero x events _ why e; attributes = left-zero x attributes _ why e; bytes = left-zero x bytes _ why e }
 
+-- ---- a report to order
+within-ordering : (b c d : Bool) (s : Sizes)
+    → Within (11 ∷ 15 ∷ 16 ∷ []) (writing.outcomeOf (cond b (fails cause.BadTable) (cond c (fails cause.NotLayout) (cond d (gives s) (fails cause.OutputFull)))))
+within-ordering true c d s = within-late cause.BadTable refl
+within-ordering false true d s = within-late cause.NotLayout refl
+within-ordering false false true s = completes
+within-ordering false false false s = within-late cause.OutputFull refl
+
+order-ends : (o : Order) (events attributes bytes : ℕ) → Ends (Late (11 ∷ 15 ∷ 16 ∷ [])) (OrderZero o events attributes bytes) (ordered o events attributes bytes)
+unfolding orderAnswer eventsOrdered attributesOrdered bytesOrdered
+order-ends o events attributes bytes =
+    let x = orderAnswer o events attributes bytes in
+    ends-leaving (within-ordering (ltb mostCases (o .cases)) (ltb (o .cases) (stated o)) (fits (orderedTable o) events attributes bytes) _) λ why e.
+    record { events = left-zero x events _ why e; attributes = left-zero x attributes _ why e; bytes = left-zero x bytes _ why e }
+
 -- ---- counts
 counts-kept : (c : Counts) (o : Outcome Counts) (why : Refused) → o ≡ refused why → kept c o ≡ c
 counts-kept c (accepted d) why e = let z : _≡_ {A = ℕ} 0 1 = cc in absurd (omega arith)
@@ -61,6 +79,7 @@ demand-1 =
       read = λ t a. ends (answerTo t a) (read-placed t a) (read-zero t a);
       list = list-ends;
       write = write-ends;
+      rehearse = order-ends;
       readAndList = once-ends;
       listXml = document-ends;
       listXmlTable = table-ends;

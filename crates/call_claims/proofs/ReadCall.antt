@@ -26,9 +26,13 @@ use Rattle.call_claims.proofs.PathsElement.{Told, fine, told, told-path
 use Rattle.call_claims.proofs.Paths.{told-run}
 
 -- ---- numbers
--- each cause has a number, which reading gives, or is 15 to 17
+-- those that reading doesn't give: 15 to 17, and from 22 on
+abbrev IsLate : ℕ → Type 0
+IsLate n = ((15 ≤ n) × (n ≤ 17)) ⊎ (22 ≤ n)
+
+-- each cause has a number, which reading gives or doesn't
 abbrev Sorted : Cause → Type 0
-Sorted c = (isOneOf (number c) allNumbers ≡ true) × ((isOneOf (number c) readNumbers ≡ true) ⊎ ((15 ≤ number c) × (number c ≤ 17)))
+Sorted c = (isOneOf (number c) allNumbers ≡ true) × ((isOneOf (number c) readNumbers ≡ true) ⊎ IsLate (number c))
 
 sorted : (c : Cause) → Sorted c
 sorted cause.XmlFault = (refl, inl refl)
@@ -50,9 +54,9 @@ sorted cause.BadTable = (refl, inl refl)
 sorted cause.RecordsSpent = (refl, inl refl)
 sorted cause.TextFull = (refl, inl refl)
 sorted cause.ScratchFull = (refl, inl refl)
-sorted cause.NotLayout = (refl, inr (lit≤ tt, lit≤ tt))
-sorted cause.OutputFull = (refl, inr (lit≤ tt, lit≤ tt))
-sorted cause.CountLimit = (refl, inr (lit≤ tt, lit≤ tt))
+sorted cause.NotLayout = (refl, inr (inl (lit≤ tt, lit≤ tt)))
+sorted cause.OutputFull = (refl, inr (inl (lit≤ tt, lit≤ tt)))
+sorted cause.CountLimit = (refl, inr (inl (lit≤ tt, lit≤ tt)))
 
 pub numbered : (c : Cause) → isOneOf (number c) allNumbers ≡ true
 numbered c = sorted c .0
@@ -60,11 +64,14 @@ numbered c = sorted c .0
 of-rules : (c : Cause) → OfRules (number c) → isOneOf (number c) readNumbers ≡ true
 of-rules c r = go (sorted c .1) r
   where
-    go : (isOneOf (number c) readNumbers ≡ true) ⊎ ((15 ≤ number c) × (number c ≤ 17)) → OfRules (number c) → isOneOf (number c) readNumbers ≡ true
+    go : (isOneOf (number c) readNumbers ≡ true) ⊎ IsLate (number c) → OfRules (number c) → isOneOf (number c) readNumbers ≡ true
     go (inl h) r = h
-    go (inr l) (inl h) = let a = l .0 in absurd (omega (arith, a, h))
-    go (inr l) (inr (inl e)) = let b = l .1 in absurd (omega (arith, b, e))
-    go (inr l) (inr (inr e)) = let b = l .1 in absurd (omega (arith, b, e))
+    go (inr (inl l)) (inl h) = let a = l .0 in absurd (omega (arith, a, h))
+    go (inr (inl l)) (inr (inl e)) = let b = l .1 in absurd (omega (arith, b, e))
+    go (inr (inl l)) (inr (inr e)) = let b = l .1 in absurd (omega (arith, b, e))
+    go (inr (inr l)) (inl h) = absurd (omega (arith, l, h))
+    go (inr (inr l)) (inr (inl e)) = absurd (omega (arith, l, e))
+    go (inr (inr l)) (inr (inr e)) = absurd (omega (arith, l, e))
 
 of-cause : {c d : Cause} → c ≡ d → isOneOf (number d) readNumbers ≡ true → isOneOf (number c) readNumbers ≡ true
 of-cause e h = ap (λ (x : Cause). isOneOf (number x) readNumbers) e ∙ h

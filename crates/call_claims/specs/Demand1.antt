@@ -14,6 +14,8 @@
 --       listed, outputOf (crate list_text: Listing); 15, 16
 --   kerzhoma_write: writer::write
 --       wrote, eventsLeft, attributesLeft, bytesLeft (crate write_answer: Answer); 15, 16
+--   kerzhoma_rehearse: rehearsal::rehearse
+--       ordered, eventsOrdered, attributesOrdered, bytesOrdered (crate order_report: Answer); 16, 23, 24
 --   kerzhoma_read_and_list: public_call::read_and_list
 --       once (crate public_claims: Once); 1 to 14, 16, 20, 21
 --   kerzhoma_public_listing: public_call::public_listing
@@ -65,7 +67,7 @@
 --   kerzhoma_finish_report: builder::finish_report
 --       finish; 15, 17
 -- The answer is the outcome as a struct, with `refusalFrom` (crate refusal: Refusal) of what a refusal carries: answerOf (crate reader: Answer),
--- listingFrom (lister), writingFrom (writer), explainedFrom (explain), countedFrom (tree_counts: Counts), builtFrom (build_draft: Draft); and for C a
+-- listingFrom (lister), writingFrom (writer, and of rehearsal), explainedFrom (explain), countedFrom (tree_counts: Counts), builtFrom (build_draft: Draft); and for C a
 -- struct of numbers (crates port_refusal, port_values, port_c: portOutcome, builtPort and their like). Tokenizing alone has no such struct: its refusal
 -- is a number, 18 and 19 among them, and a byte (result, crate xml_state: Answer). `explain_xml` and `write_time` say only that a text doesn't fit;
 -- behind `write_time` the call from C clears the area. All areas but the output area are zero behind `read_and_list`, `public_listing` and
@@ -104,6 +106,8 @@ use Rattle.list_text.specs.Listing.{outcomeOf, listed, outputOf}
 use Rattle.time_text.specs.Written.{writtenTime, whole}
 use Rattle.explain_text.specs.Explanation.{explained, explanationIn}
 use Rattle.write_answer.specs.Answer.{wrote, eventsLeft, attributesLeft, bytesLeft}
+use Rattle.order_report.specs.declared.Order.{Order}
+use Rattle.order_report.specs.Answer.{ordered, eventsOrdered, attributesOrdered, bytesOrdered}
 use Rattle.public_claims.specs.PublicListing as public
 use Rattle.public_claims.specs.PublicListing.{refusedText}
 use Rattle.public_claims.specs.Once.{Once, once}
@@ -125,7 +129,7 @@ use Rattle.port_values.specs.Codes as code
 -- ---- refusals
 -- the numbers of all refusals, and those that reading gives
 abbrev pub allNumbers : List ℕ
-allNumbers = 1 ∷ 2 ∷ 3 ∷ 4 ∷ 5 ∷ 6 ∷ 7 ∷ 8 ∷ 9 ∷ 10 ∷ 11 ∷ 12 ∷ 13 ∷ 14 ∷ 15 ∷ 16 ∷ 17 ∷ 18 ∷ 19 ∷ 20 ∷ 21 ∷ []
+allNumbers = 1 ∷ 2 ∷ 3 ∷ 4 ∷ 5 ∷ 6 ∷ 7 ∷ 8 ∷ 9 ∷ 10 ∷ 11 ∷ 12 ∷ 13 ∷ 14 ∷ 15 ∷ 16 ∷ 17 ∷ 18 ∷ 19 ∷ 20 ∷ 21 ∷ 23 ∷ 24 ∷ []
 
 abbrev pub readNumbers : List ℕ
 readNumbers = 1 ∷ 2 ∷ 3 ∷ 4 ∷ 5 ∷ 6 ∷ 7 ∷ 8 ∷ 9 ∷ 10 ∷ 11 ∷ 12 ∷ 13 ∷ 14 ∷ 20 ∷ 21 ∷ []
@@ -207,6 +211,11 @@ pub record WriteZero (words text : List ℕ) (n m k : ℕ) : Type 0 where
   pub events : eventsLeft words text n m k ≡ zeros n
   pub attributes : attributesLeft words text n m k ≡ zeros m
   pub bytes : bytesLeft words text n m k ≡ zeros k
+
+pub record OrderZero (o : Order) (n m k : ℕ) : Type 0 where
+  pub events : eventsOrdered o n m k ≡ zeros n
+  pub attributes : attributesOrdered o n m k ≡ zeros m
+  pub bytes : bytesOrdered o n m k ≡ zeros k
 
 pub record BuildZero (n m : ℕ) (o : Outcome Draft) : Type 0 where
   pub words : wordsLeft n o ≡ zeros n
@@ -305,6 +314,9 @@ pub record Demand1 : Type 0 where
   -- Writing: 15 and 16; its three areas are zero then.
   pub write : (words text : List ℕ) (events attributes bytes : ℕ)
       → Ends (Late (15 ∷ 16 ∷ [])) (WriteZero words text events attributes bytes) (wrote words text events attributes bytes)
+  -- A report to order: 16, 23 and 24; its three areas are zero then.
+  pub rehearse : (o : Order) (events attributes bytes : ℕ)
+      → Ends (Late (11 ∷ 15 ∷ 16 ∷ [])) (OrderZero o events attributes bytes) (ordered o events attributes bytes)
   -- Reading and listing in one call: 1 to 14, 20 and 21 with their place, 16 without one; the output area is zero then, and the public listing is
   -- `(refused)`. Records, text and scratch are zero in every case.
   pub readAndList : (t : Table) (a : Areas) → OnceZero t a × Ends (OfEither readNumbers) (OnceRefused t a) (onceTo t a .outcome)

@@ -2,3 +2,4 @@ pub mod Counting
 pub mod Sizes
 pub mod Plain
 pub mod Ordering
+mod Examples

@@ -1,4 +1,3 @@
 pub mod Sums
 pub mod Names
 pub mod Items
-mod Examples

@@ -1,4 +1,4 @@
-// Tables read, listed and written.
+// Tables read, listed, written and made to order.
 use area::Stored;
 use port_refusal::KRefusal;
 use port_refusal::from_refusal;
@@ -12,6 +12,8 @@ ghost use Rattle.time_text.specs.Written.{writtenTime, count, whole};
 ghost use Rattle.tree_report.specs.Layout.{layout};
 ghost use Rattle.list_text.specs.Listing.{listed, outputOf};
 ghost use Rattle.write_answer.specs.Answer.{wrote, eventsLeft, attributesLeft, bytesLeft};
+ghost use Rattle.order_report.specs.Rehearsal.{orderOf};
+ghost use Rattle.order_report.specs.Answer.{ordered, eventsOrdered, attributesOrdered, bytesOrdered};
 ghost use Rattle.public_call.specs.Called.{readInto, onceInto, listingInto};
 ghost use Rattle.explain_text.specs.Explanation.{explained, explanationIn};
 ghost use Rattle.port_refusal.specs.Port.{portOutcome};
@@ -157,6 +159,39 @@ pub extern "C" fn kerzhoma_write(
     ensures { λ _. ⌜ now (bytes .exit) ≡ bytesLeft (now (records .entry)) (now (text .entry)) (length (now (events .entry))) (length (now (attributes .entry))) (length (now (bytes .entry))) ⌝ }
 {
     let answer = writer::write(records, text, events, attributes, bytes);
+    let verdict = answer.verdict;
+    let refusal = answer.refusal;
+    KWriting {
+        events: answer.events,
+        attributes: answer.attributes,
+        bytes: answer.bytes,
+        refusal: from_refusal(verdict, refusal),
+    }
+}
+
+#[no_mangle]
+pub extern "C" fn kerzhoma_rehearse(
+    cases: u64,
+    failures: u64,
+    errors: u64,
+    skipped: u64,
+    flaky: u64,
+    events: &mut [u32],
+    attributes: &mut [u32],
+    bytes: &mut [u8],
+) -> KWriting
+    ensures { λ r. ⌜ r ≡ writingPort (ordered (orderOf cases failures errors skipped flaky)
+        (length (now (events .entry))) (length (now (attributes .entry))) (length (now (bytes .entry)))) ⌝ }
+    ensures { λ _. ⌜ now (events .exit) ≡ eventsOrdered (orderOf cases failures errors skipped flaky)
+        (length (now (events .entry))) (length (now (attributes .entry))) (length (now (bytes .entry))) ⌝ }
+    ensures { λ _. ⌜ now (attributes .exit) ≡ attributesOrdered (orderOf cases failures errors skipped flaky)
+        (length (now (events .entry))) (length (now (attributes .entry))) (length (now (bytes .entry))) ⌝ }
+    ensures { λ _. ⌜ now (bytes .exit) ≡ bytesOrdered (orderOf cases failures errors skipped flaky)
+        (length (now (events .entry))) (length (now (attributes .entry))) (length (now (bytes .entry))) ⌝ }
+{
+    let answer = rehearsal::rehearse(
+        cases, failures, errors, skipped, flaky, events, attributes, bytes,
+    );
     let verdict = answer.verdict;
     let refusal = answer.refusal;
     KWriting {

@@ -1,1 +1,0 @@
--- Orders worked out: the report, its table and its answer. Assumes nothing.
