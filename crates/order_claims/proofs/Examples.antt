@@ -17,27 +17,27 @@ use Rattle.order_report.specs.Answer.{orderedTable, orderAnswer, ordered}
 no-cases : orderedTable (orderOf 0 0 0 0 0)
     ≡ record {
       events =
-        6 ∷ 0 ∷ 34 ∷ 0 ∷ 0
-        ∷ 0 ∷ 34 ∷ 10 ∷ 0 ∷ 5
-        ∷ 1 ∷ 87 ∷ 9 ∷ 5 ∷ 5
-        ∷ 2 ∷ 139 ∷ 10 ∷ 0 ∷ 0
-        ∷ 7 ∷ 0 ∷ 0 ∷ 0 ∷ 0
-        ∷ 9 ∷ 0 ∷ 0 ∷ 0 ∷ 0
-        ∷ [];
+          6 ∷ 0 ∷ 34 ∷ 0 ∷ 0
+          ∷ 0 ∷ 34 ∷ 10 ∷ 0 ∷ 5
+          ∷ 1 ∷ 87 ∷ 9 ∷ 5 ∷ 5
+          ∷ 2 ∷ 139 ∷ 10 ∷ 0 ∷ 0
+          ∷ 7 ∷ 0 ∷ 0 ∷ 0 ∷ 0
+          ∷ 9 ∷ 0 ∷ 0 ∷ 0 ∷ 0
+          ∷ [];
       attributes =
-        0 ∷ 44 ∷ 4 ∷ 48 ∷ 9
-        ∷ 0 ∷ 57 ∷ 5 ∷ 62 ∷ 1
-        ∷ 0 ∷ 63 ∷ 7 ∷ 70 ∷ 1
-        ∷ 0 ∷ 71 ∷ 8 ∷ 79 ∷ 1
-        ∷ 0 ∷ 80 ∷ 6 ∷ 86 ∷ 1
-        ∷ 0 ∷ 96 ∷ 4 ∷ 100 ∷ 9
-        ∷ 0 ∷ 109 ∷ 5 ∷ 114 ∷ 1
-        ∷ 0 ∷ 115 ∷ 7 ∷ 122 ∷ 1
-        ∷ 0 ∷ 123 ∷ 6 ∷ 129 ∷ 1
-        ∷ 0 ∷ 130 ∷ 8 ∷ 138 ∷ 1
-        ∷ [];
+          0 ∷ 44 ∷ 4 ∷ 48 ∷ 9
+          ∷ 0 ∷ 57 ∷ 5 ∷ 62 ∷ 1
+          ∷ 0 ∷ 63 ∷ 7 ∷ 70 ∷ 1
+          ∷ 0 ∷ 71 ∷ 8 ∷ 79 ∷ 1
+          ∷ 0 ∷ 80 ∷ 6 ∷ 86 ∷ 1
+          ∷ 0 ∷ 96 ∷ 4 ∷ 100 ∷ 9
+          ∷ 0 ∷ 109 ∷ 5 ∷ 114 ∷ 1
+          ∷ 0 ∷ 115 ∷ 7 ∷ 122 ∷ 1
+          ∷ 0 ∷ 123 ∷ 6 ∷ 129 ∷ 1
+          ∷ 0 ∷ 130 ∷ 8 ∷ 138 ∷ 1
+          ∷ [];
       bytes =
-        bytes "xml version=\"1.0\" encoding=\"UTF-8\"testsuitesnamerehearsaltests0skipped0failures0errors0testsuitenamerehearsaltests0skipped0errors0failures0testsuites";
+          bytes "xml version=\"1.0\" encoding=\"UTF-8\"testsuitesnamerehearsaltests0skipped0failures0errors0testsuitenamerehearsaltests0skipped0errors0failures0testsuites";
     }
 unfolding orderedTable kindsIn decimal places escape.written
     write.serializeOutputs write.serializeProperties write.serializeStatus write.serializeRerun write.serializeElements write.serializeTestCase
@@ -48,49 +48,49 @@ no-cases = refl
 one-of-each : orderedTable (orderOf 5 1 1 1 1)
     ≡ record {
       events =
-        6 ∷ 0 ∷ 34 ∷ 0 ∷ 0
-        ∷ 0 ∷ 34 ∷ 10 ∷ 0 ∷ 5
-        ∷ 0 ∷ 87 ∷ 9 ∷ 5 ∷ 5
-        ∷ 0 ∷ 139 ∷ 8 ∷ 10 ∷ 1
-        ∷ 1 ∷ 156 ∷ 7 ∷ 0 ∷ 0
-        ∷ 2 ∷ 163 ∷ 8 ∷ 0 ∷ 0
-        ∷ 0 ∷ 171 ∷ 8 ∷ 11 ∷ 1
-        ∷ 1 ∷ 188 ∷ 5 ∷ 0 ∷ 0
-        ∷ 2 ∷ 193 ∷ 8 ∷ 0 ∷ 0
-        ∷ 0 ∷ 201 ∷ 8 ∷ 12 ∷ 1
-        ∷ 1 ∷ 218 ∷ 7 ∷ 0 ∷ 0
-        ∷ 2 ∷ 225 ∷ 8 ∷ 0 ∷ 0
-        ∷ 0 ∷ 233 ∷ 8 ∷ 13 ∷ 1
-        ∷ 0 ∷ 250 ∷ 12 ∷ 0 ∷ 0
-        ∷ 2 ∷ 262 ∷ 12 ∷ 0 ∷ 0
-        ∷ 2 ∷ 274 ∷ 8 ∷ 0 ∷ 0
-        ∷ 1 ∷ 282 ∷ 8 ∷ 14 ∷ 1
-        ∷ 2 ∷ 299 ∷ 9 ∷ 0 ∷ 0
-        ∷ 2 ∷ 308 ∷ 10 ∷ 0 ∷ 0
-        ∷ 7 ∷ 0 ∷ 0 ∷ 0 ∷ 0
-        ∷ 9 ∷ 0 ∷ 0 ∷ 0 ∷ 0
-        ∷ [];
+          6 ∷ 0 ∷ 34 ∷ 0 ∷ 0
+          ∷ 0 ∷ 34 ∷ 10 ∷ 0 ∷ 5
+          ∷ 0 ∷ 87 ∷ 9 ∷ 5 ∷ 5
+          ∷ 0 ∷ 139 ∷ 8 ∷ 10 ∷ 1
+          ∷ 1 ∷ 156 ∷ 7 ∷ 0 ∷ 0
+          ∷ 2 ∷ 163 ∷ 8 ∷ 0 ∷ 0
+          ∷ 0 ∷ 171 ∷ 8 ∷ 11 ∷ 1
+          ∷ 1 ∷ 188 ∷ 5 ∷ 0 ∷ 0
+          ∷ 2 ∷ 193 ∷ 8 ∷ 0 ∷ 0
+          ∷ 0 ∷ 201 ∷ 8 ∷ 12 ∷ 1
+          ∷ 1 ∷ 218 ∷ 7 ∷ 0 ∷ 0
+          ∷ 2 ∷ 225 ∷ 8 ∷ 0 ∷ 0
+          ∷ 0 ∷ 233 ∷ 8 ∷ 13 ∷ 1
+          ∷ 0 ∷ 250 ∷ 12 ∷ 0 ∷ 0
+          ∷ 2 ∷ 262 ∷ 12 ∷ 0 ∷ 0
+          ∷ 2 ∷ 274 ∷ 8 ∷ 0 ∷ 0
+          ∷ 1 ∷ 282 ∷ 8 ∷ 14 ∷ 1
+          ∷ 2 ∷ 299 ∷ 9 ∷ 0 ∷ 0
+          ∷ 2 ∷ 308 ∷ 10 ∷ 0 ∷ 0
+          ∷ 7 ∷ 0 ∷ 0 ∷ 0 ∷ 0
+          ∷ 9 ∷ 0 ∷ 0 ∷ 0 ∷ 0
+          ∷ [];
       attributes =
-        0 ∷ 44 ∷ 4 ∷ 48 ∷ 9
-        ∷ 0 ∷ 57 ∷ 5 ∷ 62 ∷ 1
-        ∷ 0 ∷ 63 ∷ 7 ∷ 70 ∷ 1
-        ∷ 0 ∷ 71 ∷ 8 ∷ 79 ∷ 1
-        ∷ 0 ∷ 80 ∷ 6 ∷ 86 ∷ 1
-        ∷ 0 ∷ 96 ∷ 4 ∷ 100 ∷ 9
-        ∷ 0 ∷ 109 ∷ 5 ∷ 114 ∷ 1
-        ∷ 0 ∷ 115 ∷ 7 ∷ 122 ∷ 1
-        ∷ 0 ∷ 123 ∷ 6 ∷ 129 ∷ 1
-        ∷ 0 ∷ 130 ∷ 8 ∷ 138 ∷ 1
-        ∷ 0 ∷ 147 ∷ 4 ∷ 151 ∷ 5
-        ∷ 0 ∷ 179 ∷ 4 ∷ 183 ∷ 5
-        ∷ 0 ∷ 209 ∷ 4 ∷ 213 ∷ 5
-        ∷ 0 ∷ 241 ∷ 4 ∷ 245 ∷ 5
-        ∷ 0 ∷ 290 ∷ 4 ∷ 294 ∷ 5
-        ∷ [];
+          0 ∷ 44 ∷ 4 ∷ 48 ∷ 9
+          ∷ 0 ∷ 57 ∷ 5 ∷ 62 ∷ 1
+          ∷ 0 ∷ 63 ∷ 7 ∷ 70 ∷ 1
+          ∷ 0 ∷ 71 ∷ 8 ∷ 79 ∷ 1
+          ∷ 0 ∷ 80 ∷ 6 ∷ 86 ∷ 1
+          ∷ 0 ∷ 96 ∷ 4 ∷ 100 ∷ 9
+          ∷ 0 ∷ 109 ∷ 5 ∷ 114 ∷ 1
+          ∷ 0 ∷ 115 ∷ 7 ∷ 122 ∷ 1
+          ∷ 0 ∷ 123 ∷ 6 ∷ 129 ∷ 1
+          ∷ 0 ∷ 130 ∷ 8 ∷ 138 ∷ 1
+          ∷ 0 ∷ 147 ∷ 4 ∷ 151 ∷ 5
+          ∷ 0 ∷ 179 ∷ 4 ∷ 183 ∷ 5
+          ∷ 0 ∷ 209 ∷ 4 ∷ 213 ∷ 5
+          ∷ 0 ∷ 241 ∷ 4 ∷ 245 ∷ 5
+          ∷ 0 ∷ 290 ∷ 4 ∷ 294 ∷ 5
+          ∷ [];
       bytes =
-        (bytes "xml version=\"1.0\" encoding=\"UTF-8\"testsuitesnamerehearsaltests5skipped1failures1errors1testsuitenamerehearsaltests5skipped1errors1failures1testcasenam"
-        ++ (bytes "ecase0failuretestcasetestcasenamecase1errortestcasetestcasenamecase2skippedtestcasetestcasenamecase3flakyFailureflakyFailuretestcasetestcasenamecase4t"
-        ++ bytes "estsuitetestsuites"));
+          (bytes "xml version=\"1.0\" encoding=\"UTF-8\"testsuitesnamerehearsaltests5skipped1failures1errors1testsuitenamerehearsaltests5skipped1errors1failures1testcasenam"
+          ++ (bytes "ecase0failuretestcasetestcasenamecase1errortestcasetestcasenamecase2skippedtestcasetestcasenamecase3flakyFailureflakyFailuretestcasetestcasenamecase4t"
+          ++ bytes "estsuitetestsuites"));
     }
 unfolding orderedTable kindsIn decimal places escape.written
     write.serializeOutputs write.serializeProperties write.serializeStatus write.serializeRerun write.serializeElements write.serializeTestCase

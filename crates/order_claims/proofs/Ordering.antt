@@ -122,7 +122,7 @@ module _ (o : Order) (a : Lent) where
   exactly-24 = (
     λ e. let h = by-24 many more room sizes (sym outcome-is ∙ e) in (ltb-false mostCases (o .cases) (h .0), ltb-true (o .cases) (stated o) (h .1)),
     λ h. outcome-is ∙ ap (λ (b : Bool). outcomeOf (chosen b more room sizes)) (le-ltb mostCases (o .cases) (h .0))
-    ∙ ap (λ (b : Bool). outcomeOf (chosen false b room sizes)) (lt-ltb (o .cases) (stated o) (h .1)),
+        ∙ ap (λ (b : Bool). outcomeOf (chosen false b room sizes)) (lt-ltb (o .cases) (stated o) (h .1)),
   )
 
   exactly-16 : (answerOf o a ≡ refused (late cause.OutputFull))
@@ -130,8 +130,8 @@ module _ (o : Order) (a : Lent) where
   exactly-16 = (
     λ e. let h = by-16 many more room sizes (sym outcome-is ∙ e) in (ltb-false mostCases (o .cases) (h .0), ltb-false (o .cases) (stated o) (h .1), sym same-room ∙ h .2),
     λ h. outcome-is ∙ ap (λ (b : Bool). outcomeOf (chosen b more room sizes)) (le-ltb mostCases (o .cases) (h .0))
-    ∙ ap (λ (b : Bool). outcomeOf (chosen false b room sizes)) (le-ltb (o .cases) (stated o) (h .1))
-    ∙ ap (λ (b : Bool). outcomeOf (chosen false false b sizes)) (same-room ∙ h .2),
+        ∙ ap (λ (b : Bool). outcomeOf (chosen false b room sizes)) (le-ltb (o .cases) (stated o) (h .1))
+        ∙ ap (λ (b : Bool). outcomeOf (chosen false false b sizes)) (same-room ∙ h .2),
   )
 
   refuses-only : (why : Refused) → answerOf o a ≡ refused why
@@ -139,13 +139,14 @@ module _ (o : Order) (a : Lent) where
   unfolding eventsOrdered attributesOrdered bytesOrdered
   refuses-only why e =
       let h = by-refused many more room sizes why (sym outcome-is ∙ e) in
-      let zero : (k : ℕ) (f : List ℕ) → leftFor (orderAnswer o (a .events) (a .attributes) (a .bytes)) k f ≡ zeros k = λ k f. ap (λ (x : Answer Sizes). leftFor x k f) answer-is ∙ h .1 k f in
-      (h .0,
-      record {
-        events = zero (a .events) (orderedTable o .events);
-        attributes = zero (a .attributes) (orderedTable o .attributes);
-        bytes = zero (a .bytes) (orderedTable o .bytes);
-      })
+      let zero : (k : ℕ) (f : List ℕ) → leftFor (orderAnswer o (a .events) (a .attributes) (a .bytes)) k f ≡ zeros k = λ k f. ap (λ (x : Answer Sizes). leftFor x k f) answer-is ∙ h .1 k f in (
+        h .0,
+        record {
+          events = zero (a .events) (orderedTable o .events);
+          attributes = zero (a .attributes) (orderedTable o .attributes);
+          bytes = zero (a .bytes) (orderedTable o .bytes);
+        },
+      )
 
   -- ---- B
   module _ (n : Sizes) (e : answerOf o a ≡ accepted n) where

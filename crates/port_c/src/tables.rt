@@ -190,7 +190,14 @@ pub extern "C" fn kerzhoma_rehearse(
         (length (now (events .entry))) (length (now (attributes .entry))) (length (now (bytes .entry))) ⌝ }
 {
     let answer = rehearsal::rehearse(
-        cases, failures, errors, skipped, flaky, events, attributes, bytes,
+        cases,
+        failures,
+        errors,
+        skipped,
+        flaky,
+        events,
+        attributes,
+        bytes,
     );
     let verdict = answer.verdict;
     let refusal = answer.refusal;

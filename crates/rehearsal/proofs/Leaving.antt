@@ -42,8 +42,10 @@ module _ (o : Order) (e a b : ℕ) where
   unfolding eventsOrdered attributesOrdered bytesOrdered
   whole-from q p u v w = (
     q ∙ ap (λ (y : Answer Sizes). writingFrom (outcomeOf y)) p,
-    (u ∙ ap (λ (y : Answer Sizes). leftFor y e (orderedTable o .events)) p,
-    (v ∙ ap (λ (y : Answer Sizes). leftFor y a (orderedTable o .attributes)) p, w ∙ ap (λ (y : Answer Sizes). leftFor y b (orderedTable o .bytes)) p)),
+    (
+      u ∙ ap (λ (y : Answer Sizes). leftFor y e (orderedTable o .events)) p,
+      (v ∙ ap (λ (y : Answer Sizes). leftFor y a (orderedTable o .attributes)) p, w ∙ ap (λ (y : Answer Sizes). leftFor y b (orderedTable o .bytes)) p),
+    ),
   )
 
   -- 23

@@ -20,6 +20,9 @@ ghost use Rattle.write_table.specs.Laid.{itemsOf};
 ghost use Rattle.write_table.specs.inside.Putting.{Wrote};
 ghost use Rattle.write_marks.specs.inside.Kept.{empty, kept};
 ghost use Rattle.writer.specs.Answer.{writingFrom};
+ghost use Rattle.area.specs.Area.{zeros};
+ghost use Rattle.refusal.specs.Refusal.{refused, late};
+ghost use Rattle.refusal.specs.declared.Cause.the-variants as cause;
 
 // By rule O1.
 pub const MOST_CASES: u64 = 4096;
@@ -36,6 +39,17 @@ fn put_rehearsal(events: &mut [u32], attributes: &mut [u32], bytes: &mut [u8], o
         bytes: Stored::Put(0),
     };
     put_order(events, attributes, bytes, start, o)
+}
+
+// 16: what was put doesn't stay (rule F13).
+fn refuse_full(events: &mut [u32], attributes: &mut [u32], bytes: &mut [u8]) -> Writing
+    ensures { λ r. ⌜ r ≡ writingFrom (refused (late cause.OutputFull)) ⌝ }
+    ensures { λ _. ⌜ now (events .exit) ≡ zeros (length (now (events .entry))) ⌝ }
+    ensures { λ _. ⌜ now (attributes .exit) ≡ zeros (length (now (attributes .entry))) ⌝ }
+    ensures { λ _. ⌜ now (bytes .exit) ≡ zeros (length (now (bytes .entry))) ⌝ }
+{
+    clear_table(events, attributes, bytes);
+    refuse(Cause::OutputFull)
 }
 
 // Puts the table at the front of the three areas, and zeros behind it; at a refusal all of them becomes zero (rules O1, O2 and O7). What is read from
@@ -67,17 +81,18 @@ pub fn rehearse(
         flaky,
     };
     clear_table(events, attributes, bytes);
-    if MOST_CASES < cases {
+    let many = MOST_CASES < cases;
+    let more = exceeds_cases(o);
+    if many {
         return refuse(Cause::BadTable);
     }
-    if exceeds_cases(o) {
+    if more {
         return refuse(Cause::NotLayout);
     }
     let k = put_rehearsal(events, attributes, bytes, o);
     let mark = k.bytes;
     let Stored::Put(n) = mark else {
-        clear_table(events, attributes, bytes);
-        return refuse(Cause::OutputFull);
+        return refuse_full(events, attributes, bytes);
     };
     Writing {
         verdict: Verdict::Accepted,

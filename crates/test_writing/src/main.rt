@@ -1,8 +1,10 @@
-// Cases of writing that are run: areas that are short by one event, one attribute and one byte, 3 words, and the limit of events.
-// Each is told behind a few words that name it; all areas held other values before.
+// Cases of writing that are run: areas that are short by one event, one attribute and one byte, 3 words, and the limit of events; and
+// reports to order, one of them word by word. Each is told behind a few words that name it; all areas held other values before.
 mod tell;
 
+use rehearsal::rehearse;
 use tell::say;
+use tell::tell_words;
 use tell::tell_writing;
 use tree_put::put_text;
 use tree_record::bit;
@@ -143,10 +145,96 @@ fn try_limit() {
     try_runs(&mut records, &mut events, &mut attributes, &mut bytes);
 }
 
+fn try_order(
+    title: &[u8],
+    order: [u64; 5],
+    events: &mut [u32],
+    attributes: &mut [u32],
+    bytes: &mut [u8],
+) {
+    let writing = rehearse(
+        order[0],
+        order[1],
+        order[2],
+        order[3],
+        order[4],
+        events,
+        attributes,
+        bytes,
+    );
+    say(title);
+    tell_writing(writing, events, attributes, bytes);
+}
+
+// One case of each kind, in areas that are just long enough: the whole table.
+fn try_each() {
+    let mut events = [7u32; 105];
+    let mut attributes = [7u32; 75];
+    let mut bytes = [7u8; 318];
+    try_order(
+        b"one case of each kind: ",
+        [5, 1, 1, 1, 1],
+        &mut events,
+        &mut attributes,
+        &mut bytes,
+    );
+    tell_words(&events);
+    tell_words(&attributes);
+    say(&bytes);
+    say(b"\n");
+}
+
+// Orders without a table, and such as have few cases.
+fn try_orders() {
+    let mut e = [7u32; 105];
+    let mut a = [7u32; 75];
+    let mut b = [7u8; 318];
+    try_order(b"no cases: ", [0, 0, 0, 0, 0], &mut e, &mut a, &mut b);
+    try_order(b"5 plain cases: ", [5, 0, 0, 0, 0], &mut e, &mut a, &mut b);
+    try_order(
+        b"4097 cases: ",
+        [4097, 9, 9, 9, 4097],
+        &mut e,
+        &mut a,
+        &mut b,
+    );
+    try_order(b"one too many: ", [5, 1, 1, 1, 3], &mut e, &mut a, &mut b);
+    try_order(
+        b"a sum that wraps: ",
+        [5, 18446744073709551615, 1, 0, 0],
+        &mut e,
+        &mut a,
+        &mut b,
+    );
+    try_order(b"6 cases: ", [6, 1, 1, 1, 1], &mut e, &mut a, &mut b);
+}
+
+// The most events, attributes and bytes that an order has, in areas of e words, a words and b bytes.
+fn try_largest(title: &[u8], e: usize, a: usize, b: usize)
+    requires { ⌜ (e ≤ 81955) × (a ≤ 20530) × (b ≤ 212046) ⌝ }
+{
+    let mut events = [7u32; 81955];
+    let mut attributes = [7u32; 20530];
+    let mut bytes = [7u8; 212046];
+    try_order(
+        title,
+        [4096, 0, 0, 0, 4096],
+        &mut events[..e],
+        &mut attributes[..a],
+        &mut bytes[..b],
+    );
+}
+
 fn main() {
     let mut records = [0u32; 128];
     try_areas(b"3 words: ", &[kind::REPORT, 0, 0], 64, 64, 256);
     put_failure(&mut records);
     try_failure(&records);
     try_limit();
+    try_each();
+    try_orders();
+    try_largest(b"4096 cases: ", 81955, 20530, 212046);
+    try_largest(b"a word of an event early: ", 81954, 20530, 212046);
+    try_largest(b"a word of an attribute early: ", 81955, 20529, 212046);
+    try_largest(b"one byte early: ", 81955, 20530, 212045);
 }

@@ -34,6 +34,18 @@ fn tell_refusal(refusal: Refusal) {
     tell_place(refusal.attribute);
 }
 
+// Five words a line.
+pub fn tell_words(words: &[u32]) {
+    let mut i = 0;
+    while i < words.len() {
+        tell_number(words[i] as u64);
+        if i % 5 == 4 {
+            say(b"\n");
+        }
+        i += 1;
+    }
+}
+
 // Whether the words behind n entries of five words are zero.
 fn zero_words(words: &[u32], n: usize) -> bool {
     let mut i = 0;

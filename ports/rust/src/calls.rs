@@ -207,6 +207,9 @@ fn written<'o>(
     Ok(Table::new(&events[..m], &attributes[..n], &bytes[..k]))
 }
 
+/// The most cases that are made to order.
+const CASES: u64 = 4_096;
+
 /// What a report to order has: so many cases, and of them failures, errors, skipped ones, and such as passed with one flaky failure; the
 /// others just passed.
 #[derive(Clone, Copy, Debug, Default, PartialEq, Eq, Hash)]
@@ -241,7 +244,7 @@ pub struct Order {
 /// # Ok::<(), kerzhoma::Refusal>(())
 /// ```
 pub fn rehearse(order: &Order) -> Result<TableBuf, Refusal> {
-    let cases = order.cases.min(limits::CASES) as usize;
+    let cases = order.cases.min(CASES) as usize;
     let mut made =
         TableBuf { events: vec![0; (7 + 4 * cases) * ENTRY], attributes: vec![0; (10 + cases) * ENTRY], source: vec![0; 400 + 68 * cases] };
     let table = rehearse_into(order, &mut made.events, &mut made.attributes, &mut made.source)?;

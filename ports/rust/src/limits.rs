@@ -11,8 +11,6 @@ pub const SOURCE: usize = 16_777_216;
 pub const RECORDS: usize = 65_536;
 /// Bytes of a text area, of scratch, and of a written table.
 pub const BYTES: usize = 16_777_216;
-/// Cases of a report to order.
-pub const CASES: u64 = 4_096;
 /// Words of an event or an attribute.
 pub(crate) const ENTRY: usize = 5;
 /// Words of a record.

@@ -57,7 +57,7 @@ same-length-3 c = search needs
 
 returns : tie.Need-returns
 returns c = let i = c .before .before .before .before .before .before .before .before .before .before .before .before .before .before .before .args .i in
-     said (c .before .before .before .before .before .before .put-main .ensures) (failure-items i ∙ ap (caseItems i) (sym (c .before .before .before .before .before .before .before .before .before .before .enum-told .given .1)))
+    said (c .before .before .before .before .before .before .put-main .ensures) (failure-items i ∙ ap (caseItems i) (sym (c .before .before .before .before .before .before .before .before .before .before .enum-told .given .1)))
 
 same-length-4 : tie.Need-same-length-4
 same-length-4 c = search needs
@@ -70,7 +70,7 @@ same-length-6 c = search needs
 
 returns-2 : tie.Need-returns-2
 returns-2 c = let i = c .before .before .before .before .before .before .before .before .before .before .before .before .before .before .before .args .i in
-     said (c .before .before .before .before .before .before .put-main2 .ensures) (error-items i ∙ ap (caseItems i) (sym (c .before .before .before .before .before .before .before .before .before .before .enum-told2 .given .1)))
+    said (c .before .before .before .before .before .before .put-main2 .ensures) (error-items i ∙ ap (caseItems i) (sym (c .before .before .before .before .before .before .before .before .before .before .enum-told2 .given .1)))
 
 same-length-7 : tie.Need-same-length-7
 same-length-7 c = search needs
@@ -83,7 +83,7 @@ same-length-9 c = search needs
 
 returns-3 : tie.Need-returns-3
 returns-3 c = let i = c .before .before .before .before .before .before .before .before .before .before .before .before .before .before .before .args .i in
-     said (c .before .before .before .before .before .before .put-main3 .ensures) (skipped-items i ∙ ap (caseItems i) (sym (c .before .before .before .before .before .before .before .before .before .before .enum-told3 .given .1)))
+    said (c .before .before .before .before .before .before .put-main3 .ensures) (skipped-items i ∙ ap (caseItems i) (sym (c .before .before .before .before .before .before .before .before .before .before .enum-told3 .given .1)))
 
 same-length-10 : tie.Need-same-length-10
 same-length-10 c = search needs
@@ -96,7 +96,7 @@ same-length-12 c = search needs
 
 returns-4 : tie.Need-returns-4
 returns-4 c = let i = c .before .before .before .before .before .before .before .before .before .before .before .before .before .before .before .args .i in
-     said (c .before .before .before .before .before .before .put-flaky .ensures) (flaky-items i ∙ ap (caseItems i) (sym (c .before .before .before .before .before .before .before .before .before .before .enum-told4 .given .1)))
+    said (c .before .before .before .before .before .before .put-flaky .ensures) (flaky-items i ∙ ap (caseItems i) (sym (c .before .before .before .before .before .before .before .before .before .before .enum-told4 .given .1)))
 
 same-length-13 : tie.Need-same-length-13
 same-length-13 c = search needs
@@ -109,7 +109,7 @@ same-length-15 c = search needs
 
 returns-5 : tie.Need-returns-5
 returns-5 c = let i = c .before .before .before .before .before .before .before .before .before .before .before .before .before .before .before .args .i in
-     said (c .before .before .before .before .before .before .put-opening .ensures) (plain-items i ∙ ap (caseItems i) (sym (c .before .before .before .before .before .before .before .before .before .before .enum-told5 .given .1)))
+    said (c .before .before .before .before .before .before .put-opening .ensures) (plain-items i ∙ ap (caseItems i) (sym (c .before .before .before .before .before .before .before .before .before .before .enum-told5 .given .1)))
 
 pub put-case-spec : {M : Type 1} → statement M
 put-case-spec =

@@ -1,7 +1,6 @@
 -- What is put of an order, in the parts in which the code puts it. Definitions only.
 use Prim.Native.Nat.{ℕ}
 use mathlib.Core.List.{List, [], _∷_, _++_}
-use lib.ListN.{replicate}
 use Rattle.names.specs.Tags as tag
 use Rattle.names.specs.Keys as key
 use Rattle.digits.specs.Digits.{decimal}

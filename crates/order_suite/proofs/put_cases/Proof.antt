@@ -26,7 +26,7 @@ loop-less c = omega (arith, c .before .before .before .before .before .before .b
 
 loop-again : tie.Need-loop-again Inv-loop μ-loop
 loop-again c = let put-case = c .before .before .before .before .before .before .put-case in
-     turning-next (c .before .before .before .before .before .before .before .before .before .before .before .loop .inv) (c .before .before .before .before .before .before .before .before .before .before .loop-test .taken) (put-case .ensures) (put-case .kept .0) (put-case .kept .1 .0) (put-case .kept .1 .1 .0)
+    turning-next (c .before .before .before .before .before .before .before .before .before .before .before .loop .inv) (c .before .before .before .before .before .before .before .before .before .before .loop-test .taken) (put-case .ensures) (put-case .kept .0) (put-case .kept .1 .0) (put-case .kept .1 .1 .0)
 
 same-length : tie.Need-same-length Inv-loop μ-loop
 same-length c = c .before .loop .inv .sameEvents
