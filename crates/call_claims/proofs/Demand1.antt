@@ -47,13 +47,13 @@ write-ends words text events attributes bytes =
 
 -- ---- a report to order
 within-ordering : (b c d : Bool) (s : Sizes)
-    → Within (11 ∷ 15 ∷ 16 ∷ []) (writing.outcomeOf (cond b (fails cause.BadTable) (cond c (fails cause.NotLayout) (cond d (gives s) (fails cause.OutputFull)))))
-within-ordering true c d s = within-late cause.BadTable refl
-within-ordering false true d s = within-late cause.NotLayout refl
+    → Within (16 ∷ 23 ∷ 24 ∷ []) (writing.outcomeOf (cond b (fails cause.TooManyCases) (cond c (fails cause.NoSuchReport) (cond d (gives s) (fails cause.OutputFull)))))
+within-ordering true c d s = within-late cause.TooManyCases refl
+within-ordering false true d s = within-late cause.NoSuchReport refl
 within-ordering false false true s = completes
 within-ordering false false false s = within-late cause.OutputFull refl
 
-order-ends : (o : Order) (events attributes bytes : ℕ) → Ends (Late (11 ∷ 15 ∷ 16 ∷ [])) (OrderZero o events attributes bytes) (ordered o events attributes bytes)
+order-ends : (o : Order) (events attributes bytes : ℕ) → Ends (Late (16 ∷ 23 ∷ 24 ∷ [])) (OrderZero o events attributes bytes) (ordered o events attributes bytes)
 unfolding orderAnswer eventsOrdered attributesOrdered bytesOrdered
 order-ends o events attributes bytes =
     let x = orderAnswer o events attributes bytes in

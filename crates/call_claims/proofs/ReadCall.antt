@@ -57,6 +57,8 @@ sorted cause.ScratchFull = (refl, inl refl)
 sorted cause.NotLayout = (refl, inr (inl (lit≤ tt, lit≤ tt)))
 sorted cause.OutputFull = (refl, inr (inl (lit≤ tt, lit≤ tt)))
 sorted cause.CountLimit = (refl, inr (inl (lit≤ tt, lit≤ tt)))
+sorted cause.TooManyCases = (refl, inr (inr (lit≤ tt)))
+sorted cause.NoSuchReport = (refl, inr (inr (lit≤ tt)))
 
 pub numbered : (c : Cause) → isOneOf (number c) allNumbers ≡ true
 numbered c = sorted c .0

@@ -316,7 +316,7 @@ pub record Demand1 : Type 0 where
       → Ends (Late (15 ∷ 16 ∷ [])) (WriteZero words text events attributes bytes) (wrote words text events attributes bytes)
   -- A report to order: 16, 23 and 24; its three areas are zero then.
   pub rehearse : (o : Order) (events attributes bytes : ℕ)
-      → Ends (Late (11 ∷ 15 ∷ 16 ∷ [])) (OrderZero o events attributes bytes) (ordered o events attributes bytes)
+      → Ends (Late (16 ∷ 23 ∷ 24 ∷ [])) (OrderZero o events attributes bytes) (ordered o events attributes bytes)
   -- Reading and listing in one call: 1 to 14, 20 and 21 with their place, 16 without one; the output area is zero then, and the public listing is
   -- `(refused)`. Records, text and scratch are zero in every case.
   pub readAndList : (t : Table) (a : Areas) → OnceZero t a × Ends (OfEither readNumbers) (OnceRefused t a) (onceTo t a .outcome)

@@ -7,7 +7,8 @@ use lib.Dec.{leb, eqb}
 use Rattle.area.specs.Limits.{mostWords, mostBytes}
 use Rattle.refusal.specs.declared.Cause.{Cause}
 use Rattle.refusal.specs.declared.Cause.the-variants.{XmlFault, EofInSkip, NotUtf8, BadInteger, BadTimestamp, BadTime, BadUuid, MissingAttribute, MissingReport, EofInElement, StatusRule}
-use Rattle.refusal.specs.declared.Cause.the-variants.{UnknownEntity, FaultyAttribute, RepeatedKey, BadReference, BadTable, RecordsSpent, TextFull, ScratchFull, NotLayout, OutputFull, CountLimit}
+use Rattle.refusal.specs.declared.Cause.the-variants.{UnknownEntity, FaultyAttribute, RepeatedKey, BadReference, BadTable, RecordsSpent}
+use Rattle.refusal.specs.declared.Cause.the-variants.{TextFull, ScratchFull, NotLayout, OutputFull, CountLimit, TooManyCases, NoSuchReport}
 use Rattle.explain_text.specs.Sentences.{sentence}
 use Rattle.explain_lines.specs.Lines.{lineIn}
 use Rattle.explain_sentence.specs.inside.Place.{placeOf, placeBy}
@@ -50,6 +51,8 @@ table =
     ∷ sentence TextFull mostBytes
     ∷ sentence ScratchFull mostBytes
     ∷ sentence OutputFull mostBytes
+    ∷ short TooManyCases
+    ∷ short NoSuchReport
     ∷ [])
 
 -- a sentence of two
@@ -81,6 +84,8 @@ sentence-at ScratchFull lent = by-size (leb mostBytes lent) 18 24 refl refl
 sentence-at NotLayout lent = refl
 sentence-at OutputFull lent = by-size (leb mostBytes lent) 20 25 refl refl
 sentence-at CountLimit lent = refl
+sentence-at TooManyCases lent = refl
+sentence-at NoSuchReport lent = refl
 
 -- the place, by the tests that the code makes
 module _ (place lent : ℕ) where

@@ -36,6 +36,8 @@ fn place_of(cause: Cause) -> usize
         Cause::NotLayout => 19,
         Cause::OutputFull => 20,
         Cause::CountLimit => 21,
+        Cause::TooManyCases => 26,
+        Cause::NoSuchReport => 27,
     }
 }
 
@@ -87,6 +89,8 @@ pub fn put_sentence(out: &mut [u8], k: Stored, cause: Cause, lent: usize) -> Sto
         the report has more than 65536 records\n\
         the report's texts are longer than 16777216 bytes\n\
         a gathered text is longer than 16777216 bytes\n\
-        an area for output is too short, or the table has more than 65536 events, 65536 attributes or 16777216 bytes";
+        an area for output is too short, or the table has more than 65536 events, 65536 attributes or 16777216 bytes\n\
+        a report to order has at most 4096 cases\n\
+        failures, errors, skipped and flaky cases together are more than the cases";
     put(out, k, line_in(sentences, place_by(place_of(cause), lent)))
 }

@@ -7,7 +7,8 @@ use Rattle.area.specs.Limits.{mostWords, mostBytes}
 use Rattle.names.specs.Bytes.{bytes}
 use Rattle.refusal.specs.declared.Cause.{Cause}
 use Rattle.refusal.specs.declared.Cause.the-variants.{XmlFault, EofInSkip, NotUtf8, BadInteger, BadTimestamp, BadTime, BadUuid, MissingAttribute, MissingReport, EofInElement, StatusRule}
-use Rattle.refusal.specs.declared.Cause.the-variants.{UnknownEntity, FaultyAttribute, RepeatedKey, BadReference, BadTable, RecordsSpent, TextFull, ScratchFull, NotLayout, OutputFull, CountLimit}
+use Rattle.refusal.specs.declared.Cause.the-variants.{UnknownEntity, FaultyAttribute, RepeatedKey, BadReference, BadTable, RecordsSpent}
+use Rattle.refusal.specs.declared.Cause.the-variants.{TextFull, ScratchFull, NotLayout, OutputFull, CountLimit, TooManyCases, NoSuchReport}
 
 -- of an area that was lent with so many words or bytes and is too short: other words from the limits' size on, where a longer one wouldn't help (rule E6)
 abbrev pub within : (most lent : ℕ) → (short many : List ℕ) → List ℕ
@@ -39,3 +40,5 @@ sentence NotLayout lent = bytes "the areas hold no report that this call fits"
 sentence OutputFull lent =
     within mostBytes lent (bytes "the area for output is too short") (bytes "an area for output is too short, or the table has more than 65536 events, 65536 attributes or 16777216 bytes")
 sentence CountLimit lent = bytes "a count would pass 18446744073709551615"
+sentence TooManyCases lent = bytes "a report to order has at most 4096 cases"
+sentence NoSuchReport lent = bytes "failures, errors, skipped and flaky cases together are more than the cases"

@@ -105,24 +105,24 @@ unfolding kindsIn decimal places letter listed render renderPublic header suiteT
 listing = refl
 
 -- 23 comes before 24, and 24 before 16
-past-cases : ordered (orderOf 4097 0 0 0 0) 0 0 0 ≡ refused (late cause.BadTable)
+past-cases : ordered (orderOf 4097 0 0 0 0) 0 0 0 ≡ refused (late cause.TooManyCases)
 unfolding orderAnswer
 past-cases = refl
 
-first-23 : ordered (orderOf 4097 9 9 9 4097) 0 0 0 ≡ refused (late cause.BadTable)
+first-23 : ordered (orderOf 4097 9 9 9 4097) 0 0 0 ≡ refused (late cause.TooManyCases)
 unfolding orderAnswer
 first-23 = refl
 
-one-over : ordered (orderOf 5 1 1 1 3) 0 0 0 ≡ refused (late cause.NotLayout)
+one-over : ordered (orderOf 5 1 1 1 3) 0 0 0 ≡ refused (late cause.NoSuchReport)
 unfolding orderAnswer
 one-over = refl
 
-kinds-alone : ordered (orderOf 4096 4097 0 0 0) 0 0 0 ≡ refused (late cause.NotLayout)
+kinds-alone : ordered (orderOf 4096 4097 0 0 0) 0 0 0 ≡ refused (late cause.NoSuchReport)
 unfolding orderAnswer
 kinds-alone = refl
 
 -- the sum of the four isn't taken by 64 bits
-no-wrap : ordered (orderOf 4096 18446744073709551615 1 0 0) 0 0 0 ≡ refused (late cause.NotLayout)
+no-wrap : ordered (orderOf 4096 18446744073709551615 1 0 0) 0 0 0 ≡ refused (late cause.NoSuchReport)
 unfolding orderAnswer
 no-wrap = refl
 

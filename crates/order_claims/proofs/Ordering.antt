@@ -43,20 +43,20 @@ use Rattle.order_claims.proofs.Plain.{order-plain, order-sound, order-r
 
 -- ---- the answer by its three tests
 abbrev chosen : Bool → Bool → Bool → Sizes → Answer Sizes
-chosen many more room n = cond many (refuses cause.BadTable) (cond more (refuses cause.NotLayout) (cond room (gives n) (refuses cause.OutputFull)))
+chosen many more room n = cond many (refuses cause.TooManyCases) (cond more (refuses cause.NoSuchReport) (cond room (gives n) (refuses cause.OutputFull)))
 
 -- 0 for an order that isn't refused
 abbrev code : Outcome Sizes → ℕ
 code (accepted n) = 0
 code (refused why) = number (why .cause)
 
-by-23 : (b c d : Bool) (n : Sizes) → outcomeOf (chosen b c d n) ≡ refused (late cause.BadTable) → b ≡ true
+by-23 : (b c d : Bool) (n : Sizes) → outcomeOf (chosen b c d n) ≡ refused (late cause.TooManyCases) → b ≡ true
 by-23 true c d n e = refl
 by-23 false true d n e = let z = ap code e in absurd (omega arith)
 by-23 false false true n e = let z = ap code e in absurd (omega arith)
 by-23 false false false n e = let z = ap code e in absurd (omega arith)
 
-by-24 : (b c d : Bool) (n : Sizes) → outcomeOf (chosen b c d n) ≡ refused (late cause.NotLayout) → (b ≡ false) × (c ≡ true)
+by-24 : (b c d : Bool) (n : Sizes) → outcomeOf (chosen b c d n) ≡ refused (late cause.NoSuchReport) → (b ≡ false) × (c ≡ true)
 by-24 true c d n e = let z = ap code e in absurd (omega arith)
 by-24 false true d n e = (refl, refl)
 by-24 false false true n e = let z = ap code e in absurd (omega arith)
@@ -75,7 +75,7 @@ by-given false false true n m e = (refl, refl, refl, cc)
 by-given false false false n m e = let z : _≡_ {A = ℕ} 0 1 = cc in absurd (omega arith)
 
 by-refused : (b c d : Bool) (n : Sizes) (why : Refused) → outcomeOf (chosen b c d n) ≡ refused why
-    → ((why ≡ late cause.BadTable) ⊎ ((why ≡ late cause.NotLayout) ⊎ (why ≡ late cause.OutputFull))) × ((k : ℕ) (f : List ℕ) → leftFor (chosen b c d n) k f ≡ zeros k)
+    → ((why ≡ late cause.TooManyCases) ⊎ ((why ≡ late cause.NoSuchReport) ⊎ (why ≡ late cause.OutputFull))) × ((k : ℕ) (f : List ℕ) → leftFor (chosen b c d n) k f ≡ zeros k)
 by-refused true c d n why e = (inl cc, λ k f. refl)
 by-refused false true d n why e = (inr (inl cc), λ k f. refl)
 by-refused false false true n why e = let z : _≡_ {A = ℕ} 0 1 = cc in absurd (omega arith)
@@ -112,13 +112,13 @@ module _ (o : Order) (a : Lent) where
   same-room = refl
 
   -- ---- A
-  exactly-23 : (answerOf o a ≡ refused (late cause.BadTable)) ↔ (mostCases < o .cases)
+  exactly-23 : (answerOf o a ≡ refused (late cause.TooManyCases)) ↔ (mostCases < o .cases)
   exactly-23 = (
     λ e. ltb-true mostCases (o .cases) (by-23 many more room sizes (sym outcome-is ∙ e)),
     λ h. outcome-is ∙ ap (λ (b : Bool). outcomeOf (chosen b more room sizes)) (lt-ltb mostCases (o .cases) h),
   )
 
-  exactly-24 : (answerOf o a ≡ refused (late cause.NotLayout)) ↔ ((o .cases ≤ mostCases) × (o .cases < stated o))
+  exactly-24 : (answerOf o a ≡ refused (late cause.NoSuchReport)) ↔ ((o .cases ≤ mostCases) × (o .cases < stated o))
   exactly-24 = (
     λ e. let h = by-24 many more room sizes (sym outcome-is ∙ e) in (ltb-false mostCases (o .cases) (h .0), ltb-true (o .cases) (stated o) (h .1)),
     λ h. outcome-is ∙ ap (λ (b : Bool). outcomeOf (chosen b more room sizes)) (le-ltb mostCases (o .cases) (h .0))
@@ -135,7 +135,7 @@ module _ (o : Order) (a : Lent) where
   )
 
   refuses-only : (why : Refused) → answerOf o a ≡ refused why
-      → ((why ≡ late cause.BadTable) ⊎ ((why ≡ late cause.NotLayout) ⊎ (why ≡ late cause.OutputFull))) × Zero o a
+      → ((why ≡ late cause.TooManyCases) ⊎ ((why ≡ late cause.NoSuchReport) ⊎ (why ≡ late cause.OutputFull))) × Zero o a
   unfolding eventsOrdered attributesOrdered bytesOrdered
   refuses-only why e =
       let h = by-refused many more room sizes why (sym outcome-is ∙ e) in

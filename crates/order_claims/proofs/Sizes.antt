@@ -154,7 +154,8 @@ module _ (o : Order) where
   unfolding tagName tags keyName keys
   of-suite-tag k =
       with-more (one-entry k (bytes "testsuite") 5 9 (omega arith))
-      (with-more (with-more (one-pair (bytes "name") (bytes "rehearsal") 4 9 (omega arith) (omega arith)) (with-more (count-item 6 (o .cases) (omega arith)) (count-item 9 (o .skipped) (omega arith))))
+      (with-more (with-more (one-pair (bytes "name") (bytes "rehearsal") 4 9 (omega arith) (omega arith))
+      (with-more (count-item 6 (o .cases) (omega arith)) (count-item 9 (o .skipped) (omega arith))))
       (with-more (count-item 8 (o .errors) (omega arith)) (count-item 7 (o .failures) (omega arith))))
 
   of-head : Within 2 5 177 (headItems o)
@@ -162,7 +163,8 @@ module _ (o : Order) where
   of-head =
       with-more (one-entry event.other (bytes "xml version=\"1.0\" encoding=\"UTF-8\"") 0 34 (omega arith))
       (with-more (one-entry event.start (bytes "testsuites") 5 10 (omega arith))
-      (with-more (with-more (one-pair (bytes "name") (bytes "rehearsal") 4 9 (omega arith) (omega arith)) (with-more (count-item 6 (o .cases) (omega arith)) (count-item 9 (o .skipped) (omega arith))))
+      (with-more (with-more (one-pair (bytes "name") (bytes "rehearsal") 4 9 (omega arith) (omega arith))
+      (with-more (count-item 6 (o .cases) (omega arith)) (count-item 9 (o .skipped) (omega arith))))
       (with-more (count-item 7 (o .failures) (omega arith)) (count-item 8 (o .errors) (omega arith)))))
 
   of-tail : Within 3 0 10 tailItems

@@ -139,9 +139,9 @@ pub record Counted (o : Order) (t : Table) (r : Report) : Type 0 where
 -- ---- the claims
 pub record Ordering : Type 0 where
   -- A. 23 comes exactly where cases pass 4,096.
-  pub twentyThree : (o : Order) (a : Lent) → (answerOf o a ≡ refused (late cause.BadTable)) ↔ (mostCases < o .cases)
+  pub twentyThree : (o : Order) (a : Lent) → (answerOf o a ≡ refused (late cause.TooManyCases)) ↔ (mostCases < o .cases)
   -- A. 24 comes exactly where they don't, and the four kinds together exceed the cases,
-  pub twentyFour : (o : Order) (a : Lent) → (answerOf o a ≡ refused (late cause.NotLayout)) ↔ ((o .cases ≤ mostCases) × (o .cases < stated o))
+  pub twentyFour : (o : Order) (a : Lent) → (answerOf o a ≡ refused (late cause.NoSuchReport)) ↔ ((o .cases ≤ mostCases) × (o .cases < stated o))
   -- A. which is where no report has these numbers.
   pub noReport : (o : Order) → (o .cases < stated o) ↔ (¬ ((r : Report) × Numbers o r))
   -- A. 16 comes exactly where neither does, and the table doesn't fit into the areas.
@@ -151,7 +151,7 @@ pub record Ordering : Type 0 where
   pub enough : (o : Order) → o .cases ≤ mostCases → stated o ≤ o .cases → fits (laidOut (written (rehearsal o))) (lentLimits .events) (lentLimits .attributes) (lentLimits .bytes) ≡ true
   -- A. There is no other refusal, and each leaves the areas zero.
   pub refusesOnly : (o : Order) (a : Lent) (why : Refused) → answerOf o a ≡ refused why
-      → ((why ≡ late cause.BadTable) ⊎ ((why ≡ late cause.NotLayout) ⊎ (why ≡ late cause.OutputFull))) × Zero o a
+      → ((why ≡ late cause.TooManyCases) ⊎ ((why ≡ late cause.NoSuchReport) ⊎ (why ≡ late cause.OutputFull))) × Zero o a
   -- B. Otherwise the areas hold the table of the report that was ordered, and zeros behind it.
   pub own : (o : Order) (a : Lent) (n : Sizes) → answerOf o a ≡ accepted n → Holds o a n
   -- C. The events that are written of an order that isn't refused are read as its report,

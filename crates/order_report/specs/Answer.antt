@@ -27,8 +27,8 @@ sizesOf t = record { events = length (t .events) / 5; attributes = length (t .at
 -- 23: too many cases; then 24: the kinds are more than the cases; then 16: areas of so many words, words and bytes too short (rules O1, O2 and O7)
 unfoldable pub orderAnswer : Order → ℕ → ℕ → ℕ → Answer Sizes
 orderAnswer o events attributes bytes =
-    cond (ltb mostCases (o .cases)) (refuses cause.BadTable)
-    (cond (ltb (o .cases) (stated o)) (refuses cause.NotLayout)
+    cond (ltb mostCases (o .cases)) (refuses cause.TooManyCases)
+    (cond (ltb (o .cases) (stated o)) (refuses cause.NoSuchReport)
     (cond (fits (orderedTable o) events attributes bytes) (gives (sizesOf (orderedTable o))) (refuses cause.OutputFull)))
 
 abbrev pub ordered : Order → ℕ → ℕ → ℕ → Outcome Sizes

@@ -4,7 +4,8 @@ use mathlib.Core.List.{List, [], _∷_}
 use lib.ListN.{getD}
 use Rattle.refusal.specs.declared.Cause.{Cause}
 use Rattle.refusal.specs.declared.Cause.the-variants.{XmlFault, EofInSkip, NotUtf8, BadInteger, BadTimestamp, BadTime, BadUuid, MissingAttribute, MissingReport, EofInElement, StatusRule}
-use Rattle.refusal.specs.declared.Cause.the-variants.{UnknownEntity, FaultyAttribute, RepeatedKey, BadReference, BadTable, RecordsSpent, TextFull, ScratchFull, NotLayout, OutputFull, CountLimit}
+use Rattle.refusal.specs.declared.Cause.the-variants.{UnknownEntity, FaultyAttribute, RepeatedKey, BadReference, BadTable, RecordsSpent}
+use Rattle.refusal.specs.declared.Cause.the-variants.{TextFull, ScratchFull, NotLayout, OutputFull, CountLimit, TooManyCases, NoSuchReport}
 use Rattle.refusal.specs.declared.PathElement.{PathElement}
 use Rattle.refusal.specs.declared.Path.{Path}
 use Rattle.refusal.specs.declared.Refusal.{Refusal}
@@ -36,6 +37,8 @@ causes =
     ∷ NotLayout
     ∷ OutputFull
     ∷ CountLimit
+    ∷ TooManyCases
+    ∷ NoSuchReport
     ∷ []
 
 -- a code that is none counts as BadTable

@@ -5,7 +5,8 @@ use lib.ListN.{getD, replicate}
 use Rattle.refusal.specs.Refusal.{nowhere, number, filler, Outcome, verdictOf, refusalOf}
 use Rattle.refusal.specs.declared.Cause.{Cause}
 use Rattle.refusal.specs.declared.Cause.the-variants.{XmlFault, EofInSkip, NotUtf8, BadInteger, BadTimestamp, BadTime, BadUuid, MissingAttribute, MissingReport, EofInElement, StatusRule}
-use Rattle.refusal.specs.declared.Cause.the-variants.{UnknownEntity, FaultyAttribute, RepeatedKey, BadReference, BadTable, RecordsSpent, TextFull, ScratchFull, NotLayout, OutputFull, CountLimit}
+use Rattle.refusal.specs.declared.Cause.the-variants.{UnknownEntity, FaultyAttribute, RepeatedKey, BadReference, BadTable, RecordsSpent}
+use Rattle.refusal.specs.declared.Cause.the-variants.{TextFull, ScratchFull, NotLayout, OutputFull, CountLimit, TooManyCases, NoSuchReport}
 use Rattle.refusal.specs.declared.PathElement.{PathElement}
 use Rattle.refusal.specs.declared.Refusal.{Refusal}
 use Rattle.refusal.specs.declared.Verdict.{Verdict}
@@ -36,6 +37,8 @@ code ScratchFull = 19
 code NotLayout = 20
 code OutputFull = 21
 code CountLimit = 22
+code TooManyCases = 23
+code NoSuchReport = 24
 
 abbrev pub elementWords : PathElement → List ℕ
 elementWords e = e .kind ∷ e .index ∷ e .event ∷ []

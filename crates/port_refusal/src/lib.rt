@@ -49,6 +49,8 @@ fn code_of(cause: Cause) -> u32
         Cause::NotLayout => 20,
         Cause::OutputFull => 21,
         Cause::CountLimit => 22,
+        Cause::TooManyCases => 23,
+        Cause::NoSuchReport => 24,
     }
 }
 
@@ -161,9 +163,11 @@ fn cause_at(code: u32) -> Cause
         Cause::NotLayout,
         Cause::OutputFull,
         Cause::CountLimit,
+        Cause::TooManyCases,
+        Cause::NoSuchReport,
     ];
     let i = code as usize;
-    if i < 23 {
+    if i < 25 {
         return causes[i];
     }
     Cause::BadTable

@@ -49,17 +49,17 @@ module _ (o : Order) (e a b : ℕ) where
   )
 
   -- 23
-  pub too-many : {r : Writing} {ev at by : List ℕ} → ltb mostCases (o .cases) ≡ true → r ≡ writingFrom (refused (late cause.BadTable)) → ev ≡ zeros e → at ≡ zeros a → by ≡ zeros b
+  pub too-many : {r : Writing} {ev at by : List ℕ} → ltb mostCases (o .cases) ≡ true → r ≡ writingFrom (refused (late cause.TooManyCases)) → ev ≡ zeros e → at ≡ zeros a → by ≡ zeros b
       → Whole r ev at by
   unfolding orderAnswer
-  too-many t q u v w = whole-from {x = refuses cause.BadTable} q (rw t refl) u v w
+  too-many t q u v w = whole-from {x = refuses cause.TooManyCases} q (rw t refl) u v w
 
   module _ (m : ltb mostCases (o .cases) ≡ false) where
     -- 24
-    pub no-report : {r : Writing} {ev at by : List ℕ} → ltb (o .cases) (stated o) ≡ true → r ≡ writingFrom (refused (late cause.NotLayout)) → ev ≡ zeros e → at ≡ zeros a → by ≡ zeros b
+    pub no-report : {r : Writing} {ev at by : List ℕ} → ltb (o .cases) (stated o) ≡ true → r ≡ writingFrom (refused (late cause.NoSuchReport)) → ev ≡ zeros e → at ≡ zeros a → by ≡ zeros b
         → Whole r ev at by
     unfolding orderAnswer
-    no-report t q u v w = whole-from {x = refuses cause.NotLayout} q (rw (m, t) refl) u v w
+    no-report t q u v w = whole-from {x = refuses cause.NoSuchReport} q (rw (m, t) refl) u v w
 
     module _ (l : ltb (o .cases) (stated o) ≡ false) where
       fitting : fits (orderedTable o) e a b ≡ true → gives (sizes (holding (orderedTable o) e a b)) ≡ orderAnswer o e a b

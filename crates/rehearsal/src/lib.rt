@@ -48,7 +48,7 @@ fn refuse_full(events: &mut [u32], attributes: &mut [u32], bytes: &mut [u8]) -> 
     ensures { λ _. ⌜ now (attributes .exit) ≡ zeros (length (now (attributes .entry))) ⌝ }
     ensures { λ _. ⌜ now (bytes .exit) ≡ zeros (length (now (bytes .entry))) ⌝ }
 {
-    clear_table(events, attributes, bytes);
+    clearing::clear_table(events, attributes, bytes);
     refuse(Cause::OutputFull)
 }
 
@@ -84,10 +84,10 @@ pub fn rehearse(
     let many = MOST_CASES < cases;
     let more = exceeds_cases(o);
     if many {
-        return refuse(Cause::BadTable);
+        return refuse(Cause::TooManyCases);
     }
     if more {
-        return refuse(Cause::NotLayout);
+        return refuse(Cause::NoSuchReport);
     }
     let k = put_rehearsal(events, attributes, bytes, o);
     let mark = k.bytes;

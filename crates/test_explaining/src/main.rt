@@ -72,6 +72,8 @@ fn tell_area_causes() {
     tell_cause(Cause::NotLayout);
     tell_cause(Cause::OutputFull);
     tell_cause(Cause::CountLimit);
+    tell_cause(Cause::TooManyCases);
+    tell_cause(Cause::NoSuchReport);
 }
 
 // An area one short of the limit's size, and one of that size.

@@ -343,7 +343,6 @@ pub fn write(records: &[u32], text: &[u8], events: &mut [u32], attributes: &mut 
     }
 }
 
-#[allow(clippy::too_many_arguments)]
 pub fn rehearse(
     cases: u64, failures: u64, errors: u64, skipped: u64, flaky: u64, events: &mut [u32], attributes: &mut [u32], bytes: &mut [u8],
 ) -> Writing {

@@ -5,7 +5,8 @@ use lib.Dec.{leb, eqb}
 use Rattle.area.specs.Limits.{mostWords, mostBytes}
 use Rattle.refusal.specs.declared.Cause.{Cause}
 use Rattle.refusal.specs.declared.Cause.the-variants.{XmlFault, EofInSkip, NotUtf8, BadInteger, BadTimestamp, BadTime, BadUuid, MissingAttribute, MissingReport, EofInElement, StatusRule}
-use Rattle.refusal.specs.declared.Cause.the-variants.{UnknownEntity, FaultyAttribute, RepeatedKey, BadReference, BadTable, RecordsSpent, TextFull, ScratchFull, NotLayout, OutputFull, CountLimit}
+use Rattle.refusal.specs.declared.Cause.the-variants.{UnknownEntity, FaultyAttribute, RepeatedKey, BadReference, BadTable, RecordsSpent}
+use Rattle.refusal.specs.declared.Cause.the-variants.{TextFull, ScratchFull, NotLayout, OutputFull, CountLimit, TooManyCases, NoSuchReport}
 
 abbrev pub placeOf : Cause → ℕ
 placeOf XmlFault = 0
@@ -30,6 +31,8 @@ placeOf ScratchFull = 18
 placeOf NotLayout = 19
 placeOf OutputFull = 20
 placeOf CountLimit = 21
+placeOf TooManyCases = 26
+placeOf NoSuchReport = 27
 
 -- of a sentence on an area that was lent with so many words or bytes
 abbrev pub placeBy : ℕ → ℕ → ℕ

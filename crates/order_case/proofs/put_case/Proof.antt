@@ -56,8 +56,11 @@ same-length-3 : tie.Need-same-length-3
 same-length-3 c = search needs
 
 returns : tie.Need-returns
-returns c = let i = c .before .before .before .before .before .before .before .before .before .before .before .before .before .before .before .args .i in
-    said (c .before .before .before .before .before .before .put-main .ensures) (failure-items i ∙ ap (caseItems i) (sym (c .before .before .before .before .before .before .before .before .before .before .enum-told .given .1)))
+returns c =
+    let enum-told-step = c .before .before .before .before .before .before .before .before .before .before .enum-told in
+    let put-main = c .before .before .before .before .before .before .put-main in
+    let i = c .before .before .before .before .before .before .before .before .before .before .before .before .before .before .before .args .i in
+    said (put-main .ensures) (failure-items i ∙ ap (caseItems i) (sym (enum-told-step .given .1)))
 
 same-length-4 : tie.Need-same-length-4
 same-length-4 c = search needs
@@ -69,8 +72,11 @@ same-length-6 : tie.Need-same-length-6
 same-length-6 c = search needs
 
 returns-2 : tie.Need-returns-2
-returns-2 c = let i = c .before .before .before .before .before .before .before .before .before .before .before .before .before .before .before .args .i in
-    said (c .before .before .before .before .before .before .put-main2 .ensures) (error-items i ∙ ap (caseItems i) (sym (c .before .before .before .before .before .before .before .before .before .before .enum-told2 .given .1)))
+returns-2 c =
+    let enum-told2 = c .before .before .before .before .before .before .before .before .before .before .enum-told2 in
+    let put-main2 = c .before .before .before .before .before .before .put-main2 in
+    let i = c .before .before .before .before .before .before .before .before .before .before .before .before .before .before .before .args .i in
+    said (put-main2 .ensures) (error-items i ∙ ap (caseItems i) (sym (enum-told2 .given .1)))
 
 same-length-7 : tie.Need-same-length-7
 same-length-7 c = search needs
@@ -82,8 +88,11 @@ same-length-9 : tie.Need-same-length-9
 same-length-9 c = search needs
 
 returns-3 : tie.Need-returns-3
-returns-3 c = let i = c .before .before .before .before .before .before .before .before .before .before .before .before .before .before .before .args .i in
-    said (c .before .before .before .before .before .before .put-main3 .ensures) (skipped-items i ∙ ap (caseItems i) (sym (c .before .before .before .before .before .before .before .before .before .before .enum-told3 .given .1)))
+returns-3 c =
+    let enum-told3 = c .before .before .before .before .before .before .before .before .before .before .enum-told3 in
+    let put-main3 = c .before .before .before .before .before .before .put-main3 in
+    let i = c .before .before .before .before .before .before .before .before .before .before .before .before .before .before .before .args .i in
+    said (put-main3 .ensures) (skipped-items i ∙ ap (caseItems i) (sym (enum-told3 .given .1)))
 
 same-length-10 : tie.Need-same-length-10
 same-length-10 c = search needs
@@ -95,8 +104,11 @@ same-length-12 : tie.Need-same-length-12
 same-length-12 c = search needs
 
 returns-4 : tie.Need-returns-4
-returns-4 c = let i = c .before .before .before .before .before .before .before .before .before .before .before .before .before .before .before .args .i in
-    said (c .before .before .before .before .before .before .put-flaky .ensures) (flaky-items i ∙ ap (caseItems i) (sym (c .before .before .before .before .before .before .before .before .before .before .enum-told4 .given .1)))
+returns-4 c =
+    let enum-told4 = c .before .before .before .before .before .before .before .before .before .before .enum-told4 in
+    let put-flaky = c .before .before .before .before .before .before .put-flaky in
+    let i = c .before .before .before .before .before .before .before .before .before .before .before .before .before .before .before .args .i in
+    said (put-flaky .ensures) (flaky-items i ∙ ap (caseItems i) (sym (enum-told4 .given .1)))
 
 same-length-13 : tie.Need-same-length-13
 same-length-13 c = search needs
@@ -108,8 +120,11 @@ same-length-15 : tie.Need-same-length-15
 same-length-15 c = search needs
 
 returns-5 : tie.Need-returns-5
-returns-5 c = let i = c .before .before .before .before .before .before .before .before .before .before .before .before .before .before .before .args .i in
-    said (c .before .before .before .before .before .before .put-opening .ensures) (plain-items i ∙ ap (caseItems i) (sym (c .before .before .before .before .before .before .before .before .before .before .enum-told5 .given .1)))
+returns-5 c =
+    let enum-told5 = c .before .before .before .before .before .before .before .before .before .before .enum-told5 in
+    let put-opening = c .before .before .before .before .before .before .put-opening in
+    let i = c .before .before .before .before .before .before .before .before .before .before .before .before .before .before .before .args .i in
+    said (put-opening .ensures) (plain-items i ∙ ap (caseItems i) (sym (enum-told5 .given .1)))
 
 pub put-case-spec : {M : Type 1} → statement M
 put-case-spec =

@@ -26,7 +26,12 @@ put-tag-requires-3 : tie.Need-put-tag-requires-3
 put-tag-requires-3 c κs = search needs
 
 same-length : tie.Need-same-length
-same-length c = c .before .before .before .before .put-tag3 .kept .0 ∙ c .before .before .before .before .before .before .before .before .before .before .before .put-tag2 .kept .0 ∙ c .before .before .before .before .before .before .before .before .before .before .before .before .before .before .before .before .before .before .put-tag .kept .0 ∙ c .before .before .before .before .before .before .before .before .before .before .before .before .before .before .before .before .before .before .before .before .before .before .before .before .before .before .before .put-opening .kept .0
+same-length c =
+    let at-put-tag = c .before .before .before .before .before .before .before .before .before .before .before .before .before .before .before .before .before .before in
+    let put-opening = at-put-tag .before .before .before .before .before .before .before .before .before .put-opening in
+    let put-tag2 = c .before .before .before .before .before .before .before .before .before .before .before .put-tag2 in
+    let put-tag3 = c .before .before .before .before .put-tag3 in
+    put-tag3 .kept .0 ∙ put-tag2 .kept .0 ∙ at-put-tag .put-tag .kept .0 ∙ put-opening .kept .0
 
 same-length-2 : tie.Need-same-length-2
 same-length-2 c = search needs
@@ -35,7 +40,12 @@ same-length-3 : tie.Need-same-length-3
 same-length-3 c = search needs
 
 returns : tie.Need-returns
-returns c = then (c .before .before .before .before .before .before .before .before .before .before .before .before .before .before .before .before .before .before .before .before .before .before .before .before .before .before .before .put-opening .ensures) (then (c .before .before .before .before .before .before .before .before .before .before .before .before .before .before .before .before .before .before .put-tag .ensures _) (then (c .before .before .before .before .before .before .before .before .before .before .before .put-tag2 .ensures _) (c .before .before .before .before .put-tag3 .ensures _)))
+returns c =
+    let at-put-tag = c .before .before .before .before .before .before .before .before .before .before .before .before .before .before .before .before .before .before in
+    let put-opening = at-put-tag .before .before .before .before .before .before .before .before .before .put-opening in
+    let put-tag2 = c .before .before .before .before .before .before .before .before .before .before .before .put-tag2 in
+    let put-tag3 = c .before .before .before .before .put-tag3 in
+    then (put-opening .ensures) (then (at-put-tag .put-tag .ensures _) (then (put-tag2 .ensures _) (put-tag3 .ensures _)))
 
 pub put-flaky-spec : {M : Type 1} → statement M
 put-flaky-spec =

@@ -25,7 +25,11 @@ same-length-3 : tie.Need-same-length-3
 same-length-3 c = search needs
 
 returns : tie.Need-returns
-returns c = then (c .before .before .before .before .before .before .before .before .before .before .before .before .before .before .before .before .before .before .before .before .put-opening .ensures) (then (c .before .before .before .before .before .before .before .before .before .before .before .put-tag .ensures _) (c .before .before .before .before .put-tag2 .ensures _))
+returns c =
+    let at-put-tag = c .before .before .before .before .before .before .before .before .before .before .before in
+    let put-opening = at-put-tag .before .before .before .before .before .before .before .before .before .put-opening in
+    let put-tag2 = c .before .before .before .before .put-tag2 in
+    then (put-opening .ensures) (then (at-put-tag .put-tag .ensures _) (put-tag2 .ensures _))
 
 pub put-main-spec : {M : Type 1} → statement M
 put-main-spec =

@@ -22,7 +22,10 @@ same-length-3 : tie.Need-same-length-3
 same-length-3 c = search needs
 
 returns : tie.Need-returns
-returns c = then (c .before .before .before .before .before .before .before .before .before .before .before .put-tag .ensures _) (c .before .before .before .before .put-name .ensures _)
+returns c =
+    let put-tag = c .before .before .before .before .before .before .before .before .before .before .before .put-tag in
+    let put-name = c .before .before .before .before .put-name in
+    then (put-tag .ensures _) (put-name .ensures _)
 
 pub put-opening-spec : {M : Type 1} → statement M
 put-opening-spec =

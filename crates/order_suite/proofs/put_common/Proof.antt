@@ -25,7 +25,11 @@ same-length-2 : tie.Need-same-length-2
 same-length-2 c = search needs
 
 returns : tie.Need-returns
-returns c = λ ev. then (c .before .before .before .before .before .before .before .before .before .before .before .before .before .before .before .before .before .before .put-name .ensures ev) (then (c .before .before .before .before .before .before .before .before .before .before .before .put-count .ensures ev) (c .before .before .before .before .put-count2 .ensures ev))
+returns c =
+    let put-name = c .before .before .before .before .before .before .before .before .before .before .before .before .before .before .before .before .before .before .put-name in
+    let put-count = c .before .before .before .before .before .before .before .before .before .before .before .put-count in
+    let put-count2 = c .before .before .before .before .put-count2 in
+    λ ev. then (put-name .ensures ev) (then (put-count .ensures ev) (put-count2 .ensures ev))
 
 pub put-common-spec : {M : Type 1} → statement M
 put-common-spec =

@@ -18,7 +18,10 @@ same-length-2 : tie.Need-same-length-2
 same-length-2 c = search needs
 
 returns : tie.Need-returns
-returns c = λ ev. c .before .before .store-attribute .ensures ev _ _ _ _ _ (c .before .before .before .before .before .before .before .before .before .before .put-key .ensures) (c .before .before .before .before .before .before .put-decimal .ensures)
+returns c =
+    let put-key = c .before .before .before .before .before .before .before .before .before .before .put-key in
+    let put-decimal = c .before .before .before .before .before .before .put-decimal in
+    λ ev. c .before .before .store-attribute .ensures ev _ _ _ _ _ (put-key .ensures) (put-decimal .ensures)
 
 pub put-count-spec : {M : Type 1} → statement M
 put-count-spec =

@@ -24,7 +24,10 @@ same-length-2 : tie.Need-same-length-2
 same-length-2 c = search needs
 
 returns : tie.Need-returns
-returns c = λ ev. c .before .before .store-attribute .ensures ev _ _ _ _ _ (c .before .before .before .before .before .before .before .before .before .before .before .put-key .ensures) (c .before .before .before .before .before .before .put .ensures)
+returns c =
+    let put-key = c .before .before .before .before .before .before .before .before .before .before .before .put-key in
+    let put = c .before .before .before .before .before .before .put in
+    λ ev. c .before .before .store-attribute .ensures ev _ _ _ _ _ (put-key .ensures) (put .ensures)
 
 pub put-name-spec : {M : Type 1} → statement M
 put-name-spec =

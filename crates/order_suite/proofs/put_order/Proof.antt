@@ -23,7 +23,12 @@ same-length-3 : tie.Need-same-length-3
 same-length-3 c = search needs
 
 returns : tie.Need-returns
-returns c = said (then (c .before .before .before .before .before .before .before .before .before .before .before .before .before .before .before .before .before .before .before .before .before .before .before .put-head .ensures) (then (c .before .before .before .before .before .before .before .before .before .before .before .before .before .put-suite .ensures) (c .before .before .before .before .put-tail .ensures _))) (report-items (c .before .before .before .before .before .before .before .before .before .before .before .before .before .before .before .before .before .before .before .before .before .before .before .before .before .before .before .before .before .before .args .o))
+returns c =
+    let at-put-suite = c .before .before .before .before .before .before .before .before .before .before .before .before .before in
+    let at-put-head = at-put-suite .before .before .before .before .before .before .before .before .before .before in
+    let args = at-put-head .before .before .before .before .before .before .before .args in
+    let put-tail = c .before .before .before .before .put-tail in
+    said (then (at-put-head .put-head .ensures) (then (at-put-suite .put-suite .ensures) (put-tail .ensures _))) (report-items (args .o))
 
 pub put-order-spec : {M : Type 1} → statement M
 put-order-spec =

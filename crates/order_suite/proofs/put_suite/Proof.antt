@@ -17,7 +17,11 @@ same-length-3 : tie.Need-same-length-3
 same-length-3 c = search needs
 
 returns : tie.Need-returns
-returns c = said (c .before .before .before .before .before .before .put-suite-tag .ensures) (empty-suite (c .before .before .before .before .before .before .before .before .before .before .before .before .before .before .before .args .o) (c .before .before .before .before .before .before .before .before .before .before .before .before .before .before .before .pre) (c .before .before .before .before .before .before .before .before .before .before .if1 .taken))
+returns c =
+    let start = c .before .before .before .before .before .before .before .before .before .before .before .before .before .before .before in
+    let if1 = c .before .before .before .before .before .before .before .before .before .before .if1 in
+    let put-suite-tag = c .before .before .before .before .before .before .put-suite-tag in
+    said (put-suite-tag .ensures) (empty-suite (start .args .o) (start .pre) (if1 .taken))
 
 put-suite-tag-requires-2 : tie.Need-put-suite-tag-requires-2
 put-suite-tag-requires-2 c κs = search needs
@@ -41,7 +45,13 @@ same-length-6 : tie.Need-same-length-6
 same-length-6 c = search needs
 
 returns-2 : tie.Need-returns-2
-returns-2 c = said (then (c .before .before .before .before .before .before .before .before .before .before .before .before .before .before .before .before .before .before .before .before .before .before .before .put-suite-tag2 .ensures) (then (c .before .before .before .before .before .before .before .before .before .before .before .before .before .put-kinds .ensures) (c .before .before .before .before .put-tag .ensures _))) (full-suite (c .before .before .before .before .before .before .before .before .before .before .before .before .before .before .before .before .before .before .before .before .before .before .before .before .before .before .before .before .before .before .before .before .args .o) (c .before .before .before .before .before .before .before .before .before .before .before .before .before .before .before .before .before .before .before .before .before .before .before .before .before .before .before .before .before .before .before .before .pre) (c .before .before .before .before .before .before .before .before .before .before .before .before .before .before .before .before .before .before .before .before .before .before .before .before .before .before .before .if1 .left))
+returns-2 c =
+    let at-put-kinds = c .before .before .before .before .before .before .before .before .before .before .before .before .before in
+    let at-put-suite-tag2 = at-put-kinds .before .before .before .before .before .before .before .before .before .before in
+    let at-if1 = at-put-suite-tag2 .before .before .before .before in
+    let start = at-if1 .before .before .before .before .before in
+    let put-tag = c .before .before .before .before .put-tag in
+    said (then (at-put-suite-tag2 .put-suite-tag2 .ensures) (then (at-put-kinds .put-kinds .ensures) (put-tag .ensures _))) (full-suite (start .args .o) (start .pre) (at-if1 .if1 .left))
 
 pub put-suite-spec : {M : Type 1} → statement M
 put-suite-spec =

@@ -34,7 +34,12 @@ same-length-3 : tie.Need-same-length-3
 same-length-3 c = search needs
 
 returns : tie.Need-returns
-returns c = then (c .before .before .before .before .before .before .before .before .before .before .before .before .before .before .before .before .before .before .before .before .before .before .before .before .before .put-tag .ensures _) (then (c .before .before .before .before .before .before .before .before .before .before .before .before .before .before .before .before .before .before .put-common .ensures _) (then (c .before .before .before .before .before .before .before .before .before .before .before .put-count .ensures _) (c .before .before .before .before .put-count2 .ensures _)))
+returns c =
+    let at-put-common = c .before .before .before .before .before .before .before .before .before .before .before .before .before .before .before .before .before .before in
+    let put-tag = at-put-common .before .before .before .before .before .before .before .put-tag in
+    let put-count = c .before .before .before .before .before .before .before .before .before .before .before .put-count in
+    let put-count2 = c .before .before .before .before .put-count2 in
+    then (put-tag .ensures _) (then (at-put-common .put-common .ensures _) (then (put-count .ensures _) (put-count2 .ensures _)))
 
 pub put-suite-tag-spec : {M : Type 1} → statement M
 put-suite-tag-spec =

@@ -50,13 +50,15 @@ returns-2 c =
     let args = c .before .before .before .before .before .before .before .before .before .before .before .before .before .before .before .before .before .args in
     let o = orderOf (args .cases) (args .failures) (args .errors) (args .skipped) (args .flaky) in
     let cleared = c .before .before .before .before .before .before .before .before .before .before .clear-table in
-    no-report o _ _ _ (c .before .before .if1 .left) (sym (c .before .before .before .exceeds-cases .ensures) ∙ c .before .if2 .taken) (c .refuse2 .ensures) (cleared .ensures .0) (cleared .ensures .1 .0) (cleared .ensures .1 .1)
+    no-report o _ _ _ (c .before .before .if1 .left) (sym (c .before .before .before .exceeds-cases .ensures) ∙ c .before .if2 .taken)
+    (c .refuse2 .ensures) (cleared .ensures .0) (cleared .ensures .1 .0) (cleared .ensures .1 .1)
 
 put-rehearsal-requires : tie.Need-put-rehearsal-requires
 put-rehearsal-requires c κs =
+    let exceeds-cases = c .before .before .before .before .before .exceeds-cases in
     let args = c .before .before .before .before .before .before .before .before .before .before .before .before .before .before .before .before .before .before .before .args in
     let o = orderOf (args .cases) (args .failures) (args .errors) (args .skipped) (args .flaky) in
-    ltb-false (o .cases) (stated o) (sym (c .before .before .before .before .before .exceeds-cases .ensures) ∙ c .before .before .before .if2 .left)
+    ltb-false (o .cases) (stated o) (sym (exceeds-cases .ensures) ∙ c .before .before .before .if2 .left)
 
 enum-known-mark : tie.Need-enum-known-mark
 enum-known-mark c = search needs
@@ -68,29 +70,47 @@ refuse-full-requires : tie.Need-refuse-full-requires
 refuse-full-requires c κs = search needs
 
 same-length-7 : tie.Need-same-length-7
-same-length-7 c = c .before .before .before .before .before .before .refuse-full .kept .0 ∙ c .before .before .before .before .before .before .before .before .before .before .before .before .before .before .before .before .before .before .put-rehearsal .kept .0 ∙ c .before .before .before .before .before .before .before .before .before .before .before .before .before .before .before .before .before .before .before .before .before .before .before .before .before .before .before .before .before .before .before .clear-table .kept .0
+same-length-7 c =
+    let at-put-rehearsal = c .before .before .before .before .before .before .before .before .before .before .before .before .before .before .before .before .before .before in
+    let clear-table = at-put-rehearsal .before .before .before .before .before .before .before .before .before .before .before .before .before .clear-table in
+    let refuse-full = c .before .before .before .before .before .before .refuse-full in
+    refuse-full .kept .0 ∙ at-put-rehearsal .put-rehearsal .kept .0 ∙ clear-table .kept .0
 
 same-length-8 : tie.Need-same-length-8
-same-length-8 c = c .before .before .before .before .before .before .refuse-full .kept .1 .0 ∙ c .before .before .before .before .before .before .before .before .before .before .before .before .before .before .before .before .before .before .put-rehearsal .kept .1 .0 ∙ c .before .before .before .before .before .before .before .before .before .before .before .before .before .before .before .before .before .before .before .before .before .before .before .before .before .before .before .before .before .before .before .clear-table .kept .1 .0
+same-length-8 c =
+    let at-put-rehearsal = c .before .before .before .before .before .before .before .before .before .before .before .before .before .before .before .before .before .before in
+    let clear-table = at-put-rehearsal .before .before .before .before .before .before .before .before .before .before .before .before .before .clear-table in
+    let refuse-full = c .before .before .before .before .before .before .refuse-full in
+    refuse-full .kept .1 .0 ∙ at-put-rehearsal .put-rehearsal .kept .1 .0 ∙ clear-table .kept .1 .0
 
 same-length-9 : tie.Need-same-length-9
-same-length-9 c = c .before .before .before .before .before .before .refuse-full .kept .1 .1 .0 ∙ c .before .before .before .before .before .before .before .before .before .before .before .before .before .before .before .before .before .before .put-rehearsal .kept .1 .1 .0 ∙ c .before .before .before .before .before .before .before .before .before .before .before .before .before .before .before .before .before .before .before .before .before .before .before .before .before .before .before .before .before .before .before .clear-table .kept .1 .1 .0
+same-length-9 c =
+    let at-put-rehearsal = c .before .before .before .before .before .before .before .before .before .before .before .before .before .before .before .before .before .before in
+    let clear-table = at-put-rehearsal .before .before .before .before .before .before .before .before .before .before .before .before .before .clear-table in
+    let refuse-full = c .before .before .before .before .before .before .refuse-full in
+    refuse-full .kept .1 .1 .0 ∙ at-put-rehearsal .put-rehearsal .kept .1 .1 .0 ∙ clear-table .kept .1 .1 .0
 
 returns-3 : tie.Need-returns-3
 returns-3 c =
-    let args = c .before .before .before .before .before .before .before .before .before .before .before .before .before .before .before .before .before .before .before .before .before .before .before .before .before .before .before .before .before .before .before .before .before .before .before .before .before .before .args in
+    let at-enum-told = c .before .before .before .before .before .before .before .before .before .before in
+    let at-if2 = at-enum-told .before .before .before .before .before .before .before .before .before .before .before .before in
+    let at-if1 = at-if2 .before in
+    let exceeds-cases = at-if1 .before .exceeds-cases in
+    let args = c .before .before .before .before .before .before .before .before .before .before .before .before .before .before .before .before .before .before .before
+    .before .before .before .before .before .before .before .before .before .before .before .before .before .before .before .before .before .before .before .args in
     let o = orderOf (args .cases) (args .failures) (args .errors) (args .skipped) (args .flaky) in
     let e = length (args .events .now) in
     let a = length (args .attributes .now) in
     let b = length (args .bytes .now) in
-    let cleared = c .before .before .before .before .before .before .before .before .before .before .before .before .before .before .before .before .before .before .before .before .before .before .before .before .before .before .before .before .before .before .before .clear-table in
+    let cleared = c .before .before .before .before .before .before .before .before .before .before .before .before .before .before .before .before
+    .before .before .before .before .before .before .before .before .before .before .before .before .before .before .before .clear-table in
     let put = c .before .before .before .before .before .before .before .before .before .before .before .before .before .before .before .before .before .before .put-rehearsal in
     let again = c .before .before .before .before .before .before .refuse-full in
     let x : length (put .last .0) ≡ e = put .kept .0 ∙ cleared .kept .0 in
     let y : length (put .last .1 .0) ≡ a = put .kept .1 .0 ∙ cleared .kept .1 .0 in
     let z : length (put .last .1 .1 .0) ≡ b = put .kept .1 .1 .0 ∙ cleared .kept .1 .1 .0 in
-    short-put o e a b (c .before .before .before .before .before .before .before .before .before .before .before .before .before .before .before .before .before .before .before .before .before .before .before .if1 .left) (sym (c .before .before .before .before .before .before .before .before .before .before .before .before .before .before .before .before .before .before .before .before .before .before .before .before .exceeds-cases .ensures) ∙ c .before .before .before .before .before .before .before .before .before .before .before .before .before .before .before .before .before .before .before .before .before .before .if2 .left) (cleared .ensures .0) (cleared .ensures .1 .0) (cleared .ensures .1 .1)
-    (put .ensures) (c .before .before .before .before .before .before .before .before .before .before .enum-told .given .1) (again .ensures .0) (again .ensures .1 .0 ∙ ap zeros x) (again .ensures .1 .1 .0 ∙ ap zeros y) (again .ensures .1 .1 .1 ∙ ap zeros z)
+    short-put o e a b (at-if1 .if1 .left) (sym (exceeds-cases .ensures) ∙ at-if2 .if2 .left) (cleared .ensures .0) (cleared .ensures .1 .0) (cleared .ensures .1 .1)
+    (put .ensures) (at-enum-told .enum-told .given .1) (again .ensures .0) (again .ensures .1 .0 ∙ ap zeros x) (again .ensures .1 .1 .0 ∙ ap zeros y) (again .ensures .1 .1 .1 ∙ ap zeros z)
 
 no-refusal-requires : tie.Need-no-refusal-requires
 no-refusal-requires c κs = search needs
@@ -106,14 +126,20 @@ same-length-12 c = search needs
 
 returns-4 : tie.Need-returns-4
 returns-4 c =
-    let args = c .before .before .before .before .before .before .before .before .before .before .before .before .before .before .before .before .before .before .before .before .before .before .before .before .before .before .before .before .before .before .args in
+    let exceeds-cases = c .before .before .before .before .before .before .before .before .before .before .before .before .before .before .before .before .exceeds-cases in
+    let if1 = c .before .before .before .before .before .before .before .before .before .before .before .before .before .before .before .if1 in
+    let if2 = c .before .before .before .before .before .before .before .before .before .before .before .before .before .before .if2 in
+    let put-rehearsal = c .before .before .before .before .before .before .before .before .before .before .put-rehearsal in
+    let args = c .before .before .before .before .before .before .before .before .before .before .before .before .before .before .before
+    .before .before .before .before .before .before .before .before .before .before .before .before .before .before .before .args in
     let o = orderOf (args .cases) (args .failures) (args .errors) (args .skipped) (args .flaky) in
     let e = length (args .events .now) in
     let a = length (args .attributes .now) in
     let b = length (args .bytes .now) in
-    let cleared = c .before .before .before .before .before .before .before .before .before .before .before .before .before .before .before .before .before .before .before .before .before .before .before .clear-table in
-    whole-put o e a b (c .before .before .before .before .before .before .before .before .before .before .before .before .before .before .before .if1 .left) (sym (c .before .before .before .before .before .before .before .before .before .before .before .before .before .before .before .before .exceeds-cases .ensures) ∙ c .before .before .before .before .before .before .before .before .before .before .before .before .before .before .if2 .left) (cleared .ensures .0) (cleared .ensures .1 .0) (cleared .ensures .1 .1)
-    (c .before .before .before .before .before .before .before .before .before .before .put-rehearsal .ensures) _ (c .no-refusal .ensures) (c .before .before .mark .given .1)
+    let cleared = c .before .before .before .before .before .before .before .before .before .before .before .before
+    .before .before .before .before .before .before .before .before .before .before .before .clear-table in
+    whole-put o e a b (if1 .left) (sym (exceeds-cases .ensures) ∙ if2 .left) (cleared .ensures .0) (cleared .ensures .1 .0) (cleared .ensures .1 .1)
+    (put-rehearsal .ensures) _ (c .no-refusal .ensures) (c .before .before .mark .given .1)
 
 pub rehearse-spec : {M : Type 1} → statement M
 rehearse-spec =
