@@ -12,6 +12,7 @@
 
 _Static_assert(sizeof(kerzhoma_refusal) == 92, "refusal");
 _Static_assert(sizeof(kerzhoma_counts) == 48, "counts");
+_Static_assert(sizeof(kerzhoma_released) == 152, "released");
 _Static_assert(sizeof(kerzhoma_builder) == 24, "builder");
 _Static_assert(sizeof(kerzhoma_moment) == 16, "moment");
 _Static_assert(sizeof(kerzhoma_uuid) == 16, "uuid");
@@ -257,6 +258,50 @@ static void values(void)
     s.tests = 5;
     r = kerzhoma_add_suite(c, s);
     expect(r.refusal.number == 0 && r.counts.tests == 7 && r.counts.has_disabled && r.counts.disabled == 3, "a suite added");
+}
+
+/* ---- the release sheet ---- */
+
+static void sheets(void)
+{
+    static const char sheet[] = "(tests 7)\n(failures 2)\n(errors 0)\n(skipped 1)\n(disabled 0)\n(passed 4 7)\n";
+    size_t size = sizeof sheet - 1;
+    kerzhoma_counts *records = room(4097 * sizeof *records);
+    uint8_t *out = room(size + 3);
+    kerzhoma_released r;
+    kerzhoma_printed p;
+
+    records[0] = (kerzhoma_counts){ 5, 1, 0, 1, 9, false };
+    records[1] = (kerzhoma_counts){ 2, 1, 0, 0, 0, true };
+    r = kerzhoma_release_sheet(records, 2);
+    expect(r.refusal.number == 0 && r.sheet.sums.tests == 7 && r.sheet.sums.failures == 2 && r.sheet.sums.has_disabled
+           && r.sheet.sums.disabled == 0 && r.sheet.passed == 4, "a sheet");
+    p = kerzhoma_print_sheet(records, 2, out, size + 3);
+    expect(p.refusal.number == 0 && p.length == size && memcmp(out, sheet, size) == 0 && zero(out + size, 3), "a sheet printed");
+    p = kerzhoma_print_sheet(records, 2, out, size);
+    expect(p.refusal.number == 0 && p.length == size, "an area that suffices");
+    p = kerzhoma_print_sheet(records, 2, out, size - 1);
+    expect(p.refusal.number == KERZHOMA_REFUSED_OUTPUT && p.length == 0 && zero(out, size - 1) && out[size - 1] == '\n', "a byte too short");
+    r = kerzhoma_release_sheet(NULL, 0);
+    expect(r.refusal.number == 0 && r.sheet.sums.tests == 0 && !r.sheet.sums.has_disabled && r.sheet.passed == 0, "no reports");
+    records[1].tests = UINT64_MAX - 4;
+    r = kerzhoma_release_sheet(records, 2);
+    expect(r.refusal.number == KERZHOMA_REFUSED_COUNT && zero(&r.sheet.sums.tests, 40) && !r.sheet.sums.has_disabled && r.sheet.passed == 0,
+           "a sum above the limit");
+    p = kerzhoma_print_sheet(records, 2, NULL, 0);
+    expect(p.refusal.number == KERZHOMA_REFUSED_COUNT && p.length == 0, "17 before 16");
+    memset(records, 0, 4097 * sizeof *records);
+    records[0].tests = UINT64_MAX;
+    r = kerzhoma_release_sheet(records, 4096);
+    expect(r.refusal.number == 0 && r.sheet.passed == UINT64_MAX, "4096 reports");
+    records[1].tests = 1;
+    r = kerzhoma_release_sheet(records, 4097);
+    expect(r.refusal.number == KERZHOMA_REFUSED_TABLE && r.refusal.cause == KERZHOMA_CAUSE_TOO_MANY_REPORTS && r.refusal.depth == 0
+           && r.refusal.event == KERZHOMA_NONE && r.refusal.attribute == KERZHOMA_NONE, "4097 reports");
+    p = kerzhoma_print_sheet(records, 4097, out, size);
+    expect(p.refusal.cause == KERZHOMA_CAUSE_TOO_MANY_REPORTS && p.length == 0 && zero(out, size), "4097 reports, printed");
+    free(records);
+    free(out);
 }
 
 /* ---- builders ---- */
@@ -653,6 +698,7 @@ int main(int argc, char **argv)
             rooms(argv[i]);
     } else if (argc == 1) {
         values();
+        sheets();
         built();
         refusing();
         areas();

@@ -5,8 +5,8 @@
  *     cc -std=c11 -I ports/c yours.c target/staticlib/libport_c.a    (x86-64 Linux; of the C library only memset and memcpy are used)
  *
  * There is no allocation, no global state and no output: a call works in areas that the caller lends, each as pointer and length.
- * Lengths of `uint32_t *` are in words, of `uint8_t *` in bytes.
- *   - NULL with length 0 is an empty area. Any other NULL, a pointer to words that isn't aligned to 4 bytes, an area that is shorter
+ * Lengths of `uint32_t *` are in words, of `uint8_t *` in bytes, of `kerzhoma_counts *` in structs.
+ *   - NULL with length 0 is an empty area. Any other NULL, a pointer that isn't aligned for what it points to, an area that is shorter
  *     than its length says, or a result area that overlaps another area of the same call is the caller's fault, and undefined.
  *   - Inputs (`const`) are never changed. Result areas may hold anything before the call.
  *   - Where a call refuses, every result area of it is zero throughout. Behind kerzhoma_read_and_list, kerzhoma_public_listing and
@@ -31,6 +31,7 @@ extern "C" {
 #define KERZHOMA_MOST_ATTRIBUTES 65536
 #define KERZHOMA_MOST_RECORDS 65536
 #define KERZHOMA_MOST_BYTES 16777216 /* of source, text, scratch, and of the bytes that writing puts */
+#define KERZHOMA_MOST_REPORTS 4096 /* of a release sheet */
 
 #define KERZHOMA_EVENT_WORDS 5
 #define KERZHOMA_ATTRIBUTE_WORDS 5
@@ -81,7 +82,7 @@ enum kerzhoma_refused {
     KERZHOMA_REFUSED_STRUCTURE = 8,  /* no report, or the table ends inside an element that is read */
     KERZHOMA_REFUSED_ATTRIBUTE = 9,  /* faulty, or a key stands twice */
     KERZHOMA_REFUSED_REFERENCE = 10, /* &..; */
-    KERZHOMA_REFUSED_TABLE = 11,     /* the table is malformed or above the limits */
+    KERZHOMA_REFUSED_TABLE = 11,     /* the table is malformed or above the limits; a release sheet of more than 4096 reports */
     KERZHOMA_REFUSED_RECORDS = 12,   /* `records` is too short, or the limit is too small */
     KERZHOMA_REFUSED_TEXT = 13,      /* `text` is too short, or the limit is too small */
     KERZHOMA_REFUSED_SCRATCH = 14,   /* `scratch` is too short, or the limit is too small */
@@ -120,7 +121,8 @@ enum kerzhoma_cause {
     KERZHOMA_CAUSE_OUTPUT_FULL = 21,      /* 16 */
     KERZHOMA_CAUSE_COUNT_LIMIT = 22,      /* 17 */
     KERZHOMA_CAUSE_TOO_MANY_CASES = 23,   /* 23 */
-    KERZHOMA_CAUSE_NO_SUCH_REPORT = 24    /* 24 */
+    KERZHOMA_CAUSE_NO_SUCH_REPORT = 24,   /* 24 */
+    KERZHOMA_CAUSE_TOO_MANY_REPORTS = 25  /* 11 */
 };
 
 /* Kinds of path elements. Index and event are KERZHOMA_NONE but where a comment says otherwise. */
@@ -320,6 +322,35 @@ kerzhoma_counted kerzhoma_add_case(kerzhoma_counts counts, uint32_t outcome);
 
 /* The sums; `disabled` only if the suite has it. */
 kerzhoma_counted kerzhoma_add_suite(kerzhoma_counts counts, kerzhoma_counts suite);
+
+/* ---- the release sheet ----
+ * One sheet over the counts of many reports, in any order the same. */
+
+typedef struct kerzhoma_sheet {
+    kerzhoma_counts sums; /* exact; has_disabled if one of the reports has it, and disabled 0 if none has */
+    uint64_t passed;      /* tests less failures, errors and skipped; 0 where these three together exceed tests */
+} kerzhoma_sheet;
+
+typedef struct kerzhoma_released {
+    kerzhoma_sheet sheet; /* zero throughout, where the call refuses (11, 17) */
+    kerzhoma_refusal refusal;
+} kerzhoma_released;
+
+/* The sheet of `records_length` counts, at most KERZHOMA_MOST_REPORTS (more is 11); 17 where a sum would pass 18446744073709551615. The
+ * length counts structs, not bytes. */
+kerzhoma_released kerzhoma_release_sheet(const kerzhoma_counts *records, size_t records_length);
+
+/* `length` is how many bytes of `out` the sheet takes, 0 where the call refuses (11, 17, 16 in this order). */
+typedef struct kerzhoma_printed {
+    size_t length;
+    kerzhoma_refusal refusal;
+} kerzhoma_printed;
+
+/* Puts the sheet as text at the front of `out`, and zeros behind it: `(tests 5)`, `(failures 1)`, `(errors 0)`, `(skipped 1)`,
+ * `(disabled -)` where it is missing, `(passed 3 5)`, a line each, each ended by a newline. 205 bytes are enough for every sheet. */
+kerzhoma_printed kerzhoma_print_sheet(
+    const kerzhoma_counts *records, size_t records_length,
+    uint8_t *out, size_t out_length);
 
 /* ---- builders ----
  * A report is made in two areas, from the front on: kerzhoma_new_report or kerzhoma_unnamed_report; then suites, each with its extras, its

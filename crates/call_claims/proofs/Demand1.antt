@@ -24,6 +24,7 @@ use Rattle.call_claims.proofs.TokenCall.{tokenize-ends}
 use Rattle.call_claims.proofs.ReadCall.{numbered, read-zero, read-placed}
 use Rattle.call_claims.proofs.LateCalls.{Within, ends, ends-leaving, within-late, within-suite}
 use Rattle.call_claims.proofs.ListCalls.{list-ends, explain-ends, explain-xml-ends, time-text-ends, once-ends}
+use Rattle.call_claims.proofs.SheetCalls.{release-ends, print-ends}
 use Rattle.call_claims.proofs.XmlCall.{document-ends, table-ends}
 use Rattle.call_claims.proofs.BuilderCalls.{unnamed-ends, new-ends, builder-calls}
 use Rattle.call_claims.proofs.CodedCalls.{within-coded, coded-calls}
@@ -89,6 +90,8 @@ demand-1 =
       addSuiteCounts = counts-end;
       addCaseCounts = λ c s. counts-end c (caseCounts s);
       addCodedCase = coded-case-ends;
+      releaseSheet = release-ends;
+      printSheet = print-ends;
       unnamedReport = unnamed-ends;
       newReport = new-ends;
       builder = builder-calls;

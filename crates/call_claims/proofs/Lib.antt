@@ -6,6 +6,7 @@ pub mod CodedCalls
 pub mod TokenCall
 pub mod ReadCall
 pub mod ListCalls
+pub mod SheetCalls
 pub mod XmlCall
 pub mod Demand1
 pub mod Limits

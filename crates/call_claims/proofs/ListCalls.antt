@@ -30,12 +30,12 @@ use Rattle.call_claims.proofs.ReadCall.{read-placed}
 use Rattle.call_claims.proofs.LateCalls.{Within, ends, ends-leaving, within-late}
 
 -- ---- texts put into an output area: listing, explaining
-out-zero : (x : Answer ℕ) (n : ℕ) (f : List ℕ) (why : Refused) → outcomeOf x ≡ refused why → outputFor x n f ≡ zeros n
+pub out-zero : (x : Answer ℕ) (n : ℕ) (f : List ℕ) (why : Refused) → outcomeOf x ≡ refused why → outputFor x n f ≡ zeros n
 out-zero (gives k) n f why e = let z : _≡_ {A = ℕ} 0 1 = cc in absurd (omega arith)
 out-zero (fails c) n f why e = refl
 
 -- "too short", 16
-within-placing : {ns : List ℕ} → isOneOf 16 ns ≡ true → (n : ℕ) (f : List ℕ) → Within ns (outcomeOf (placing cause.OutputFull n f))
+pub within-placing : {ns : List ℕ} → isOneOf 16 ns ≡ true → (n : ℕ) (f : List ℕ) → Within ns (outcomeOf (placing cause.OutputFull n f))
 within-placing {ns} h n f = go (leb (length f) n)
   where
     go : (b : Bool) → Within ns (outcomeOf (cond b (gives (length f)) (fails cause.OutputFull)))

@@ -59,6 +59,7 @@ sorted cause.OutputFull = (refl, inr (inl (lit≤ tt, lit≤ tt)))
 sorted cause.CountLimit = (refl, inr (inl (lit≤ tt, lit≤ tt)))
 sorted cause.TooManyCases = (refl, inr (inr (lit≤ tt)))
 sorted cause.NoSuchReport = (refl, inr (inr (lit≤ tt)))
+sorted cause.TooManyReports = (refl, inl refl)
 
 pub numbered : (c : Cause) → isOneOf (number c) allNumbers ≡ true
 numbered c = sorted c .0

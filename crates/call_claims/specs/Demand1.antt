@@ -34,6 +34,10 @@
 --       withCase, kept (crate tree_counts: Counts); 17, and 15 for a bad code
 --   kerzhoma_add_suite: tree_counts::Counts::add_test_suite
 --       withSuite, kept (crate tree_counts: Counts); 17
+--   kerzhoma_release_sheet: sheet::release_sheet
+--       releaseSheet, sheetIn (crate sheet_sums: Sheet); 11, 17
+--   kerzhoma_print_sheet: sheet::release_sheet, and sheet_text::print_sheet of what it answers
+--       printing, sheetArea (crate sheet_text: Printed); 11, 16, 17
 -- Builders (crates builder, builder_set, with the same names): these of crate build_draft (Calls), with wordsLeft and textLeft (Draft). 15 is a bad
 -- code, too, in the calls that take one: `coded` (crate port_values: Codes).
 --   kerzhoma_unnamed_report: builder::unnamed_report
@@ -67,11 +71,11 @@
 --   kerzhoma_finish_report: builder::finish_report
 --       finish; 15, 17
 -- The answer is the outcome as a struct, with `refusalFrom` (crate refusal: Refusal) of what a refusal carries: answerOf (crate reader: Answer),
--- listingFrom (lister), writingFrom (writer, and of rehearsal), explainedFrom (explain), countedFrom (tree_counts: Counts), builtFrom (build_draft: Draft); and for C a
--- struct of numbers (crates port_refusal, port_values, port_c: portOutcome, builtPort and their like). Tokenizing alone has no such struct: its refusal
--- is a number, 18 and 19 among them, and a byte (result, crate xml_state: Answer). `explain_xml` and `write_time` say only that a text doesn't fit;
--- behind `write_time` the call from C clears the area. All areas but the output area are zero behind `read_and_list`, `public_listing` and
--- `list_xml`, whatever they come to.
+-- listingFrom (lister), writingFrom (writer, and of rehearsal), explainedFrom (explain), countedFrom (tree_counts: Counts), releasedFrom (sheet_sums:
+-- Sheet), printedFrom (sheet_text: Printed), builtFrom (build_draft: Draft); and for C a struct of numbers (crates port_refusal, port_values, port_c:
+-- portOutcome, builtPort and their like). Tokenizing alone has no such struct: its refusal is a number, 18 and 19 among them, and a byte (result, crate
+-- xml_state: Answer). `explain_xml` and `write_time` say only that a text doesn't fit; behind `write_time` the call from C clears the area. All areas
+-- but the output area are zero behind `read_and_list`, `public_listing` and `list_xml`, whatever they come to.
 -- The programs (crates list_printing, write_printing: Printed) print what these calls come to, or `(refused)`.
 --
 -- Inputs are unchanged: they are lent as `&`, through which nothing can be stored, or go in by value.
@@ -100,6 +104,8 @@ use Rattle.uuid.specs.declared.Words.{Words}
 use Rattle.tree_counts.specs.declared.Counts.{Counts}
 use Rattle.tree_counts.specs.declared.Outcome.{Outcome as Status}
 use Rattle.tree_counts.specs.Counts.{withSuite, withCase, kept}
+use Rattle.sheet_sums.specs.Sheet as sheet
+use Rattle.sheet_text.specs.Printed.{printing, sheetArea}
 use Rattle.read_report.specs.Answer.{Table, Areas}
 use Rattle.read_report.specs.Called.{called}
 use Rattle.list_text.specs.Listing.{outcomeOf, listed, outputOf}
@@ -342,6 +348,11 @@ pub record Demand1 : Type 0 where
   pub addCaseCounts : (c : Counts) (s : Status) → Ends (Late (17 ∷ [])) (kept c (withCase c s) ≡ c) (withCase c s)
   -- From C also 15, for a bad code.
   pub addCodedCase : (c : Counts) (outcome : ℕ) → Ends (Late (15 ∷ 17 ∷ [])) (kept c (codedCase c outcome) ≡ c) (codedCase c outcome)
+  -- The release sheet: 11 and 17; there is no sheet then. Printed also 16; the output area is zero then.
+  pub releaseSheet : (reports : List Counts)
+      → Ends (Late (11 ∷ 17 ∷ [])) (sheet.sheetIn (sheet.releaseSheet reports) ≡ sheet.noSheet) (sheet.releaseSheet reports)
+  pub printSheet : (reports : List Counts) (output : ℕ)
+      → Ends (Late (11 ∷ 16 ∷ 17 ∷ [])) (sheetArea (sheet.releaseSheet reports) output ≡ zeros output) (printing (sheet.releaseSheet reports) output)
   -- Builders: a new report with 2, 12 and 13, and the other calls as listed above; both areas are zero then.
   pub unnamedReport : (words text : ℕ) → Builds (12 ∷ []) words text (call.unnamedReport words text)
   pub newReport : (name : List ℕ) (words text : ℕ) → Builds (2 ∷ 12 ∷ 13 ∷ []) words text (call.newReport name words text)

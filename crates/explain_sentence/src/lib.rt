@@ -38,6 +38,7 @@ fn place_of(cause: Cause) -> usize
         Cause::CountLimit => 21,
         Cause::TooManyCases => 26,
         Cause::NoSuchReport => 27,
+        Cause::TooManyReports => 28,
     }
 }
 
@@ -91,6 +92,7 @@ pub fn put_sentence(out: &mut [u8], k: Stored, cause: Cause, lent: usize) -> Sto
         a gathered text is longer than 16777216 bytes\n\
         an area for output is too short, or the table has more than 65536 events, 65536 attributes or 16777216 bytes\n\
         a report to order has at most 4096 cases\n\
-        failures, errors, skipped and flaky cases together are more than the cases";
+        failures, errors, skipped and flaky cases together are more than the cases\n\
+        a release sheet takes the counts of at most 4096 reports";
     put(out, k, line_in(sentences, place_by(place_of(cause), lent)))
 }

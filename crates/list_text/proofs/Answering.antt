@@ -14,7 +14,7 @@ use Rattle.list_text.specs.inside.Behind.{Filled, filled, behind, Puts}
 use Rattle.refusal.specs.declared.Cause.the-variants as cause
 
 -- from the start of an area
-from-start : (out f : List ℕ) → behind (gives 0, out) f ≡ (placing cause.OutputFull (length out) f, laid out f)
+pub from-start : (out f : List ℕ) → behind (gives 0, out) f ≡ (placing cause.OutputFull (length out) f, laid out f)
 unfolding behind
 from-start out f =
     let z : length out - 0 ≡ length out = omega arith in

@@ -3,4 +3,5 @@ mod counts;
 mod documents;
 mod making;
 mod setting;
+mod sheets;
 mod tables;

@@ -51,6 +51,7 @@ fn code_of(cause: Cause) -> u32
         Cause::CountLimit => 22,
         Cause::TooManyCases => 23,
         Cause::NoSuchReport => 24,
+        Cause::TooManyReports => 25,
     }
 }
 
@@ -165,9 +166,10 @@ fn cause_at(code: u32) -> Cause
         Cause::CountLimit,
         Cause::TooManyCases,
         Cause::NoSuchReport,
+        Cause::TooManyReports,
     ];
     let i = code as usize;
-    if i < 25 {
+    if i < 26 {
         return causes[i];
     }
     Cause::BadTable

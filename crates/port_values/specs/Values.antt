@@ -8,22 +8,13 @@ use Rattle.tree_counts.specs.Counts.{countedFrom}
 use Rattle.build_draft.specs.declared.Built.{Built}
 use Rattle.build_draft.specs.Draft.{Draft, builtFrom}
 use Rattle.port_refusal.specs.Port.{portRefusal}
-use Rattle.port_values.specs.declared.KCounts.{KCounts}
 use Rattle.port_values.specs.declared.KCounted.{KCounted}
 use Rattle.port_values.specs.declared.KBuilt.{KBuilt}
 use Rattle.port_values.specs.declared.KMoment.{KMoment}
 use Rattle.port_values.specs.declared.KUuid.{KUuid}
 
-abbrev pub plainCounts : KCounts → Counts
-plainCounts k =
-    record { tests = k .tests; failures = k .failures; errors = k .errors; skipped = k .skipped; presence = k .presence; disabled = k .disabled }
-
-abbrev pub portCounts : Counts → KCounts
-portCounts c =
-    record { tests = c .tests; failures = c .failures; errors = c .errors; skipped = c .skipped; disabled = c .disabled; presence = c .presence }
-
 abbrev pub portCounted : Counted → KCounted
-portCounted c = record { counts = portCounts (c .counts); refusal = portRefusal (c .verdict) (c .refusal) }
+portCounted c = record { counts = c .counts; refusal = portRefusal (c .verdict) (c .refusal) }
 
 -- the answer of a call on the counts `old`
 abbrev pub countedPort : Counts → Outcome Counts → KCounted

@@ -17,23 +17,12 @@ use uuid::Words;
 ghost use mathlib.Core.Path.{_≡_};
 ghost use lib.ListN.{length};
 ghost use Rattle.area.specs.Area.{zeros};
-ghost use Rattle.port_values.specs.Values.{plainCounts, portCounts, portCounted, countedPort, portBuilt, builtPort, plainMoment, plainUuid};
+ghost use Rattle.port_values.specs.Values.{portCounted, countedPort, portBuilt, builtPort, plainMoment, plainUuid};
 ghost use Rattle.port_values.specs.Codes.{noCode};
 
 #[repr(C)]
-pub struct KCounts {
-    pub tests: u64,
-    pub failures: u64,
-    pub errors: u64,
-    pub skipped: u64,
-    pub disabled: u64,
-    // whether `disabled` is there
-    pub presence: bool,
-}
-
-#[repr(C)]
 pub struct KCounted {
-    pub counts: KCounts,
+    pub counts: Counts,
     pub refusal: KRefusal,
 }
 
@@ -65,32 +54,6 @@ pub struct KUuid {
     pub d: u32,
 }
 
-pub fn plain_counts(k: KCounts) -> Counts
-    ensures { λ r. ⌜ r ≡ plainCounts k ⌝ }
-{
-    Counts {
-        tests: k.tests,
-        failures: k.failures,
-        errors: k.errors,
-        skipped: k.skipped,
-        presence: k.presence,
-        disabled: k.disabled,
-    }
-}
-
-fn port_counts(c: Counts) -> KCounts
-    ensures { λ r. ⌜ r ≡ portCounts c ⌝ }
-{
-    KCounts {
-        tests: c.tests,
-        failures: c.failures,
-        errors: c.errors,
-        skipped: c.skipped,
-        disabled: c.disabled,
-        presence: c.presence,
-    }
-}
-
 pub fn counted(c: Counted) -> KCounted
     ensures { λ r. ⌜ r ≡ portCounted c ⌝ }
 {
@@ -98,17 +61,17 @@ pub fn counted(c: Counted) -> KCounted
     let counts = c.counts;
     let refusal = c.refusal;
     KCounted {
-        counts: port_counts(counts),
+        counts,
         refusal: from_refusal(verdict, refusal),
     }
 }
 
 // The counts as they were, where a code is none.
-pub fn not_counted(k: KCounts) -> KCounted
-    ensures { λ r. ⌜ r ≡ countedPort (plainCounts k) noCode ⌝ }
+pub fn not_counted(counts: Counts) -> KCounted
+    ensures { λ r. ⌜ r ≡ countedPort counts noCode ⌝ }
 {
     KCounted {
-        counts: k,
+        counts,
         refusal: from_refusal(Verdict::Refused, refuse_late(Cause::NotLayout)),
     }
 }

@@ -9,6 +9,7 @@
 //! - [`list`] gives the listing without private text, [`read_and_list`] and [`read_and_list_xml`] the same in one call that keeps no tree,
 //!   [`write()`] the table of a report, [`explain`] a refusal in words.
 //! - A [`ReportBuilder`] makes a report from nothing, [`rehearse()`] the table of one with the numbers of an [`Order`].
+//! - [`release_sheet`] and [`print_sheet`] sum the [`Counts`] of many reports.
 //!
 //! ```
 //! use kerzhoma::{list, read, Areas, TableBuf};
@@ -33,6 +34,7 @@ mod document;
 pub mod input;
 pub mod limits;
 mod refusal;
+mod sheet;
 #[allow(unsafe_code)]
 mod sys;
 mod table;
@@ -47,6 +49,7 @@ pub use calls::{
 };
 pub use document::{explain_xml, list_xml, read_and_list_xml, tokenize, tokenize_into, DocumentRefusal, XmlRefusal};
 pub use refusal::{Cause, PathElement, Refusal};
+pub use sheet::{print_sheet, print_sheet_into, release_sheet, Sheet};
 pub use table::{Table, TableBuf, TableBuilder, TableError, Tag};
 pub use tree::{Case, Cases, Extras, Properties, Property, Reruns, Run, Runs, Status, Suite, Suites, Tree};
 pub use values::{time_text, Counts, FlakyOrRerun, NonSuccessKind, Outcome, Timestamp};

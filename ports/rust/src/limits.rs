@@ -11,6 +11,8 @@ pub const SOURCE: usize = 16_777_216;
 pub const RECORDS: usize = 65_536;
 /// Bytes of a text area, of scratch, and of a written table.
 pub const BYTES: usize = 16_777_216;
+/// Reports of a release sheet.
+pub const REPORTS: usize = 4_096;
 /// Words of an event or an attribute.
 pub(crate) const ENTRY: usize = 5;
 /// Words of a record.

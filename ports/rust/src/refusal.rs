@@ -34,10 +34,11 @@ pub enum Cause {
     CountLimit,
     TooManyCases,
     NoSuchReport,
+    TooManyReports,
 }
 
 // In the order of their codes, from 1 on, with their numbers.
-const CAUSES: [(Cause, u32); 24] = [
+const CAUSES: [(Cause, u32); 25] = [
     (Cause::XmlFault, 1),
     (Cause::EofInSkip, 1),
     (Cause::NotUtf8, 2),
@@ -62,6 +63,7 @@ const CAUSES: [(Cause, u32); 24] = [
     (Cause::CountLimit, 17),
     (Cause::TooManyCases, 23),
     (Cause::NoSuchReport, 24),
+    (Cause::TooManyReports, 11),
 ];
 
 impl Cause {

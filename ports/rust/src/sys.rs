@@ -67,6 +67,27 @@ pub struct Counted {
 }
 
 #[repr(C)]
+#[derive(Clone, Copy)]
+pub struct Sheet {
+    pub sums: Counts,
+    pub passed: u64,
+}
+
+#[repr(C)]
+#[derive(Clone, Copy)]
+pub struct Released {
+    pub sheet: Sheet,
+    pub refusal: Refusal,
+}
+
+#[repr(C)]
+#[derive(Clone, Copy)]
+pub struct Printed {
+    pub length: usize,
+    pub refusal: Refusal,
+}
+
+#[repr(C)]
 #[derive(Clone, Copy, Debug)]
 pub struct Builder {
     pub records: u32,
@@ -111,6 +132,7 @@ const _: () = {
     assert!(size_of::<Refusal>() == 92 && size_of::<Listing>() == 104 && size_of::<Writing>() == 120);
     assert!(size_of::<Tokenized>() == 16 && size_of::<Explained>() == 104);
     assert!(size_of::<Counts>() == 48 && size_of::<Counted>() == 144);
+    assert!(size_of::<Sheet>() == 56 && size_of::<Released>() == 152 && size_of::<Printed>() == 104);
     assert!(size_of::<Builder>() == 24 && size_of::<Built>() == 116);
     assert!(size_of::<Moment>() == 16 && size_of::<Uuid>() == 16);
 };
@@ -161,6 +183,8 @@ extern "C" {
     fn kerzhoma_time_text(out: *mut u8, out_len: usize, seconds: u32, nanos: u32) -> usize;
     fn kerzhoma_add_case(counts: Counts, outcome: u32) -> Counted;
     fn kerzhoma_add_suite(counts: Counts, suite: Counts) -> Counted;
+    fn kerzhoma_release_sheet(records: *const Counts, records_len: usize) -> Released;
+    fn kerzhoma_print_sheet(records: *const Counts, records_len: usize, out: *mut u8, out_len: usize) -> Printed;
     fn kerzhoma_new_report(
         records: *mut u32, records_len: usize, text: *mut u8, text_len: usize, name: *const u8, name_len: usize,
     ) -> Built;
@@ -390,6 +414,14 @@ pub fn add_case(counts: Counts, outcome: u32) -> Counted {
 
 pub fn add_suite(counts: Counts, suite: Counts) -> Counted {
     unsafe { kerzhoma_add_suite(counts, suite) }
+}
+
+pub fn release_sheet(records: &[Counts]) -> Released {
+    unsafe { kerzhoma_release_sheet(records.as_ptr(), records.len()) }
+}
+
+pub fn print_sheet(records: &[Counts], out: &mut [u8]) -> Printed {
+    unsafe { kerzhoma_print_sheet(records.as_ptr(), records.len(), out.as_mut_ptr(), out.len()) }
 }
 
 pub fn new_report(records: &mut [u32], text: &mut [u8], name: &[u8]) -> Built {

@@ -52,7 +52,7 @@ pub struct Counts {
 }
 
 impl Counts {
-    fn told(self) -> sys::Counts {
+    pub(crate) fn told(self) -> sys::Counts {
         sys::Counts {
             tests: self.tests,
             failures: self.failures,
@@ -63,16 +63,19 @@ impl Counts {
         }
     }
 
-    fn of(counted: sys::Counted) -> Result<Self, Refusal> {
-        Refusal::result(counted.refusal, Lent::default())?;
-        let c = counted.counts;
-        Ok(Counts {
+    pub(crate) fn from(c: sys::Counts) -> Self {
+        Counts {
             tests: c.tests,
             failures: c.failures,
             errors: c.errors,
             skipped: c.skipped,
             disabled: c.presence.then_some(c.disabled),
-        })
+        }
+    }
+
+    fn of(counted: sys::Counted) -> Result<Self, Refusal> {
+        Refusal::result(counted.refusal, Lent::default())?;
+        Ok(Self::from(counted.counts))
     }
 
     /// With one case more.

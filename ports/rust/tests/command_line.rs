@@ -250,6 +250,60 @@ fn documents_that_are_refused() {
     assert_eq!(run(&["list", "--xml", "no such file.xml"], b"").status, 2);
 }
 
+// The counts that reports state; their cases may come to others.
+#[test]
+fn release_sheets() {
+    let stated = "<testsuites tests=\"3\" failures=\"1\" skipped=\"1\" disabled=\"4\"><testsuite name=\"s\"><testcase name=\"a\"/>\
+        <testcase name=\"b\"><failure/></testcase><testcase name=\"c\"><skipped/></testcase></testsuite></testsuites>";
+    let silent = "<testsuites><testsuite name=\"s\"><testcase name=\"a\"><error/></testcase></testsuite></testsuites>";
+    let files: Vec<PathBuf> = ["sheet1.xml", "sheet2.xml", "sheet3.xml"].into_iter().map(room).collect();
+    let [one, two, bad] = [0, 1, 2].map(|i| files[i].to_str().unwrap());
+    for (file, document) in files.iter().zip([stated, silent, "<testsuites>"]) {
+        fs::write(file, document).unwrap();
+    }
+    let ran = run(&["sheet", one], b"");
+    let sheet = "(tests 3)\n(failures 1)\n(errors 0)\n(skipped 1)\n(disabled 4)\n(passed 1 3)\n";
+    assert_eq!((ran.status, text(&ran), ran.err.as_str()), (0, sheet, ""));
+    // a report that states nothing, and a table, in two orders
+    let path = repository("example/worked.bin");
+    let table = path.to_str().unwrap();
+    let sheet = "(tests 5)\n(failures 1)\n(errors 0)\n(skipped 1)\n(disabled 4)\n(passed 3 5)\n";
+    for arguments in [["sheet", one, two, table], ["sheet", table, two, one]] {
+        let ran = run(&arguments, b"");
+        assert_eq!((ran.status, text(&ran)), (0, sheet));
+        let said = |file: &str, states: &str, cases: &str| {
+            format!("kerzhoma: {file}: it states {states}, and its cases are {cases}; the sheet takes what it states\n")
+        };
+        let none = "0 tests, 0 failures, 0 errors, 0 skipped";
+        assert!(ran.err.contains(&said(two, none, "1 tests, 0 failures, 1 errors, 0 skipped")), "{}", ran.err);
+        let (states, has) = ("2 tests, 0 failures, 0 errors, 0 skipped", "2 tests, 1 failures, 0 errors, 0 skipped");
+        assert!(ran.err.contains(&said(table, states, has)), "{}", ran.err);
+        assert_eq!(ran.err.lines().count(), 2);
+    }
+    // no sheet where one isn't read, and each is told
+    let ran = run(&["sheet", bad, one, bad], b"");
+    assert_eq!((ran.status, text(&ran), ran.err.lines().count()), (1, "", 2));
+    assert!(ran.err.starts_with(&format!("kerzhoma: {bad}: refused 18 at byte 12")), "{}", ran.err);
+    let ran = run(&["sheet", bad, "no such file", one], b"");
+    assert_eq!((ran.status, text(&ran), ran.err.lines().count()), (2, "", 2));
+    // 4,096 reports and one more; a sum past the limit
+    let file = room("sheet");
+    fs::write(&file, "<testsuites tests=\"1\"/>").unwrap();
+    let many: Vec<&str> = ["sheet", "--xml"].into_iter().chain([file.to_str().unwrap(); 4097]).collect();
+    let ran = run(&many[..4098], b"");
+    assert!(ran.status == 0 && text(&ran).starts_with("(tests 4096)\n") && ran.err.lines().count() == 4096);
+    let ran = run(&many, b"");
+    assert_eq!((ran.status, text(&ran)), (1, ""));
+    assert_eq!(ran.err.lines().last(), Some("kerzhoma: refused 11: a release sheet takes the counts of at most 4096 reports"));
+    fs::write(&file, "<testsuites tests=\"18446744073709551615\"/>").unwrap();
+    let ran = run(&many[..4], b"");
+    assert_eq!((ran.status, text(&ran)), (1, ""));
+    assert_eq!(ran.err.lines().last(), Some("kerzhoma: refused 17: a count would pass 18446744073709551615"));
+    for file in files.iter().chain([&file]) {
+        fs::remove_file(file).unwrap();
+    }
+}
+
 #[test]
 fn usage() {
     let help = run(&["--help"], b"");
@@ -261,6 +315,8 @@ fn usage() {
         &["lists", "x"],
         &["list", "x", "y"],
         &["list", "x", "-o", "y"],
+        &["sheet"],
+        &["sheet", "x", "-o", "y"],
         &["write", "x"],
         &["write", "x", "-o"],
         &["write", "x", "-o", "y", "-o", "z"],

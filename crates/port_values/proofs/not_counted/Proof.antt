@@ -13,7 +13,7 @@ from-refusal-requires : tie.Need-from-refusal-requires
 from-refusal-requires c κs = search needs
 
 returns : tie.Need-returns
-returns c = ap (λ (k : KRefusal). record { counts = c .before .before .args .k; refusal = k }) (c .from-refusal .ensures ∙ ap (portRefusal Refused) (c .before .refuse-late .ensures))
+returns c = ap (λ (k : KRefusal). record { counts = c .before .before .args .counts; refusal = k }) (c .from-refusal .ensures ∙ ap (portRefusal Refused) (c .before .refuse-late .ensures))
 
 pub not-counted-spec : {M : Type 1} → statement M
 not-counted-spec = tie.close (tie.spec refuse-late-requires from-refusal-requires returns)

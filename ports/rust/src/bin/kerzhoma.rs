@@ -1,9 +1,9 @@
-//! The command line: lists, explains, writes and checks a report, or makes one to order.
+//! The command line: lists, explains, writes and checks a report, makes one to order, sums the counts of several.
 #![forbid(unsafe_code)]
 
 use kerzhoma::input::{is_named_xml, load_document, load_table};
-use kerzhoma::{explain, explain_xml, read, read_and_list, read_and_list_xml, rehearse, tokenize, write};
-use kerzhoma::{Areas, DocumentRefusal, Order, Refusal, TableBuf, XmlRefusal};
+use kerzhoma::{explain, explain_xml, print_sheet, read, read_and_list, read_and_list_xml, rehearse, tokenize, write};
+use kerzhoma::{Areas, Counts, DocumentRefusal, NonSuccessKind, Order, Refusal, Status, TableBuf, Tree, XmlRefusal};
 use std::ffi::{OsStr, OsString};
 use std::io::{self, ErrorKind, Write};
 use std::path::{Path, PathBuf};
@@ -19,6 +19,7 @@ kerzhoma: JUnit test reports, read by a proved library
     kerzhoma write FILE -o FILE    writes the report again, as a table
     kerzhoma rehearse CASES FAILURES ERRORS SKIPPED FLAKY -o FILE
                                    writes a report with just these numbers
+    kerzhoma sheet FILE..          sums the counts that reports state
 
 FILE is an XML document if its name ends in .xml or --xml is given, else a table
 of XML events: three little-endian words, the numbers of events, attributes and
@@ -27,8 +28,9 @@ or output. At most 65536 events, 65536 attributes and 16777216 source bytes are
 taken.
 
 A listing has no private text. The line of explain may have some: it tells the
-names of the suite and case. What list, check and write say on standard error
-has no names.
+names of the suite and case. What the others say on standard error has no names.
+There sheet also tells of a report whose cases come to other counts than it
+states.
 
 Exit status: 0 the report is accepted, 1 it is refused, 2 bad usage, or input
 or output that fails.
@@ -54,6 +56,7 @@ enum Command {
     Help,
     Read(Task, Input),
     Rehearse(Order, PathBuf),
+    Sheet(Vec<Input>),
 }
 
 fn main() -> ExitCode {
@@ -61,11 +64,12 @@ fn main() -> ExitCode {
     let status = match parse(&arguments) {
         Ok(Command::Read(task, input)) => run(&task, &input),
         Ok(Command::Rehearse(order, to)) => rehearsed(&order, &to),
+        Ok(Command::Sheet(inputs)) => sheet(&inputs),
         Ok(Command::Help) => put(HELP.as_bytes(), ACCEPTED),
         Err(what) => {
             say(&what);
-            say("usage: kerzhoma list|check|explain [--xml] FILE, kerzhoma write [--xml] FILE -o FILE, \
-                 kerzhoma rehearse CASES FAILURES ERRORS SKIPPED FLAKY -o FILE, kerzhoma --help");
+            say("usage: kerzhoma list|check|explain [--xml] FILE, write [--xml] FILE -o FILE, \
+                 rehearse CASES FAILURES ERRORS SKIPPED FLAKY -o FILE, sheet [--xml] FILE.., --help");
             FAILED
         }
     };
@@ -76,42 +80,55 @@ fn parse(arguments: &[OsString]) -> Result<Command, String> {
     if arguments.iter().take_while(|a| *a != "--").any(|a| a == "--help" || a == "-h") {
         return Ok(Command::Help);
     }
-    let mut rest = arguments.iter();
-    let task = rest.next().ok_or("there is no command")?;
-    let (mut given, mut output, mut xml, mut options) = (Vec::new(), None, false, true);
+    let (name, rest) = arguments.split_first().ok_or("there is no command")?;
+    let Given { words, output, xml } = given(rest)?;
+    let input = |file: &OsString| Input { file: PathBuf::from(file), xml: xml || is_named_xml(Path::new(file)) };
+    let task = match (name.to_str(), output) {
+        (Some("rehearse"), to) => return order(&words, to.ok_or("rehearse needs -o FILE")?, xml),
+        (Some("sheet"), None) if !words.is_empty() => return Ok(Command::Sheet(words.into_iter().map(input).collect())),
+        (Some("write"), Some(to)) => Task::Write(to),
+        (Some("write"), None) => return Err("write needs -o FILE".to_owned()),
+        (Some("list" | "check" | "explain" | "sheet"), Some(_)) => return Err("-o belongs to write and rehearse".to_owned()),
+        (Some("sheet"), None) => return Err("there is no file".to_owned()),
+        (Some("list"), None) => Task::List,
+        (Some("check"), None) => Task::Check,
+        (Some("explain"), None) => Task::Explain,
+        _ => return Err(format!("there is no command {}", name.display())),
+    };
+    match words[..] {
+        [] => Err("there is no file".to_owned()),
+        [file] => Ok(Command::Read(task, input(file))),
+        [_, other, ..] => Err(format!("one file is taken, and {} is another", other.display())),
+    }
+}
+
+struct Given<'a> {
+    words: Vec<&'a OsString>,
+    output: Option<PathBuf>,
+    xml: bool,
+}
+
+// What stands behind the command: options, and words that are none.
+fn given(arguments: &[OsString]) -> Result<Given<'_>, String> {
+    let mut given = Given { words: Vec::new(), output: None, xml: false };
+    let (mut rest, mut options) = (arguments.iter(), true);
     while let Some(a) = rest.next() {
         if options && a == "--" {
             options = false;
         } else if options && a == "--xml" {
-            xml = true;
+            given.xml = true;
         } else if options && a == "-o" {
             let to = rest.next().ok_or("-o needs a file")?;
-            if output.replace(PathBuf::from(to)).is_some() {
+            if given.output.replace(PathBuf::from(to)).is_some() {
                 return Err("-o is there twice".to_owned());
             }
         } else if options && a != "-" && a.as_encoded_bytes().starts_with(b"-") {
             return Err(format!("there is no option {}", a.display()));
         } else {
-            given.push(a);
+            given.words.push(a);
         }
     }
-    let task = match (task.to_str(), output) {
-        (Some("rehearse"), to) => return order(&given, to.ok_or("rehearse needs -o FILE")?, xml),
-        (Some("write"), Some(to)) => Task::Write(to),
-        (Some("write"), None) => return Err("write needs -o FILE".to_owned()),
-        (Some("list" | "check" | "explain"), Some(_)) => return Err("-o belongs to write and rehearse".to_owned()),
-        (Some("list"), None) => Task::List,
-        (Some("check"), None) => Task::Check,
-        (Some("explain"), None) => Task::Explain,
-        _ => return Err(format!("there is no command {}", task.display())),
-    };
-    let file = match given[..] {
-        [] => return Err("there is no file".to_owned()),
-        [file] => PathBuf::from(file),
-        [_, other, ..] => return Err(format!("one file is taken, and {} is another", other.display())),
-    };
-    let xml = xml || is_named_xml(&file);
-    Ok(Command::Read(task, Input { file, xml }))
+    Ok(given)
 }
 
 // The numbers of an order, and the file that its table goes to.
@@ -153,22 +170,24 @@ fn put(bytes: &[u8], status: u8) -> u8 {
 }
 
 fn run(task: &Task, input: &Input) -> u8 {
-    let file = &input.file;
-    if input.xml {
-        return match load_document(file) {
-            Ok(document) => tokenized(task, &document),
-            Err(e) => failed(file, &e),
-        };
+    let status = match input.xml {
+        true => document_of(&input.file).map(|document| tokenized(task, &document)),
+        false => table_of(&input.file).map(|table| done(task, &table)),
+    };
+    status.unwrap_or_else(|failed| failed)
+}
+
+// What a file has; where it can't be had, that is told.
+fn document_of(file: &Path) -> Result<Vec<u8>, u8> {
+    load_document(file).map_err(|e| failed(file, &e))
+}
+
+fn table_of(file: &Path) -> Result<TableBuf, u8> {
+    let loaded = load_table(file).map_err(|e| failed(file, &e))?;
+    if loaded.trailing {
+        say(&format!("{}: bytes behind the table are ignored", shown(file)));
     }
-    match load_table(file) {
-        Ok(loaded) => {
-            if loaded.trailing {
-                say(&format!("{}: bytes behind the table are ignored", shown(file)));
-            }
-            done(task, &loaded.table)
-        }
-        Err(e) => failed(file, &e),
-    }
+    Ok(loaded.table)
 }
 
 fn failed(file: &Path, why: &dyn std::fmt::Display) -> u8 {
@@ -257,4 +276,65 @@ fn refused(task: &Task) -> u8 {
         Task::List => put(b"(refused)\n", REFUSED),
         _ => REFUSED,
     }
+}
+
+// The sheet over the counts that reports state; none where one of them isn't accepted.
+fn sheet(inputs: &[Input]) -> u8 {
+    let (mut reports, mut status) = (Vec::new(), ACCEPTED);
+    for input in inputs {
+        match stated(input) {
+            Ok(counts) => reports.push(counts),
+            Err(worse) => status = status.max(worse),
+        }
+    }
+    if status != ACCEPTED {
+        return status;
+    }
+    match print_sheet(&reports) {
+        Ok(text) => put(text.as_bytes(), ACCEPTED),
+        Err(refusal) => {
+            say(&refusal.to_string());
+            REFUSED
+        }
+    }
+}
+
+// The counts of the report itself. Many runners state none: where its cases come to others, that is told.
+fn stated(input: &Input) -> Result<Counts, u8> {
+    let refused = |why: &str| {
+        say(&format!("{}: {}", shown(&input.file), why.trim_end()));
+        REFUSED
+    };
+    let table = match input.xml {
+        true => {
+            let document = document_of(&input.file)?;
+            tokenize(&document).map_err(|refusal| refused(&explain_xml(&refusal, &document)))?
+        }
+        false => table_of(&input.file)?,
+    };
+    let mut areas = Areas::for_table(&table.as_table());
+    let tree = read(&table.as_table(), &mut areas).map_err(|refusal| refused(&refusal.to_string()))?;
+    let (states, has) = (tree.counts(), cases_of(&tree));
+    let four = |c: Counts| [c.tests, c.failures, c.errors, c.skipped];
+    if four(states) != four(has) {
+        let told = |c: Counts| format!("{} tests, {} failures, {} errors, {} skipped", c.tests, c.failures, c.errors, c.skipped);
+        let (file, states, has) = (shown(&input.file), told(states), told(has));
+        say(&format!("{file}: it states {states}, and its cases are {has}; the sheet takes what it states"));
+    }
+    Ok(states)
+}
+
+// What the cases of a report come to; at most 65,536.
+fn cases_of(tree: &Tree<'_>) -> Counts {
+    let mut counts = Counts::default();
+    for case in tree.suites().flat_map(|suite| suite.cases()) {
+        counts.tests += 1;
+        match case.status() {
+            Status::Success { .. } => {}
+            Status::NonSuccess { kind: NonSuccessKind::Failure, .. } => counts.failures += 1,
+            Status::NonSuccess { kind: NonSuccessKind::Error, .. } => counts.errors += 1,
+            Status::Skipped { .. } => counts.skipped += 1,
+        }
+    }
+    counts
 }

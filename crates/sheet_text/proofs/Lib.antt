@@ -1,0 +1,2 @@
+pub mod Answered
+mod Examples
