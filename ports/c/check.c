@@ -612,6 +612,46 @@ static void once(void)
     expect(l.length == 0 && l.refusal.number == KERZHOMA_REFUSED_STRUCTURE, "no table to list");
 }
 
+/* ---- reports to order ---- */
+
+/* one case of each kind, in areas of so many words and bytes */
+static kerzhoma_writing ordered(size_t e, size_t a, size_t n, bool listed)
+{
+    static const char listing[] =
+        "(report \"rehearsal\" 5 1 1 1 -\n(suite \"rehearsal\" 5 1 1 1 -\n(case \"case0\" - - failure rerun 0)\n"
+        "(case \"case1\" - - error rerun 0)\n(case \"case2\" - - skipped none 0)\n"
+        "(case \"case3\" - - success flaky 1\n(run failure -))\n(case \"case4\" - - success flaky 0)))\n";
+    struct table t = {room(4 * e), room(4 * a), room(n), e, a, n, 0};
+    kerzhoma_writing w = kerzhoma_rehearse(5, 1, 1, 1, 1, t.events, e, t.attributes, a, t.source, n);
+    if (listed) {
+        uint32_t *words = room(4 * 352);
+        uint8_t *text = room(200), *out = room(400);
+        t.events_length = 5 * w.events, t.attributes_length = 5 * w.attributes, t.source_length = w.bytes;
+        size_t k = kerzhoma_public_listing(OF(t), words, 352, text, 200, NULL, 0, out, 400);
+        expect(k == strlen(listing) && memcmp(out, listing, k) == 0, "what was ordered is listed");
+        free(words);
+        free(text);
+        free(out);
+    } else {
+        expect(zero(t.events, 4 * e) && zero(t.attributes, 4 * a) && zero(t.source, n), "an order that is refused leaves zeros");
+    }
+    drop(t);
+    return w;
+}
+
+static void orders(void)
+{
+    kerzhoma_writing w = ordered(105, 75, 318, true);
+    expect(w.refusal.number == 0 && w.events == 21 && w.attributes == 15 && w.bytes == 318, "one case of each kind");
+    expect(ordered(104, 75, 318, false).refusal.number == KERZHOMA_REFUSED_OUTPUT, "a word of events too few");
+    expect(ordered(105, 74, 318, false).refusal.number == KERZHOMA_REFUSED_OUTPUT, "a word of attributes too few");
+    expect(ordered(105, 75, 317, false).refusal.number == KERZHOMA_REFUSED_OUTPUT, "a byte too few");
+    w = kerzhoma_rehearse(4097, 9, 9, 9, UINT64_MAX, NULL, 0, NULL, 0, NULL, 0);
+    expect(w.refusal.number == KERZHOMA_REFUSED_CASES && w.refusal.cause == KERZHOMA_CAUSE_TOO_MANY_CASES, "4,097 cases");
+    w = kerzhoma_rehearse(4096, UINT64_MAX, 1, 0, 0, NULL, 0, NULL, 0, NULL, 0);
+    expect(w.refusal.number == KERZHOMA_REFUSED_ORDER && w.refusal.cause == KERZHOMA_CAUSE_NO_SUCH_REPORT, "a sum that wraps");
+}
+
 /* ---- documents ---- */
 
 static const char document[] =
@@ -703,6 +743,7 @@ int main(int argc, char **argv)
         refusing();
         areas();
         once();
+        orders();
         documents();
     } else {
         fprintf(stderr, "usage: check | check tell | check rooms FILE..\n");
