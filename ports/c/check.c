@@ -652,6 +652,47 @@ static void orders(void)
     expect(w.refusal.number == KERZHOMA_REFUSED_ORDER && w.refusal.cause == KERZHOMA_CAUSE_NO_SUCH_REPORT, "a sum that wraps");
 }
 
+/* ---- first and last start ---- */
+
+static bool is_moment(kerzhoma_moment a, kerzhoma_moment b)
+{
+    return a.year == b.year && a.month == b.month && a.day == b.day && a.hour == b.hour && a.minute == b.minute && a.second == b.second
+           && a.nanoseconds == b.nanoseconds && a.offset == b.offset;
+}
+
+static void add_start(const char *name, kerzhoma_moment m)
+{
+    b = kerzhoma_add_test_case(b.builder, IN, (const uint8_t *)name, 1, KERZHOMA_SUCCESS);
+    b = kerzhoma_set_timestamp(b.builder, IN, KERZHOMA_CASE, m);
+}
+
+static bool starts_are(uint32_t number, bool found, kerzhoma_moment first, kerzhoma_moment last, uint64_t seconds, uint32_t nanoseconds)
+{
+    kerzhoma_started s = kerzhoma_starts(IN);
+    return s.refusal.number == number && s.found == found && is_moment(s.first, first) && is_moment(s.last, last) && s.seconds == seconds
+           && s.nanoseconds == nanoseconds;
+}
+
+static void first_and_last(void)
+{
+    static const kerzhoma_moment none = { 0 }, east = { 1990, 12, 31, 23, 59, 59, 500000000, 1439 },
+                                 west = { 1990, 12, 31, 15, 59, 59, 900000000, 959 };
+
+    lend(32 * 5, 4);
+    b = kerzhoma_unnamed_report(IN);
+    b = kerzhoma_set_timestamp(b.builder, IN, KERZHOMA_REPORT, west);
+    expect(good() && starts_are(0, false, none, none, 0, 0), "no start");
+    b = kerzhoma_add_test_suite(b.builder, IN, (const uint8_t *)"s", 1);
+    add_start("a", west);
+    expect(good() && starts_are(0, true, west, west, 0, 0), "one start");
+    add_start("b", east);
+    expect(good() && starts_are(0, true, east, west, 0, 400000000), "two starts");
+    records[0] = 0;
+    expect(starts_are(KERZHOMA_REFUSED_LAYOUT, false, none, none, 0, 0), "starts of no report");
+    back();
+    expect(kerzhoma_starts(NULL, 0, NULL, 0).refusal.number == KERZHOMA_REFUSED_LAYOUT, "starts of no areas");
+}
+
 /* ---- documents ---- */
 
 static const char document[] =
@@ -744,6 +785,7 @@ int main(int argc, char **argv)
         areas();
         once();
         orders();
+        first_and_last();
         documents();
     } else {
         fprintf(stderr, "usage: check | check tell | check rooms FILE..\n");

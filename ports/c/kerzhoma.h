@@ -293,6 +293,35 @@ kerzhoma_writing kerzhoma_rehearse(
  * or 0 where it doesn't fit; then `out` is zero. 14 bytes are enough for every time. */
 size_t kerzhoma_time_text(uint8_t *out, size_t out_length, uint32_t seconds, uint32_t nanoseconds);
 
+/* ---- timestamps ---- */
+
+/* A date that exists, year 0 to 9999, second at most 59, nanoseconds at most 999999999; kerzhoma_set_timestamp refuses others (4). */
+typedef struct kerzhoma_moment {
+    uint16_t year;
+    uint8_t month; /* 1 to 12 */
+    uint8_t day;   /* from 1 on */
+    uint8_t hour;
+    uint8_t minute;
+    uint8_t second;
+    uint32_t nanoseconds;
+    uint16_t offset; /* minutes east of UTC, plus 1439: UTC is 1439, at most 2878 */
+} kerzhoma_moment;
+
+/* The earliest and the latest timestamp of a report's cases, as they are stored, and the time from one to the other. Offsets are taken into
+ * account; of those at the same instant it is the first in the report. Timestamps of suites, runs and the report itself don't count. */
+typedef struct kerzhoma_started {
+    bool found; /* whether a case has a timestamp; all that is below is zero where none has, and where the call refuses (15) */
+    kerzhoma_moment first;
+    kerzhoma_moment last;
+    uint64_t seconds;
+    uint32_t nanoseconds; /* under a second */
+    kerzhoma_refusal refusal;
+} kerzhoma_started;
+
+kerzhoma_started kerzhoma_starts(
+    const uint32_t *records, size_t records_length,
+    const uint8_t *text, size_t text_length);
+
 /* ---- counts ---- */
 
 typedef struct kerzhoma_counts {
@@ -458,18 +487,6 @@ kerzhoma_built kerzhoma_set_text(
 kerzhoma_built kerzhoma_set_output_lossy(
     kerzhoma_builder builder, uint32_t *records, size_t records_length, uint8_t *text, size_t text_length,
     uint32_t element, uint32_t field, const uint8_t *value, size_t value_length);
-
-/* A date that exists, year 0 to 9999, second at most 59, nanoseconds at most 999999999; else 4. */
-typedef struct kerzhoma_moment {
-    uint16_t year;
-    uint8_t month; /* 1 to 12 */
-    uint8_t day;   /* from 1 on */
-    uint8_t hour;
-    uint8_t minute;
-    uint8_t second;
-    uint32_t nanoseconds;
-    uint16_t offset; /* minutes east of UTC, plus 1439: UTC is 1439, at most 2878 */
-} kerzhoma_moment;
 
 /* Of report, suite, case or run. */
 kerzhoma_built kerzhoma_set_timestamp(

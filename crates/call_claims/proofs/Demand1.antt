@@ -12,6 +12,9 @@ use Rattle.refusal.specs.declared.Cause.the-variants as cause
 use Rattle.tree_report.specs.Layout.{layout}
 use Rattle.tree_counts.specs.declared.Counts.{Counts}
 use Rattle.tree_counts.specs.Counts.{caseCounts, withSuite, kept}
+use Rattle.starts.specs.declared.Extent.{Extent}
+use Rattle.starts.specs.Starts.{notFound, startsOf}
+use Rattle.starts.specs.Answer.{givenOf}
 use Rattle.write_table.specs.Laid.{fits}
 use Rattle.write_answer.specs.Answer.{Sizes, wrote, eventsLeft, attributesLeft, bytesLeft, writingAnswer, leftFor}
 use Rattle.write_answer.specs.Answer as writing
@@ -22,7 +25,7 @@ use Rattle.order_report.specs.Answer.{mostCases, orderedTable, orderAnswer, ord
 use Rattle.call_claims.specs.Demand1.{Late, Ends, completes, WriteZero, OrderZero, codedCase, Demand1, answerTo}
 use Rattle.call_claims.proofs.TokenCall.{tokenize-ends}
 use Rattle.call_claims.proofs.ReadCall.{numbered, read-zero, read-placed}
-use Rattle.call_claims.proofs.LateCalls.{Within, ends, ends-leaving, within-late, within-suite}
+use Rattle.call_claims.proofs.LateCalls.{Within, ends, ends-leaving, within-late, within-cond, within-suite}
 use Rattle.call_claims.proofs.ListCalls.{list-ends, explain-ends, explain-xml-ends, time-text-ends, once-ends}
 use Rattle.call_claims.proofs.SheetCalls.{release-ends, print-ends}
 use Rattle.call_claims.proofs.XmlCall.{document-ends, table-ends}
@@ -61,6 +64,15 @@ order-ends o events attributes bytes =
     ends-leaving (within-ordering (ltb mostCases (o .cases)) (ltb (o .cases) (stated o)) (fits (orderedTable o) events attributes bytes) _) λ why e.
     record { events = left-zero x events _ why e; attributes = left-zero x attributes _ why e; bytes = left-zero x bytes _ why e }
 
+-- ---- starts
+none-given : (o : Outcome Extent) (why : Refused) → o ≡ refused why → givenOf o ≡ notFound
+none-given (accepted s) why e = let z : _≡_ {A = ℕ} 0 1 = cc in absurd (omega arith)
+none-given (refused r) why e = refl
+
+starts-end : (words text : List ℕ) → Ends (Late (15 ∷ [])) (givenOf (startsOf words text) ≡ notFound) (startsOf words text)
+unfolding startsOf
+starts-end words text = ends-leaving (within-cond (layout words text) completes (within-late cause.NotLayout refl)) (none-given (startsOf words text))
+
 -- ---- counts
 counts-kept : (c : Counts) (o : Outcome Counts) (why : Refused) → o ≡ refused why → kept c o ≡ c
 counts-kept c (accepted d) why e = let z : _≡_ {A = ℕ} 0 1 = cc in absurd (omega arith)
@@ -87,6 +99,7 @@ demand-1 =
       explain = explain-ends;
       explainXml = explain-xml-ends;
       timeText = time-text-ends;
+      starts = starts-end;
       addSuiteCounts = counts-end;
       addCaseCounts = λ c s. counts-end c (caseCounts s);
       addCodedCase = coded-case-ends;

@@ -30,6 +30,8 @@
 --       writtenTime, whole (crate time_text: Written); 16
 --   kerzhoma_is_layout: tree_layout::is_layout
 --       layout (crate tree_report: Layout); none
+--   kerzhoma_starts: starts::starts
+--       startsOf, givenOf (crate starts: Starts, Answer); 15
 --   kerzhoma_add_case: tree_counts::Counts::add_test_case
 --       withCase, kept (crate tree_counts: Counts); 17, and 15 for a bad code
 --   kerzhoma_add_suite: tree_counts::Counts::add_test_suite
@@ -72,9 +74,9 @@
 --       finish; 15, 17
 -- The answer is the outcome as a struct, with `refusalFrom` (crate refusal: Refusal) of what a refusal carries: answerOf (crate reader: Answer),
 -- listingFrom (lister), writingFrom (writer, and of rehearsal), explainedFrom (explain), countedFrom (tree_counts: Counts), releasedFrom (sheet_sums:
--- Sheet), printedFrom (sheet_text: Printed), builtFrom (build_draft: Draft); and for C a struct of numbers (crates port_refusal, port_values, port_c:
--- portOutcome, builtPort and their like). Tokenizing alone has no such struct: its refusal is a number, 18 and 19 among them, and a byte (result, crate
--- xml_state: Answer). `explain_xml` and `write_time` say only that a text doesn't fit; behind `write_time` the call from C clears the area. All areas
+-- Sheet), printedFrom (sheet_text: Printed), startedFrom (starts: Answer), builtFrom (build_draft: Draft); and for C a struct of numbers (crates
+-- port_refusal, port_values, port_c: portOutcome, builtPort and their like). Tokenizing alone has no such struct: its refusal is a number, 18 and 19
+-- among them, and a byte (result, crate xml_state: Answer). `explain_xml` and `write_time` say only that a text doesn't fit; behind `write_time` the call from C clears the area. All areas
 -- but the output area are zero behind `read_and_list`, `public_listing` and `list_xml`, whatever they come to.
 -- The programs (crates list_printing, write_printing: Printed) print what these calls come to, or `(refused)`.
 --
@@ -117,6 +119,8 @@ use Rattle.order_report.specs.Answer.{ordered, eventsOrdered, attributesOrdered
 use Rattle.public_claims.specs.PublicListing as public
 use Rattle.public_claims.specs.PublicListing.{refusedText}
 use Rattle.public_claims.specs.Once.{Once, once}
+use Rattle.starts.specs.Starts.{notFound, startsOf}
+use Rattle.starts.specs.Answer.{givenOf}
 use Rattle.build_draft.specs.declared.Element.{Element}
 use Rattle.build_draft.specs.declared.Holder.{Holder}
 use Rattle.build_draft.specs.declared.TextField.{TextField}
@@ -343,6 +347,8 @@ pub record Demand1 : Type 0 where
   pub timeText : (out : List ℕ) (seconds nanos : ℕ)
       → Ends (Late (16 ∷ [])) (whole out (writtenTime seconds nanos) ≡ zeros (length out))
       (outcomeOf (placing cause.OutputFull (length out) (writtenTime seconds nanos)))
+  -- The first and last start: 15; all that is answered beside the refusal is zero then.
+  pub starts : (words text : List ℕ) → Ends (Late (15 ∷ [])) (givenOf (startsOf words text) ≡ notFound) (startsOf words text)
   -- Counts: 17; the counts that come back are those that went in.
   pub addSuiteCounts : (c s : Counts) → Ends (Late (17 ∷ [])) (kept c (withSuite c s) ≡ c) (withSuite c s)
   pub addCaseCounts : (c : Counts) (s : Status) → Ends (Late (17 ∷ [])) (kept c (withCase c s) ≡ c) (withCase c s)

@@ -2,6 +2,7 @@
 mod counts;
 mod documents;
 mod making;
+mod run;
 mod setting;
 mod sheets;
 mod tables;

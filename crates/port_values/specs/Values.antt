@@ -31,5 +31,9 @@ abbrev pub plainMoment : KMoment → Moment
 plainMoment k =
     record { year = k .year; month = k .month; day = k .day; hour = k .hour; minute = k .minute; second = k .second; nanos = k .nanos; offset = k .offset }
 
+abbrev pub portMoment : Moment → KMoment
+portMoment m =
+    record { year = m .year; month = m .month; day = m .day; hour = m .hour; minute = m .minute; second = m .second; nanos = m .nanos; offset = m .offset }
+
 abbrev pub plainUuid : KUuid → Words
 plainUuid k = record { a = k .a; b = k .b; c = k .c; d = k .d }

@@ -17,7 +17,7 @@ use uuid::Words;
 ghost use mathlib.Core.Path.{_≡_};
 ghost use lib.ListN.{length};
 ghost use Rattle.area.specs.Area.{zeros};
-ghost use Rattle.port_values.specs.Values.{portCounted, countedPort, portBuilt, builtPort, plainMoment, plainUuid};
+ghost use Rattle.port_values.specs.Values.{portCounted, countedPort, portBuilt, builtPort, plainMoment, portMoment, plainUuid};
 ghost use Rattle.port_values.specs.Codes.{noCode};
 
 #[repr(C)]
@@ -110,6 +110,21 @@ pub fn plain_moment(k: KMoment) -> Moment
         second: k.second,
         nanos: k.nanos,
         offset: k.offset,
+    }
+}
+
+pub fn port_moment(m: Moment) -> KMoment
+    ensures { λ r. ⌜ r ≡ portMoment m ⌝ }
+{
+    KMoment {
+        year: m.year,
+        month: m.month,
+        day: m.day,
+        hour: m.hour,
+        minute: m.minute,
+        second: m.second,
+        nanos: m.nanos,
+        offset: m.offset,
     }
 }
 

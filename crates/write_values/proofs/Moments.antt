@@ -2,13 +2,15 @@
 use Prim.Native.Nat.{ℕ, _+_, _-_, _*_, _/_, _%_, _≤_}
 use mathlib.Core.Path.{_≡_, refl, sym, ap, _∙_}
 use mathlib.Core.List.{List, [], _∷_, _++_}
-use mathlib.Core.Bool.{false}
+use mathlib.Core.Bool.{Bool, true, false, cond}
 use native.Mathlib.Nat.{mod-mod, div-eq-of-lt-le}
 use native.Mathlib.Omega.{arith}
-use borrow.Author.Tests.{le-ltb}
+use borrow.Author.Tests.{le-ltb, ltb-false}
 use lib.Dec.{ltb}
 use Rattle.digits.specs.Digits.{lastDigits}
 use Rattle.timestamp.specs.declared.Moment.{Moment}
+use Rattle.tree_report.specs.Fields.{momentOf}
+use Rattle.tree_stamp.specs.Stamp.{cutOffset, cutMoment}
 use Rattle.write_moment.specs.Written.{dateText, clockText, away, offsetText, timestampText}
 
 hundred : (n : ℕ) → (n % 100 % 10 ≡ n % 10) × (n % 100 / 10 ≡ n / 10 % 10)
@@ -64,7 +66,7 @@ zoned p q r = rw (p, q, r) refl
 stamped : {a a′ b b′ c c′ : List ℕ} → a ≡ a′ → b ≡ b′ → c ≡ c′ → a ++ 0x54 ∷ b ++ c ≡ a′ ++ 0x54 ∷ b′ ++ c′
 stamped p q r = rw (p, q, r) refl
 
-pub offset-digits : (n : ℕ) → 1439 ≤ n → offsetText (1439 + (n - 1439) % 6000) ≡ offsetText n
+offset-digits : (n : ℕ) → 1439 ≤ n → offsetText (1439 + (n - 1439) % 6000) ≡ offsetText n
 unfolding offsetText
 offset-digits n h =
     let x = n - 1439 in
@@ -77,7 +79,7 @@ offset-digits n h =
     zoned (rw (p, q) refl) (ap (λ (k : ℕ). lastDigits 2 (k / 60)) am ∙ ap (lastDigits 2) (hours x .1) ∙ two-digits (x / 60) ∙ ap (λ (k : ℕ). lastDigits 2 (k / 60)) (sym an))
     (ap (λ (k : ℕ). lastDigits 2 (k % 60)) am ∙ ap (lastDigits 2) (hours x .0) ∙ ap (λ (k : ℕ). lastDigits 2 (k % 60)) (sym an))
 
-pub moment-digits : (m : Moment) (offset : ℕ) → offsetText offset ≡ offsetText (m .offset) → timestampText (record {
+moment-digits : (m : Moment) (offset : ℕ) → offsetText offset ≡ offsetText (m .offset) → timestampText (record {
   year = m .year % 10000;
   month = m .month % 100;
   day = m .day % 100;
@@ -91,3 +93,16 @@ unfolding timestampText dateText clockText
 moment-digits m offset e =
     stamped (dated (four-digits (m .year)) (two-digits (m .month)) (two-digits (m .day)))
     (clocked (lastDigits 3 (m .nanos / 1000000)) (two-digits (m .hour)) (two-digits (m .minute)) (two-digits (m .second))) e
+
+offset-cut : (n : ℕ) → offsetText (cutOffset n) ≡ offsetText n
+unfolding cutOffset
+offset-cut n = go (ltb n 7439) refl
+  where
+    go : (b : Bool) → ltb n 7439 ≡ b → offsetText (cond b n (1439 + (n - 1439) % 6000)) ≡ offsetText n
+    go true e = refl
+    go false e = offset-digits n (omega (arith, ltb-false n 7439 e))
+
+-- what is cut off of a record's timestamp isn't written
+pub stamp-text : (r : List ℕ) → timestampText (cutMoment r) ≡ timestampText (momentOf r)
+unfolding cutMoment
+stamp-text r = moment-digits (momentOf r) (cutOffset (momentOf r .offset)) (offset-cut (momentOf r .offset))

@@ -2,9 +2,9 @@
 use area::Stored;
 use list_values::part_of;
 use names::key;
-use timestamp::Moment;
 use tree_record::field;
 use tree_record::word;
+use tree_stamp::moment_of;
 use uuid::Words;
 use write_bytes::put_escaped;
 use write_bytes::put_timestamp;
@@ -15,8 +15,7 @@ ghost use Prim.Native.Nat.{_+_, _-_, _*_, _≤_};
 ghost use lib.ListN.{getD};
 ghost use Rattle.digits.specs.Digits.{decimal};
 ghost use Rattle.write_escape.specs.Escape.{escaped};
-ghost use Rattle.write_moment.specs.Written as moment;
-ghost use Rattle.tree_report.specs.Fields.{textAt, numberAt, momentOf};
+ghost use Rattle.tree_report.specs.Fields.{textAt, numberAt};
 ghost use Rattle.list_text.specs.inside.Behind.{filled, Puts};
 ghost use Rattle.write_items.specs.inside.Values.{tagName, keyName, cutAt, wordsOf, valueOf};
 
@@ -76,32 +75,6 @@ fn number_of(low: u32, high: u32) -> u64
     ensures { λ n. ⌜ n ≡ low + high * 4294967296 ⌝ }
 {
     low as u64 + high as u64 * 4294967296
-}
-
-// Hours and minutes of an offset have two digits each.
-fn offset_of(w: u32) -> u16
-    ensures { λ r. ⌜ moment.offsetText r ≡ moment.offsetText w ⌝ }
-{
-    if w < 1439 {
-        return w as u16;
-    }
-    (1439 + (w - 1439) % 6000) as u16
-}
-
-// The timestamp of a record, each number with no more digits than are written.
-fn moment_of(r: &[u32]) -> Moment
-    ensures { λ m. ⌜ moment.timestampText m ≡ moment.timestampText (momentOf (now (r .entry))) ⌝ }
-{
-    Moment {
-        year: (field(r, word::YEAR) % 10000) as u16,
-        month: (field(r, word::MONTH) % 100) as u8,
-        day: (field(r, word::DAY) % 100) as u8,
-        hour: (field(r, word::HOUR) % 100) as u8,
-        minute: (field(r, word::MINUTE) % 100) as u8,
-        second: (field(r, word::SECOND) % 100) as u8,
-        nanos: field(r, word::NANOS),
-        offset: offset_of(field(r, word::OFFSET)),
-    }
 }
 
 fn words_of(r: &[u32]) -> Words

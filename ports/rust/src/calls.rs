@@ -4,7 +4,8 @@
 use crate::limits::{self, ENTRY};
 use crate::refusal::Lent;
 use crate::table::LINE;
-use crate::{sys, Areas, Refusal, Table, TableBuf, Tree};
+use crate::{sys, Areas, Refusal, Starts, Table, TableBuf, Timestamp, Tree};
+use std::time::Duration;
 
 /// Reads a table into areas.
 ///
@@ -263,6 +264,40 @@ pub fn rehearse_into<'o>(
     let Order { cases, failures, errors, skipped, flaky } = *order;
     let writing = sys::rehearse(cases, failures, errors, skipped, flaky, events, attributes, bytes);
     written(writing, events, attributes, bytes)
+}
+
+/// The first and last start of a run: the earliest and the latest timestamp of the report's cases, and the time between them; none
+/// where no case has a timestamp. Offsets are taken into account; of those at the same instant it is the first in the report.
+///
+/// # Errors
+///
+/// 15 where the areas hold no layout; of a report that was read, built or found in two areas they do.
+///
+/// ```
+/// use kerzhoma::{read, starts, Areas, TableBuilder};
+/// use std::time::Duration;
+///
+/// let mut table = TableBuilder::new();
+/// table.start("testsuites");
+/// table.start("testsuite").attribute("name", "lab");
+/// table.empty("testcase").attribute("name", "a").attribute("timestamp", "1990-12-31T23:59:59.5Z");
+/// table.empty("testcase").attribute("name", "b").attribute("timestamp", "1990-12-31T15:59:59-08:00");
+/// table.end("testsuite").end("testsuites");
+/// let mut areas = Areas::for_table(&table.table());
+/// let found = starts(&read(&table.table(), &mut areas)?)?.expect("two cases have one");
+/// assert_eq!(found.first.to_string(), "1990-12-31T15:59:59-08:00");
+/// assert_eq!(found.last.to_string(), "1990-12-31T23:59:59.5+00:00");
+/// assert_eq!(found.span, Duration::from_millis(500));
+/// # Ok::<(), kerzhoma::Refusal>(())
+/// ```
+pub fn starts(tree: &Tree<'_>) -> Result<Option<Starts>, Refusal> {
+    let told = sys::starts(tree.records(), tree.text().as_bytes());
+    Refusal::result(told.refusal, Lent::default())?;
+    Ok(told.found.then(|| Starts {
+        first: Timestamp::of_moment(told.first),
+        last: Timestamp::of_moment(told.last),
+        span: Duration::new(told.seconds, told.nanos),
+    }))
 }
 
 /// A refusal in words, with the names of suite and case from the table that was refused: one line, ended by a newline.

@@ -7,7 +7,8 @@
 //!   by a [`TableBuilder`].
 //! - [`Areas`] are what reading works in, allocated once. [`read`] gives a [`Tree`] that borrows them, or a [`Refusal`].
 //! - [`list`] gives the listing without private text, [`read_and_list`] and [`read_and_list_xml`] the same in one call that keeps no tree,
-//!   [`write()`] the table of a report, [`explain`] a refusal in words.
+//!   [`write()`] the table of a report, [`starts`] its first
+//!   and last start, [`explain`] a refusal in words.
 //! - A [`ReportBuilder`] makes a report from nothing, [`rehearse()`] the table of one with the numbers of an [`Order`].
 //! - [`release_sheet`] and [`print_sheet`] sum the [`Counts`] of many reports.
 //!
@@ -44,7 +45,7 @@ mod values;
 pub use areas::Areas;
 pub use builder::{CaseBuilder, ReportBuilder, RunBuilder, SuiteBuilder};
 pub use calls::{
-    explain, list, list_into, public_listing, public_listing_into, read, read_and_list, read_and_list_into, rehearse, rehearse_into, write,
+    explain, list, list_into, public_listing, public_listing_into, read, read_and_list, read_and_list_into, rehearse, rehearse_into, starts, write,
     write_into, Order,
 };
 pub use document::{explain_xml, list_xml, read_and_list_xml, tokenize, tokenize_into, DocumentRefusal, XmlRefusal};
@@ -52,4 +53,4 @@ pub use refusal::{Cause, PathElement, Refusal};
 pub use sheet::{print_sheet, print_sheet_into, release_sheet, Sheet};
 pub use table::{Table, TableBuf, TableBuilder, TableError, Tag};
 pub use tree::{Case, Cases, Extras, Properties, Property, Reruns, Run, Runs, Status, Suite, Suites, Tree};
-pub use values::{time_text, Counts, FlakyOrRerun, NonSuccessKind, Outcome, Timestamp};
+pub use values::{time_text, Counts, FlakyOrRerun, NonSuccessKind, Outcome, Starts, Timestamp};

@@ -127,6 +127,17 @@ pub struct Uuid {
     pub d: u32,
 }
 
+#[repr(C)]
+#[derive(Clone, Copy)]
+pub struct Started {
+    pub found: bool,
+    pub first: Moment,
+    pub last: Moment,
+    pub seconds: u64,
+    pub nanos: u32,
+    pub refusal: Refusal,
+}
+
 // The sizes that C gives the same structs on x86-64.
 const _: () = {
     assert!(size_of::<Refusal>() == 92 && size_of::<Listing>() == 104 && size_of::<Writing>() == 120);
@@ -134,7 +145,7 @@ const _: () = {
     assert!(size_of::<Counts>() == 48 && size_of::<Counted>() == 144);
     assert!(size_of::<Sheet>() == 56 && size_of::<Released>() == 152 && size_of::<Printed>() == 104);
     assert!(size_of::<Builder>() == 24 && size_of::<Built>() == 116);
-    assert!(size_of::<Moment>() == 16 && size_of::<Uuid>() == 16);
+    assert!(size_of::<Moment>() == 16 && size_of::<Uuid>() == 16 && size_of::<Started>() == 144);
 };
 
 extern "C" {
@@ -181,6 +192,7 @@ extern "C" {
         source: *const u8, source_len: usize, out: *mut u8, out_len: usize,
     ) -> Explained;
     fn kerzhoma_time_text(out: *mut u8, out_len: usize, seconds: u32, nanos: u32) -> usize;
+    fn kerzhoma_starts(records: *const u32, records_len: usize, text: *const u8, text_len: usize) -> Started;
     fn kerzhoma_add_case(counts: Counts, outcome: u32) -> Counted;
     fn kerzhoma_add_suite(counts: Counts, suite: Counts) -> Counted;
     fn kerzhoma_release_sheet(records: *const Counts, records_len: usize) -> Released;
@@ -406,6 +418,10 @@ pub fn explain(refusal: Refusal, lent: usize, events: &[u32], attributes: &[u32]
 
 pub fn time_text(out: &mut [u8], seconds: u32, nanos: u32) -> usize {
     unsafe { kerzhoma_time_text(out.as_mut_ptr(), out.len(), seconds, nanos) }
+}
+
+pub fn starts(records: &[u32], text: &[u8]) -> Started {
+    unsafe { kerzhoma_starts(records.as_ptr(), records.len(), text.as_ptr(), text.len()) }
 }
 
 pub fn add_case(counts: Counts, outcome: u32) -> Counted {

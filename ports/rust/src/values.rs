@@ -138,6 +138,11 @@ impl Timestamp {
         }
     }
 
+    pub(crate) fn of_moment(m: sys::Moment) -> Self {
+        let sys::Moment { year, month, day, hour, minute, second, nanos, offset } = m;
+        Timestamp { year, month, day, hour, minute, second, nanos, offset_minutes: (i32::from(offset) - OFFSET) as i16 }
+    }
+
     // An offset that is none is told as one that is refused.
     pub(crate) fn told(self) -> sys::Moment {
         sys::Moment {
@@ -165,6 +170,15 @@ impl fmt::Display for Timestamp {
         let away = offset_minutes.unsigned_abs();
         write!(f, "{sign}{:02}:{:02}", away / 60, away % 60)
     }
+}
+
+/// When a run's cases started: [`starts`](crate::starts).
+#[derive(Clone, Copy, Debug, PartialEq, Eq, Hash)]
+pub struct Starts {
+    pub first: Timestamp,
+    pub last: Timestamp,
+    /// From the first to the last.
+    pub span: Duration,
 }
 
 /// A time as listings and written reports have it: seconds with three digits behind the point.

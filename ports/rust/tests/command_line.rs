@@ -305,6 +305,26 @@ fn release_sheets() {
 }
 
 #[test]
+fn first_and_last_start() {
+    let case =
+        |t: &mut TableBuilder, stamp: &str| drop(t.empty("testcase").attribute("name", "private").attribute("timestamp", stamp));
+    let mut t = TableBuilder::new();
+    t.start("testsuites").attribute("timestamp", "2000-01-01T00:00:00Z");
+    t.start("testsuite").attribute("name", "lab").attribute("timestamp", "2000-01-01T00:00:00Z");
+    case(&mut t, "1990-12-31T15:59:59.9-08:00");
+    case(&mut t, "1990-12-31T23:59:58.25Z");
+    t.end("testsuite").end("testsuites");
+    let ran = run(&["span", "-"], &t.finish().to_bytes());
+    let told = "(first 1990-12-31T23:59:58.25+00:00)\n(last 1990-12-31T15:59:59.9-08:00)\n(span 1 650000000)\n";
+    assert_eq!((ran.status, text(&ran), ran.err.as_str()), (0, told, ""));
+    let none = run(&["span", "--xml", "-"], DOCUMENT.as_bytes());
+    assert_eq!((none.status, text(&none), none.err.as_str()), (0, "(first -)\n(last -)\n(span -)\n", ""));
+    let ran = run(&["span", "-"], &refused());
+    assert_eq!((ran.status, text(&ran)), (1, ""));
+    assert!(ran.err.starts_with("kerzhoma: refused 5 ") && !ran.err.contains("private"), "{}", ran.err);
+}
+
+#[test]
 fn usage() {
     let help = run(&["--help"], b"");
     assert_eq!((help.status, help.err.as_str()), (0, ""));
@@ -315,6 +335,7 @@ fn usage() {
         &["lists", "x"],
         &["list", "x", "y"],
         &["list", "x", "-o", "y"],
+        &["span", "x", "-o", "y"],
         &["sheet"],
         &["sheet", "x", "-o", "y"],
         &["write", "x"],
@@ -381,7 +402,7 @@ fn spoiled_tables() {
         if random.below(4) == 0 {
             file.truncate(random.below(file.len()));
         }
-        for task in [&["list", "-"][..], &["explain", "-"], &["check", "-"], &["write", "-", "-o", "-"]] {
+        for task in [&["list", "-"][..], &["explain", "-"], &["check", "-"], &["span", "-"], &["write", "-", "-o", "-"]] {
             let ran = run(task, &file);
             // something is said where the status isn't 0
             let said = if ran.status == 1 && task[0] == "explain" { text(&ran) } else { &ran.err };

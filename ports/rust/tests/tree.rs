@@ -122,6 +122,68 @@ fn changed_trees() {
 }
 
 // The longest lines: all counts and times of full length, names that are escaped throughout, and none.
+// Nanoseconds from 0000-01-01T00:00Z on, by going along years and months.
+fn nanoseconds(w: &[u32; 8]) -> i128 {
+    let [year, month, day, hour, minute, second, nanos, offset] = w.map(i128::from);
+    let leap = |y: i128| i128::from(y % 4 == 0 && (y % 100 != 0 || y % 400 == 0));
+    let lengths = [31, 28 + leap(year), 31, 30, 31, 30, 31, 31, 30, 31, 30, 31];
+    let days = (0..year).map(|y| 365 + leap(y)).sum::<i128>() + lengths[..month as usize - 1].iter().sum::<i128>() + day - 1;
+    (((days * 24 + hour) * 60 + minute - (offset - 1439)) * 60 + second) * 1_000_000_000 + nanos
+}
+
+// Cases at a few instants, with every offset, so that ties are many; dead ones, and suites and runs, which don't count.
+#[test]
+fn first_and_last_start() {
+    let mut random = Random(0x1990_1231_2359_5960);
+    let mut ties = 0;
+    for _ in 0..3000 {
+        let (mut rows, mut moments, mut open) = (vec![record(1, 0), record(2, 0)], vec![], false);
+        for _ in 0..random.below(12) {
+            let (kind, offset) = ([3, 3, 3, 19, 2, 9][random.below(6)], random.below(2879) as u32);
+            let minutes = 1440 + offset + random.below(3) as u32;
+            let day = 1 + minutes / 1440;
+            let nanos = [0, 1, 999_999_999][random.below(3)];
+            let year = [0, 1900, 1999, 2000, 9999][random.below(5)];
+            let mut r = record(kind, 1);
+            if kind == 9 && !open {
+                rows.push(record(3, 1));
+            }
+            open = kind == 3 || kind == 9 || open && kind == 19;
+            if random.below(8) > 0 {
+                let w = [year, 3, day, minutes % 1440 / 60, minutes % 60, random.below(2) as u32, nanos, offset];
+                r[1] |= 8;
+                r[8..16].copy_from_slice(&w);
+                moments.extend((kind == 3).then_some(w));
+            }
+            rows.push(r);
+        }
+        let records: Vec<u32> = rows.concat();
+        let told = starts(&Tree::from_layout(&records, TEXT).unwrap()).unwrap();
+        let best = |wins: fn(i128, i128) -> bool| {
+            moments.iter().copied().reduce(|a, b| if wins(nanoseconds(&b), nanoseconds(&a)) { b } else { a })
+        };
+        let Some((first, last)) = best(|b, a| b < a).zip(best(|b, a| b > a)) else {
+            assert_eq!(told, None);
+            continue;
+        };
+        let told = told.unwrap();
+        let shown = |w: [u32; 8]| Timestamp {
+            year: w[0] as u16,
+            month: w[1] as u8,
+            day: w[2] as u8,
+            hour: w[3] as u8,
+            minute: w[4] as u8,
+            second: w[5] as u8,
+            nanos: w[6],
+            offset_minutes: w[7] as i16 - 1439,
+        };
+        assert_eq!((told.first, told.last), (shown(first), shown(last)));
+        assert_eq!(told.span.as_nanos() as i128, nanoseconds(&last) - nanoseconds(&first));
+        ties += usize::from(moments.iter().filter(|w| nanoseconds(w) == nanoseconds(&first)).count() > 1);
+    }
+    assert!(ties > 100, "{ties}");
+}
+
 #[test]
 fn longest_lines() {
     for name in ["", "&quot;", "\\\\\\\\\\\\\\\\"] {

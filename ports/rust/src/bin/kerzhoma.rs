@@ -1,8 +1,9 @@
-//! The command line: lists, explains, writes and checks a report, makes one to order, sums the counts of several.
+//! The command line: lists, explains, writes and checks a report, makes one to order, tells its first and last start,
+//! sums the counts of several.
 #![forbid(unsafe_code)]
 
 use kerzhoma::input::{is_named_xml, load_document, load_table};
-use kerzhoma::{explain, explain_xml, print_sheet, read, read_and_list, read_and_list_xml, rehearse, tokenize, write};
+use kerzhoma::{explain, explain_xml, print_sheet, read, read_and_list, read_and_list_xml, rehearse, starts, tokenize, write};
 use kerzhoma::{Areas, Counts, DocumentRefusal, NonSuccessKind, Order, Refusal, Status, TableBuf, Tree, XmlRefusal};
 use std::ffi::{OsStr, OsString};
 use std::io::{self, ErrorKind, Write};
@@ -17,6 +18,8 @@ kerzhoma: JUnit test reports, read by a proved library
     kerzhoma check FILE            only tells whether the report is accepted
     kerzhoma explain FILE          writes why the report is refused, or accepted
     kerzhoma write FILE -o FILE    writes the report again, as a table
+    kerzhoma span FILE             writes the first and last start of its cases,
+                                   and the seconds and nanoseconds between
     kerzhoma rehearse CASES FAILURES ERRORS SKIPPED FLAKY -o FILE
                                    writes a report with just these numbers
     kerzhoma sheet FILE..          sums the counts that reports state
@@ -50,6 +53,7 @@ enum Task {
     Check,
     Explain,
     Write(PathBuf),
+    Span,
 }
 
 enum Command {
@@ -68,7 +72,7 @@ fn main() -> ExitCode {
         Ok(Command::Help) => put(HELP.as_bytes(), ACCEPTED),
         Err(what) => {
             say(&what);
-            say("usage: kerzhoma list|check|explain [--xml] FILE, write [--xml] FILE -o FILE, \
+            say("usage: kerzhoma list|check|explain|span [--xml] FILE, write [--xml] FILE -o FILE, \
                  rehearse CASES FAILURES ERRORS SKIPPED FLAKY -o FILE, sheet [--xml] FILE.., --help");
             FAILED
         }
@@ -88,11 +92,12 @@ fn parse(arguments: &[OsString]) -> Result<Command, String> {
         (Some("sheet"), None) if !words.is_empty() => return Ok(Command::Sheet(words.into_iter().map(input).collect())),
         (Some("write"), Some(to)) => Task::Write(to),
         (Some("write"), None) => return Err("write needs -o FILE".to_owned()),
-        (Some("list" | "check" | "explain" | "sheet"), Some(_)) => return Err("-o belongs to write and rehearse".to_owned()),
+        (Some("list" | "check" | "explain" | "span" | "sheet"), Some(_)) => return Err("-o belongs to write and rehearse".to_owned()),
         (Some("sheet"), None) => return Err("there is no file".to_owned()),
         (Some("list"), None) => Task::List,
         (Some("check"), None) => Task::Check,
         (Some("explain"), None) => Task::Explain,
+        (Some("span"), None) => Task::Span,
         _ => return Err(format!("there is no command {}", name.display())),
     };
     match words[..] {
@@ -260,6 +265,7 @@ fn done(task: &Task, table: &TableBuf) -> u8 {
         Task::Check => read(&table, &mut areas).map(|_| Vec::new()),
         Task::Explain => read(&table, &mut areas).map(|_| b"accepted\n".to_vec()),
         Task::Write(_) => read(&table, &mut areas).and_then(|tree| write(&tree)).map(|written| written.to_bytes()),
+        Task::Span => read(&table, &mut areas).and_then(|tree| span(&tree)).map(String::into_bytes),
     };
     match (made, task) {
         (Err(refusal), Task::Explain) => put(explain(&refusal, &table).as_bytes(), REFUSED),
@@ -268,6 +274,14 @@ fn done(task: &Task, table: &TableBuf) -> u8 {
         (Ok(bytes), Task::Write(to)) => written(&bytes, to),
         (Ok(bytes), _) => put(&bytes, ACCEPTED),
     }
+}
+
+// One bracket form a line, as listings have them.
+fn span(tree: &Tree<'_>) -> Result<String, Refusal> {
+    Ok(starts(tree)?.map_or_else(
+        || "(first -)\n(last -)\n(span -)\n".to_owned(),
+        |s| format!("(first {})\n(last {})\n(span {} {})\n", s.first, s.last, s.span.as_secs(), s.span.subsec_nanos()),
+    ))
 }
 
 // A listing of what is refused is `(refused)`.

@@ -1,8 +1,8 @@
-use Rattle.write_values.proofs.Moments.{moment-digits}
-use Rattle.tree_report.specs.Fields.{momentOf}
+use mathlib.Core.Path.{refl}
+use Rattle.tree_stamp.specs.Stamp.{cutMoment}
 use borrow.Author.Needs.{needs}
-use Rattle.write_values.proofs.moment_of.Statement.{statement}
-use Rattle.write_values.proofs.moment_of.Tie as tie
+use Rattle.tree_stamp.proofs.moment_of.Statement.{statement}
+use Rattle.tree_stamp.proofs.moment_of.Tie as tie
 
 field-requires : tie.Need-field-requires
 field-requires c κs = search needs
@@ -50,15 +50,24 @@ offset-of-requires : tie.Need-offset-of-requires
 offset-of-requires c κs = search needs
 
 returns : tie.Need-returns
+unfolding cutMoment
 returns c =
-    let args = c .before .before .before .before .before .before .before .before .before .before .args in
     let field = c .before .before .before .before .before .before .before .before .field in
     let field2 = c .before .before .before .before .before .before .before .field2 in
     let field3 = c .before .before .before .before .before .before .field3 in
     let field4 = c .before .before .before .before .before .field4 in
     let field5 = c .before .before .before .before .field5 in
-    rw (field .ensures, field2 .ensures, field3 .ensures, field4 .ensures, field5 .ensures, c .before .before .before .field6 .ensures, c .before .before .field7 .ensures)
-    (moment-digits (momentOf (args .r .now)) (c .offset-of .result) (rw (c .before .field8 .ensures) at (c .offset-of .ensures)))
+    rw (
+      field .ensures,
+      field2 .ensures,
+      field3 .ensures,
+      field4 .ensures,
+      field5 .ensures,
+      c .before .before .before .field6 .ensures,
+      c .before .before .field7 .ensures,
+      c .offset-of .ensures,
+      c .before .field8 .ensures,
+    ) refl
 
 pub moment-of-spec : {M : Type 1} → statement M
 moment-of-spec =
