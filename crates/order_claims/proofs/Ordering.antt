@@ -1,5 +1,5 @@
 -- A report to order, proved. Assumes nothing.
-use Prim.Native.Nat.{ℕ, _-_, _*_, _/_, min, _≤_, _<_}
+use Prim.Native.Nat.{ℕ, _-_, _*_, min, _≤_, _<_}
 use mathlib.Core.Path.{_≡_, refl, sym, ap, _∙_}
 use mathlib.Core.List.{List, _++_}
 use mathlib.Core.Bool.{Bool, true, false, cond, _&&_}
@@ -18,7 +18,6 @@ use Rattle.refusal.specs.Refusal.{number, Refused, Outcome, accepted, refused, 
 use Rattle.refusal.specs.declared.Cause.the-variants as cause
 use Rattle.tree_report.specs.Report.{Report}
 use Rattle.tree_report.proofs.EncodeLists.{and-left, and-right}
-use Rattle.read_report.specs.Deserialize.{deserialize}
 use Rattle.read_report.specs.Answer.{Table, Areas, eventsOf, answerTo}
 use Rattle.write_report.specs.Written.{written}
 use Rattle.write_table.specs.Laid.{laidOut, fits}

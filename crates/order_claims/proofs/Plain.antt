@@ -1,24 +1,23 @@
 -- The report that is ordered is plain and sound, so that demand 2 speaks of it. Assumes nothing.
 use Prim.Native.Nat.{ℕ, _+_, _*_, _/_, _%_, _≤_}
-use mathlib.Core.Path.{_≡_, refl, sym, ap, _∙_}
+use mathlib.Core.Path.{_≡_, refl, ap, _∙_}
 use mathlib.Core.List.{List, [], _∷_, _++_, append-nil}
 use mathlib.Core.Bool.{Bool, true, not, _&&_}
 use native.Mathlib.Omega.{arith}
 use borrow.Author.Tests.{le-leb}
 use lib.Dec.{leb}
 use lib.ListN.{length, length-append}
-use Rattle.area.specs.Limits.{mostEntries, mostRecords, mostBytes}
+use Rattle.area.specs.Limits.{mostRecords}
 use Rattle.utf8.specs.Utf8.{utf8}
 use Rattle.utf8.proofs.Rules.{ascii-utf8}
 use Rattle.text_filter.specs.Filter.{unfiltered}
 use Rattle.timestamp.specs.declared.Moment.{Moment}
-use Rattle.tree_report.specs.Report.{Text, Duration, Reason, TestRerun, TestCase, TestSuite, Report}
+use Rattle.tree_report.specs.Report.{Text, Duration, Reason, TestRerun, TestCase}
 use Rattle.tree_report.specs.Encode.{Row, every, fitsRow, lowWord, highWord, caseRows, rowsOfEach, rowsOf}
 use Rattle.tree_report.proofs.EncodeLists.{both}
-use Rattle.write_report.specs.Written.{each, isEmpty, written}
-use Rattle.write_table.specs.Laid.{laidOut, fits}
-use Rattle.round_elements.specs.Plain.{listed, casesOf, reasonsIn, runsIn, reasonsOf, runsOf, descriptions, outputs, times, timestamps, keysOf, bare}
-use Rattle.round_elements.specs.Plain.{wholeTime, wholeMoment, suiteKeys, caseKeys, goodKeys, isRuled, plain, sound}
+use Rattle.write_report.specs.Written.{each, isEmpty}
+use Rattle.round_elements.specs.Plain.{listed, casesOf, reasonsIn, runsIn, runsOf, descriptions, outputs, times, timestamps, keysOf, bare}
+use Rattle.round_elements.specs.Plain.{wholeTime, wholeMoment, caseKeys, goodKeys, isRuled, plain, sound}
 use Rattle.round_report.proofs.Parts.{every-append, each-nested}
 use Rattle.order_report.specs.declared.Order.{Order}
 use Rattle.order_report.specs.declared.Kind.{Kind}

@@ -1,8 +1,8 @@
 -- The parts in which an order is put are what its report is written as. Assumes nothing.
-use Prim.Native.Nat.{ℕ, zero, suc, _+_, _-_, _≤_, _<_}
-use mathlib.Core.Path.{_≡_, refl, sym, ap, ap₂, _∙_}
+use Prim.Native.Nat.{ℕ, _+_, _-_, _≤_}
+use mathlib.Core.Path.{_≡_, refl, sym, ap, _∙_}
 use mathlib.Core.List.{List, [], _∷_, _++_, append-assoc, append-nil}
-use mathlib.Core.Bool.{Bool, true, false, cond, _&&_}
+use mathlib.Core.Bool.{Bool, false, cond}
 use native.Mathlib.Omega.{arith}
 use borrow.Author.Tests.{eq-eqb, ne-eqb}
 use lib.Dec.{eqb}
@@ -21,13 +21,13 @@ use Rattle.write_table.specs.Laid.{Item, entry, pair, tagNumber, itemsOf}
 use Rattle.write_table.proofs.Writing.{items-append}
 use Rattle.write_items.specs.inside.Values.{tagName, keyName}
 use Rattle.write_items.specs.inside.Document.{tailItems}
-use Rattle.write_items.proofs.Lists.{empty-append, empty-each}
+use Rattle.write_items.proofs.Lists.{empty-each}
 use Rattle.write_items.proofs.Tags.{element-parts}
 use Rattle.write_items.proofs.Documents.{items-numbered}
 use Rattle.order_report.specs.declared.Order.{Order}
 use Rattle.order_report.specs.declared.Kind.{Kind}
 use Rattle.order_report.specs.declared.Kind.the-variants as kind
-use Rattle.order_report.specs.Rehearsal.{stated, caseName, caseOf, casesFrom, kindsIn, suiteOf, rehearsal}
+use Rattle.order_report.specs.Rehearsal.{stated, caseOf, casesFrom, kindsIn, suiteOf, rehearsal}
 use Rattle.order_report.specs.inside.Items.{openingItems, mainItems, flakyItems, caseItems, casesItems, reportItems, suiteTagItems, headItems}
 use Rattle.order_report.proofs.Names.{escaped-name, escaped-rehearsal}
 

@@ -2,7 +2,7 @@
 use Prim.Native.Nat.{ℕ, _≤_}
 use mathlib.Core.Path.{_≡_, refl, ap, _∙_}
 use mathlib.Core.List.{List, [], _∷_, _++_}
-use mathlib.Core.Bool.{Bool, true, false, not, _&&_, and-eq-true-iff}
+use mathlib.Core.Bool.{Bool, true, not, _&&_, and-eq-true-iff}
 use native.Mathlib.Omega.{arith}
 use borrow.Author.Tests.{ne-eqb}
 use lib.ListN.{length}
@@ -13,7 +13,7 @@ use Rattle.digits.proofs.Texts.{digits-utf8}
 use Rattle.digits.proofs.Printing.{places-most, length-decimal, decimal-digits}
 use Rattle.utf8.specs.Utf8.{utf8}
 use Rattle.utf8.proofs.Rules.{ascii-append}
-use Rattle.text_filter.specs.Filter.{dropped, unfiltered}
+use Rattle.text_filter.specs.Filter.{unfiltered}
 use Rattle.text_filter.proofs.Filtering.{kept-high, unfiltered-append}
 use Rattle.write_escape.specs.Escape.{written, escaped}
 use Rattle.order_report.specs.Rehearsal.{caseName, rehearsalName}

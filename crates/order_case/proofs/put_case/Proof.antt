@@ -1,7 +1,6 @@
 use mathlib.Core.Path.{sym, ap, _∙_}
 use Rattle.order_report.proofs.Items.{failure-items, error-items, skipped-items, flaky-items, plain-items}
 use Rattle.order_report.specs.inside.Items.{caseItems}
-use Rattle.order_report.specs.declared.Kind.{Kind}
 use Rattle.write_table.proofs.Writing.{said}
 use borrow.Author.Needs.{needs}
 use Rattle.order_case.proofs.put_case.Statement.{statement}
