@@ -1,8 +1,8 @@
 -- Areas that are longer by words that are zero. Assumes nothing.
-use Prim.Native.Nat.{ℕ, _+_, _-_, _*_, _≤_, _<_}
+use Prim.Native.Nat.{ℕ, _+_, _-_, _≤_, _<_}
 use mathlib.Core.Path.{_≡_, refl, sym, ap, subst, _∙_}
 use mathlib.Core.Bool.{Bool, true, false, _||_}
-use mathlib.Core.List.{List, [], _++_, append-assoc}
+use mathlib.Core.List.{List, _++_, append-assoc}
 use native.Mathlib.Omega.{arith}
 use borrow.Author.Tests.{leb-false, ltb-false}
 use lib.Dec.{leb, ltb}
@@ -82,8 +82,9 @@ or-false : (a b : Bool) → (a || b) ≡ false → (a ≡ false) × (b ≡ false
 or-false true b e = let z : _≡_ {A = ℕ} 0 1 = cc in absurd (omega arith)
 or-false false b e = (refl, e)
 
-pub many : (n lent e : ℕ) (t : Bool) → (leb n 8 || (ltb lent e || t)) ≡ false → (8 < n) × (e ≤ lent)
-many n lent e t q =
-    let a = or-false (leb n 8) (ltb lent e || t) q in
-    let b = or-false (ltb lent e) t (a .1) in
-    (leb-false n 8 (a .0), ltb-false lent e (b .0))
+pub many : (n lent e : ℕ) (a t : Bool) → ((leb n 8 || a) || (ltb lent e || t)) ≡ false → (8 < n) × (e ≤ lent)
+many n lent e a t q =
+    let u = or-false (leb n 8 || a) (ltb lent e || t) q in
+    let v = or-false (leb n 8) a (u .0) in
+    let w = or-false (ltb lent e) t (u .1) in
+    (leb-false n 8 (v .0), ltb-false lent e (w .0))

@@ -1,12 +1,13 @@
 -- The stored keys of extras stay while attributes are read, and at most one comes behind them. Assumes nothing.
 use Prim.Native.Nat.{ℕ, zero, suc, _+_, _≤_}
 use mathlib.Core.Path.{_≡_, refl, sym, ap, _∙_}
-use mathlib.Core.Bool.{Bool, not}
+use mathlib.Core.Bool.{Bool, false, not, _||_}
 use mathlib.Core.List.{List, [], _∷_, _++_, append-assoc, append-nil}
 use native.Mathlib.Omega.{arith}
 use lib.Dec.{leb}
 use lib.ListN.{length, getD, set, take, drop, length-drop}
-use lib.Seq.{getD-set-other, take-append-le, drop-append-le}
+use lib.Seq.{getD-set-other, take-append-le, drop-append-le, take-at, drop-at}
+use Rattle.names.specs.Names.{sameBytes}
 use Rattle.names.specs.Keys.{keyOf}
 use Rattle.table.specs.Event.{Attribute, markAt, keyAt, attributeAt, attributesFrom}
 use Rattle.integer.specs.Integer.{integerOf}
@@ -14,16 +15,16 @@ use Rattle.time.specs.Time.{timeOf}
 use Rattle.timestamp.specs.Timestamp.{timestampOf}
 use Rattle.uuid.specs.Uuid.{uuidOf}
 use Rattle.text.specs.Value.{valueText, checkedOf}
-use Rattle.tree_record.specs.Record.{textAt}
+use Rattle.tree_record.specs.Record.{textAt, marked}
 use Rattle.tree_put.specs.Put.{blank, putPair, putText}
 use Rattle.read_keys.specs.declared.Role.{Role}
 use Rattle.read_keys.specs.declared.Role.the-variants as role
 use Rattle.read_keys.specs.Roles.{roleOf}
-use Rattle.read_element.specs.Outcome.{Place, Rooms, within, need, there, _>>=_, fits}
+use Rattle.read_element.specs.Outcome.{Place, Rooms, within, fits}
 use Rattle.read_element.specs.Attributes.{Given, placeOf, changed, extraKind, readText, oldExtra, newExtra, readExtra, byRole, among, numbered}
 use Rattle.read_element.specs.inside.Held.{Keyed, keysOf}
 use Rattle.read_element.proofs.TreeOutcome.{Holds, accept, bind, needed, answered, either}
-use Rattle.read_each.proofs.Going.{attributeStep}
+use Rattle.read_each.proofs.Stepping.{attributeStep}
 use Rattle.refusal.specs.declared.Cause.the-variants as cause
 
 -- the stored keys of extras
@@ -61,34 +62,49 @@ keys-changed texts i a b [] = refl
 keys-changed texts zero a b (r ∷ rs) = ap (λ (l : List ℕ). l ∷ keyTexts texts rs) (pair-stays texts r a b)
 keys-changed texts (suc i) a b (r ∷ rs) = ap (λ (l : List (List ℕ)). textAt texts r 2 ∷ l) (keys-changed texts i a b rs)
 
-pub record Kept (g h : Given) : Type 0 where
+-- the stored keys stay behind an attribute with this key, and at most one comes behind them, which is its cleaned key
+pub record Kept (key : List ℕ) (g h : Given) : Type 0 where
   pub more : List (List ℕ)
   pub few : length more ≤ 1
   pub same : keyTexts (h .texts) (h .extras) ≡ keyTexts (g .texts) (g .extras) ++ more
+  pub from : (k : List ℕ) → sameBytes (valueText key) k ≡ false → among k more ≡ false
 
-none-more : (g h : Given) → keyTexts (h .texts) (h .extras) ≡ keyTexts (g .texts) (g .extras) → Kept g h
-none-more g h e = record { more = []; few = omega arith; same = e ∙ sym (append-nil (keyTexts (g .texts) (g .extras))) }
+none-more : (key : List ℕ) (g h : Given) → keyTexts (h .texts) (h .extras) ≡ keyTexts (g .texts) (g .extras) → Kept key g h
+none-more key g h e = record { more = []; few = omega arith; same = e ∙ sym (append-nil (keyTexts (g .texts) (g .extras))); from = λ k q. refl }
+
+-- a new extra's record
+abbrev newWords : ℕ → ℕ → ℕ → ℕ → ℕ → List ℕ
+newWords kind start n start′ n′ = putText 4 1 start′ n′ (putText 2 0 start n (blank (extraKind kind)))
+
+-- its key is read back
+new-key : (kind : ℕ) (texts key value : List ℕ) → textAt ((texts ++ key) ++ value) (newWords kind (length texts) (length key) (length (texts ++ key)) (length value)) 2 ≡ key
+unfolding marked
+new-key kind texts key value =
+    ap (λ (s : List ℕ). take (length key) (drop (length texts) s)) (append-assoc texts key value)
+    ∙ ap (take (length key)) (drop-at texts (key ++ value) (length texts) refl)
+    ∙ take-at key value (length key) refl
 
 module _ (rooms : Rooms) (p : Place) (used kind : ℕ) (g : Given) (keyed : Keyed (length (g .texts)) (g .extras)) where
-  kept-text : (q : Place) (o k : ℕ) (value : List ℕ) → Holds (λ h. Kept g h) (readText rooms q o k value g)
+  kept-text : (key : List ℕ) (q : Place) (o k : ℕ) (value : List ℕ) → Holds (λ h. Kept key g h) (readText rooms q o k value g)
   unfolding readText
-  kept-text q o k value =
+  kept-text key q o k value =
       bind (answered q (checkedOf value)) λ _ _.
       needed (fits (rooms .text) (length (g .texts) + length (valueText value))) q cause.TextFull λ _.
-      accept (none-more g (record { main = putText o k (length (g .texts)) (length (valueText value)) (g .main); extras = g .extras; texts = g .texts ++ valueText value })
+      accept (none-more key g (record { main = putText o k (length (g .texts)) (length (valueText value)) (g .main); extras = g .extras; texts = g .texts ++ valueText value })
       (keys-grown (g .texts) (valueText value) (g .extras) keyed))
 
-  kept-old : (value : List ℕ) (i : ℕ) → Holds (λ h. Kept g h) (oldExtra rooms p value i g)
+  kept-old : (key value : List ℕ) (i : ℕ) → Holds (λ h. Kept key g h) (oldExtra rooms p value i g)
   unfolding oldExtra
-  kept-old value i =
+  kept-old key value i =
       needed (fits (rooms .text) (length (g .texts) + length value)) p cause.TextFull λ _.
-      accept (none-more g (record { main = g .main; extras = changed i (putPair 4 (length (g .texts)) (length value)) (g .extras); texts = g .texts ++ value })
+      accept (none-more key g (record { main = g .main; extras = changed i (putPair 4 (length (g .texts)) (length value)) (g .extras); texts = g .texts ++ value })
       (keys-changed (g .texts ++ value) i (length (g .texts)) (length value) (g .extras) ∙ keys-grown (g .texts) value (g .extras) keyed))
 
-  kept-new : (key value : List ℕ) → Holds (λ h. Kept g h) (newExtra rooms p used kind key value g)
+  kept-new : (raw value : List ℕ) → Holds (λ h. Kept raw g h) (newExtra rooms p used kind (valueText raw) value g)
   unfolding newExtra
-  kept-new key value =
-      let r : List ℕ = putText 4 1 (length (g .texts ++ key)) (length value) (putText 2 0 (length (g .texts)) (length key) (blank (extraKind kind))) in
+  kept-new raw value =
+      let key : List ℕ = valueText raw in
+      let r : List ℕ = newWords kind (length (g .texts)) (length key) (length (g .texts ++ key)) (length value) in
       needed (fits (rooms .records) (used + 1 + length (g .extras) + 1)) p cause.RecordsSpent λ _.
       needed (fits (rooms .text) (length (g .texts) + length key)) p cause.TextFull λ _.
       needed (fits (rooms .text) (length (g .texts ++ key) + length value)) p cause.TextFull λ _.
@@ -98,34 +114,35 @@ module _ (rooms : Rooms) (p : Place) (used kind : ℕ) (g : Given) (keyed : Keye
         same = keys-more ((g .texts ++ key) ++ value) (g .extras) r
             ∙ ap (λ (l : List (List ℕ)). l ++ (textAt ((g .texts ++ key) ++ value) r 2 ∷ []))
             (ap (λ (t : List ℕ). keyTexts t (g .extras)) (append-assoc (g .texts) key value) ∙ keys-grown (g .texts) (key ++ value) (g .extras) keyed);
+        from = λ k q. ap (λ (l : List ℕ). sameBytes l k || false) (new-key kind (g .texts) key value) ∙ ap (λ (t : Bool). t || false) q;
       })
 
-  kept-extra : (x : Attribute) → Holds (λ h. Kept g h) (readExtra rooms p used kind x g)
+  kept-extra : (x : Attribute) → Holds (λ h. Kept (x .key) g h) (readExtra rooms p used kind x g)
   unfolding readExtra
   kept-extra x =
       bind (answered p (checkedOf (x .key))) λ _ _.
       bind (answered p (checkedOf (x .value))) λ _ _.
       either (leb (length (g .extras)) (placeOf (g .texts) (valueText (x .key)) (g .extras)))
-      (λ _. kept-new (valueText (x .key)) (valueText (x .value)))
-      (λ _. kept-old (valueText (x .value)) (placeOf (g .texts) (valueText (x .key)) (g .extras)))
+      (λ _. kept-new (x .key) (valueText (x .value)))
+      (λ _. kept-old (x .key) (valueText (x .value)) (placeOf (g .texts) (valueText (x .key)) (g .extras)))
 
-  same-extras : (h : Given) → h .extras ≡ g .extras → h .texts ≡ g .texts → Kept g h
-  same-extras h e t = none-more g h (ap (λ (l : List ℕ). keyTexts l (h .extras)) t ∙ ap (keyTexts (g .texts)) e)
+  same-extras : (key : List ℕ) (h : Given) → h .extras ≡ g .extras → h .texts ≡ g .texts → Kept key g h
+  same-extras key h e t = none-more key g h (ap (λ (l : List ℕ). keyTexts l (h .extras)) t ∙ ap (keyTexts (g .texts)) e)
 
-  kept-role : (key : ℕ) (r : Role) (x : Attribute) → Holds (λ h. Kept g h) (byRole rooms p used kind key r x g)
+  kept-role : (key : ℕ) (r : Role) (x : Attribute) → Holds (λ h. Kept (x .key) g h) (byRole rooms p used kind key r x g)
   unfolding byRole
-  kept-role key (role.Text o k) x = kept-text (within p key) o k (x .value)
-  kept-role key (role.Count o) x = bind (answered (within p key) (integerOf (x .value))) λ n _. accept (same-extras _ refl refl)
-  kept-role key (role.Number o k) x = bind (answered (within p key) (integerOf (x .value))) λ n _. accept (same-extras _ refl refl)
-  kept-role key role.Uuid x = bind (answered (within p key) (uuidOf (x .value))) λ n _. accept (same-extras _ refl refl)
-  kept-role key (role.Timestamp kept) x = bind (answered (within p key) (timestampOf (x .value))) λ n _. accept (same-extras _ refl refl)
-  kept-role key (role.Time kept) x = bind (answered (within p key) (timeOf (x .value))) λ n _. accept (same-extras _ refl refl)
+  kept-role key (role.Text o k) x = kept-text (x .key) (within p key) o k (x .value)
+  kept-role key (role.Count o) x = bind (answered (within p key) (integerOf (x .value))) λ n _. accept (same-extras (x .key) _ refl refl)
+  kept-role key (role.Number o k) x = bind (answered (within p key) (integerOf (x .value))) λ n _. accept (same-extras (x .key) _ refl refl)
+  kept-role key role.Uuid x = bind (answered (within p key) (uuidOf (x .value))) λ n _. accept (same-extras (x .key) _ refl refl)
+  kept-role key (role.Timestamp kept) x = bind (answered (within p key) (timestampOf (x .value))) λ n _. accept (same-extras (x .key) _ refl refl)
+  kept-role key (role.Time kept) x = bind (answered (within p key) (timeOf (x .value))) λ n _. accept (same-extras (x .key) _ refl refl)
   kept-role key role.Extra x = kept-extra x
-  kept-role key role.Ignored x = accept (same-extras g refl refl)
+  kept-role key role.Ignored x = accept (same-extras (x .key) g refl refl)
 
 -- attribute j
 pub kept-step : (attributes source : List ℕ) (kind first : ℕ) (rooms : Rooms) (p : Place) (used j : ℕ) (g : Given)
-    → Keyed (length (g .texts)) (g .extras) → Holds (λ h. Kept g h) (attributeStep attributes source kind first rooms p used j g)
+    → Keyed (length (g .texts)) (g .extras) → Holds (λ h. Kept (keyAt attributes source j) g h) (attributeStep attributes source kind first rooms p used j g)
 kept-step attributes source kind first rooms p used j g keyed =
     needed (markAt attributes j) (numbered p j) cause.FaultyAttribute λ _.
     needed (not (among (keyAt attributes source j) (keysOf (attributesFrom attributes source _ first)))) (numbered p j) cause.RepeatedKey λ _.

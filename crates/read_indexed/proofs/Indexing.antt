@@ -1,7 +1,6 @@
 -- An element's attributes, one after the other, with chains behind its records. Assumes nothing.
 use Prim.Native.Nat.{ℕ, _+_, _-_, _*_, _≤_, _<_}
 use mathlib.Core.Path.{_≡_, refl, sym, ap, subst, _∙_}
-use mathlib.Core.Bool.{Bool, true}
 use mathlib.Core.List.{List, [], _∷_, _++_}
 use native.Mathlib.Omega.{arith}
 use borrow.Author.Tests.{ltb-true}
@@ -14,12 +13,11 @@ use Rattle.text.specs.Value.{valueText}
 use Rattle.table.specs.Event.{Attribute, keyAt, attributesFrom}
 use Rattle.table.proofs.Resolving.{attributes-end, attributes-next}
 use Rattle.chains.proofs.Chaining.{chained-start}
-use Rattle.chains.specs.Chains.{Chained}
 use Rattle.read_element.specs.Outcome.{_>>=_, Place, Rooms}
 use Rattle.read_element.specs.Attributes.{Given, readAttributes}
 use Rattle.read_element.specs.inside.Held.{keysOf, placeAt, Held, Roomy}
 use Rattle.read_element.proofs.TreeOutcome.{Holds, held}
-use Rattle.read_attribute.specs.inside.Steps.{faultAt, Matches}
+use Rattle.read_attribute.specs.inside.Steps.{Matches}
 use Rattle.read_element.specs.inside.Refines.{went, stopped}
 use Rattle.read_free.specs.inside.Unrepeated.{Unrepeated}
 use Rattle.read_extras.proofs.Choosing.{place-held}
@@ -31,9 +29,10 @@ use Rattle.read_places.specs.inside.Stands.{stands}
 use Rattle.read_places.proofs.Unchanged.{unchanged}
 use Rattle.read_each.proofs.HeldBounds.{held-fill, held-extras}
 use Rattle.read_each.proofs.KeysBefore.{keys-next, free-key}
-use Rattle.read_each.proofs.Going.{spacious, somewhere, roomy-spacious, Gone, gone, halted, attributeStep, Stepped, Along}
+use Rattle.read_each.proofs.Stepping.{attributeStep}
+use Rattle.read_each.proofs.Going.{spacious, somewhere, roomy-spacious, Gone, gone, halted, Stepped, Along}
 use Rattle.read_places.specs.inside.Indexed.{Indexed}
-use Rattle.read_indexed.proofs.Kept.{Kept, kept-step}
+use Rattle.read_each.proofs.Kept.{Kept, kept-step}
 use Rattle.read_indexed.proofs.StoredKeys.{kept-least, kept-most, kept-keys}
 use Rattle.read_indexed.proofs.Narrow.{narrow, roomy-narrow, step-narrow}
 use Rattle.read_places.proofs.Noting.{front-is, indexed-rest}
@@ -104,7 +103,7 @@ module _ {kind : ℕ} {attributes source : List ℕ} {first end k m : ℕ} {own�
       a .same ∙ ap (λ (xs : List Attribute). readAttributes rooms p used kind (keysOf (attributesFrom attributes source (j - first) first)) j xs (a .said)) (attributes-next attributes source end j h)
 
   module _ (h : j < end) (room : (end - first) * 32 + 32 ≤ k) (inside : k ≤ length own₀) {clear hint : ℕ} (f : Unrepeated attributes source first clear)
-      (hinted : hint ≡ placeAt (take k own) text (valueText (keyAt attributes source j)) (given .extras) 0)
+      (hinted : hint ≤ given .extras → placeAt (take k own) text (valueText (keyAt attributes source j)) (given .extras) 0 ≡ hint)
       {front text′ : List ℕ} {r : Step} (s : Stepped attributes source kind first (ltb j clear) hint j given (take k own) text front text′ r) where
     front-size : length (take k own) ≡ k
     front-size = length-take-le k own (let q = x .own-same in omega arith)
@@ -123,7 +122,7 @@ module _ {kind : ℕ} {attributes source : List ℕ} {first end k m : ℕ} {own�
         (subst (λ (u : Step). Matches p front text′ (attributeStep attributes source kind first (narrow rooms used k) p used j (a .said)) u) q
         (s (a .said) (narrow rooms used k) p used (a .holds) y
         (λ e. free-key attributes source first clear j f (x .low) (ltb-true j clear e))
-        (λ _. sym (place-held (a .holds) (valueText (keyAt attributes source j))) ∙ sym hinted)))
+        (λ u. sym (place-held (a .holds) (valueText (keyAt attributes source j))) ∙ hinted (omega arith))))
 
     indexing-stopped : {fault : Fault} → r ≡ step.Not fault → (rooms : Rooms) (p : Place) (used whole : ℕ) → length own₀ ≤ whole → Roomy rooms used whole (length text₀)
         → Matches p front text′ (readAttributes rooms p used kind [] first (attributesFrom attributes source (end - first) first) g₀) (step.Not fault)
@@ -150,8 +149,8 @@ module _ {kind : ℕ} {attributes source : List ℕ} {first end k m : ℕ} {own�
       went-on : Gone front text′ (attributeStep attributes source kind first (spacious (length own₀) (length text₀)) somewhere 0 j (plain .said)) next
       went-on = gone (taking q (spacious (length own₀) (length text₀)) somewhere 0 (length own₀) (itself (length own₀)) (roomy-spacious (length own₀) (length text₀)))
 
-      kept : Kept (plain .said) (went-on .said)
-      kept = held (subst (λ (o : Outcome Given). Holds (λ g. Kept (plain .said) g) o) (went-on .same)
+      kept : Kept (keyAt attributes source j) (plain .said) (went-on .said)
+      kept = held (subst (λ (o : Outcome Given). Holds (λ g. Kept (keyAt attributes source j) (plain .said) g) o) (went-on .same)
           (kept-step attributes source kind first (spacious (length own₀) (length text₀)) somewhere 0 j (plain .said) (plain .holds .keyed)))
 
       pub next-least : given .extras ≤ next .extras

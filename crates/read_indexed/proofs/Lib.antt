@@ -1,4 +1,3 @@
-mod Kept
 mod StoredKeys
 mod Narrow
 mod Indexing

@@ -19,7 +19,7 @@ use Rattle.read_keys.specs.Roles.{roleOf}
 use Rattle.read_element.specs.Outcome.{Place, Rooms, need, there, _>>=_, fits}
 use Rattle.read_element.specs.Attributes.{Given, placeOf, extraKind, storing, readText, oldExtra, newExtra, readExtra, byRole, among, numbered}
 use Rattle.read_element.specs.inside.Held.{keysOf, Roomy}
-use Rattle.read_each.proofs.Going.{attributeStep}
+use Rattle.read_each.proofs.Stepping.{attributeStep}
 use Rattle.refusal.specs.declared.Cause.the-variants as cause
 
 -- rooms for `used` records and so many words

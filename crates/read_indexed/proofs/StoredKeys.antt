@@ -12,7 +12,7 @@ use Rattle.read_element.specs.Attributes.{Given}
 use Rattle.read_element.specs.inside.Held.{Keyed, Held}
 use Rattle.read_extras.proofs.Choosing.{text-in}
 use Rattle.read_places.specs.inside.Stands.{storedKey}
-use Rattle.read_indexed.proofs.Kept.{keyTexts, length-texts, Kept}
+use Rattle.read_each.proofs.Kept.{keyTexts, length-texts, Kept}
 
 stored-from : (own texts z : List ℕ) (rs : List (List ℕ)) (i : ℕ) (y : List ℕ) → drop (i * 32 + 32) own ≡ joined rs ++ y → Keyed (length texts) rs
     → (n : ℕ) → n < length rs → storedKey own (texts ++ z) (i + n) ≡ getD (keyTexts texts rs) n []
@@ -45,7 +45,7 @@ stored-held {own} {text} {extras} {fill} {g} hd i h =
     (ap (drop 32) (hd .records) ∙ drop-at (g .main) (joined (g .extras) ++ zeros (hd .room)) 32 (hd .main-words)) (hd .keyed) i (let c = hd .count in omega arith)
 
 module _ {own text : List ℕ} {extras fill : ℕ} {g : Given} {own′ text′ : List ℕ} {extras′ fill′ : ℕ}
-    {h : Given} (hd : Held own text extras fill g) (hd′ : Held own′ text′ extras′ fill′ h) (k : Kept g h) where
+    {h : Given} {key : List ℕ} (hd : Held own text extras fill g) (hd′ : Held own′ text′ extras′ fill′ h) (k : Kept key g h) where
   sizes : extras′ ≡ extras + length (k .more)
   sizes =
       let a = ap length (k .same) ∙ length-append (keyTexts (g .texts) (g .extras)) (k .more) in

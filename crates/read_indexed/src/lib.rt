@@ -7,6 +7,8 @@ use read_extra_record::Given;
 use read_fault::Step;
 use read_places::note_extra;
 use read_places::place_in;
+use text::value::Checked;
+use text::value::check_value;
 ghost use mathlib.Core.Path.{_≡_};
 ghost use Prim.Native.Nat.{_+_, _-_, _*_, _≤_, _<_};
 ghost use lib.ListN.{length, take, drop};
@@ -18,7 +20,8 @@ ghost use Rattle.read_element.specs.inside.Refines.{tagged, areas};
 ghost use Rattle.read_each.specs.inside.Promises.{Begins, ReadsWithin};
 ghost use Rattle.read_places.specs.inside.Indexed.{Indexed};
 
-// The place of the extra with the key of attribute j among the extras, or their number.
+// The place of the extra with the key of attribute j among the extras, or their number. A key that isn't good is refused before it is
+// cleaned, so that no place is looked for.
 fn hint_for(
     attributes: &[u32],
     source: &[u8],
@@ -33,10 +36,15 @@ fn hint_for(
     requires { ⌜ extras ≤ 65536 ⌝ }
     requires { ⌜ k ≤ length (now own) ⌝ }
     requires { ⌜ Indexed k m extras (now own) (now text) ⌝ }
-    ensures { λ r. ⌜ r ≡ placeAt (take k (now (own .entry))) (now (text .entry)) (valueText (keyAt (now (attributes .entry)) (now (source .entry)) j)) extras 0 ⌝ }
+    ensures { λ r. ⌜ (r ≤ extras → placeAt (take k (now (own .entry))) (now (text .entry)) (valueText (keyAt (now (attributes .entry)) (now (source .entry)) j)) extras 0 ≡ r) ⌝ }
 {
     let key = key_at(attributes, source, j);
-    place_in(&own[..k], text, extras, m, key, &own[k..])
+    let checked = check_value(key);
+    match checked {
+        Checked::Good => place_in(&own[..k], text, extras, m, key, &own[k..]),
+        Checked::NotUtf8 => extras + 1,
+        Checked::BadReference => extras + 1,
+    }
 }
 
 // The records stand in the first k words, which have room for an extra from each attribute; the words behind are zero.
