@@ -1,13 +1,12 @@
 -- Ranges of attributes without a repeated key, and the keys before an attribute. Assumes nothing.
-use Prim.Native.Nat.{ℕ, zero, suc, _+_, _-_, _≤_, _<_}
+use Prim.Native.Nat.{ℕ, zero, suc, _+_, _-_, _≤_}
 use mathlib.Core.Path.{_≡_, refl, sym, ap, subst, _∙_}
 use mathlib.Core.Bool.{Bool, true, false, cond, not, _&&_, _||_}
-use mathlib.Core.List.{List, [], _∷_, _++_}
+use mathlib.Core.List.{List, []}
 use native.Mathlib.Omega.{arith}
 use borrow.Author.Tests.{leb-true, not-true}
 use lib.Dec.{leb, eqb}
 use Rattle.refusal.specs.Refusal.{Outcome, accepted, refused}
-use Rattle.names.specs.Names.{sameBytes}
 use Rattle.table.specs.Event.{keyAt, markAt, attributesFrom}
 use Rattle.read_element.specs.Outcome.{Place, Rooms}
 use Rattle.read_element.specs.Attributes.{Given, among, numbered, readAttributes}

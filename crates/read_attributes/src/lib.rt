@@ -70,19 +70,30 @@ fn known_of(known: Range, range: Range) -> Range
     range
 }
 
-// A number up to which no two attributes of the range have the same key. The words lent are zero, and are so again afterwards.
-fn clear_to(attributes: &[u32], source: &[u8], range: Range, known: Range, own: &mut [u32]) -> usize
+// A number up to which no two attributes of the range have the same key. The words and bytes lent are zero, and are so again
+// afterwards.
+fn clear_to(
+    attributes: &[u32],
+    source: &[u8],
+    range: Range,
+    known: Range,
+    own: &mut [u32],
+    spare: &mut [u8],
+) -> usize
     requires { ⌜ range .first ≤ range .end ⌝ }
     requires { ⌜ range .end * 5 ≤ length (now attributes) ⌝ }
+    requires { ⌜ range .end ≤ 65536 ⌝ }
     requires { ⌜ now own ≡ zeros (length (now own)) ⌝ }
+    requires { ⌜ now spare ≡ zeros (length (now spare)) ⌝ }
     requires { ⌜ Free (now attributes) (now source) (known .first) (known .end) ⌝ }
     ensures { λ r. ⌜ Free (now (attributes .entry)) (now (source .entry)) (range .first) r ⌝ }
     ensures { λ _. ⌜ now (own .exit) ≡ zeros (length (now (own .entry))) ⌝ }
+    ensures { λ _. ⌜ now (spare .exit) ≡ zeros (length (now (spare .entry))) ⌝ }
 {
     if is_within(known, range) {
         return range.end;
     }
-    free_to(attributes, source, range.first, range.end, own)
+    free_to(attributes, source, range.first, range.end, own, spare)
 }
 
 // The element whose record has room.
@@ -143,7 +154,7 @@ pub fn read_element(
     if own.len() < 32 {
         return refused(Cause::RecordsSpent, 0);
     }
-    let clear = clear_to(attributes, source, range, known, own);
+    let clear = clear_to(attributes, source, range, known, own, &mut text[fill..]);
     read_record(
         kind,
         attributes,

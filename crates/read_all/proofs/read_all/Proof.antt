@@ -46,10 +46,11 @@ slice-aggregate-read-cleared c =
 
 read-cleared-requires : tie.Need-read-cleared-requires
 read-cleared-requires c κs =
+    let plain-of = c .before .before .before .before .plain-of in
     let args = c .before .before .before .before .before .before .before .before .before .before .args in
     let pre = c .before .before .before .before .before .before .before .before .before .before .pre in
     let y = many (args .range .end - args .range .first) (length (args .own .now)) ((args .range .end - args .range .first) * 34 + 32) (ltb (args .kind) 2 || ltb 3 (args .kind))
-    (eqb (c .before .before .before .before .plain-of .result) (args .range .end))
+    (eqb (plain-of .result) (args .range .end))
     (c .before .before .if1 .left) in let l = length-take-le ((args .range .end - args .range .first) * 34 + 32) (args .own .now) (y .1) in (
       (pre .0),
       (
@@ -85,13 +86,14 @@ same-length-4 c = search needs
 
 returns-2 : tie.Need-returns-2
 returns-2 c =
+    let plain-of = c .before .before .before .before .before .before .before .before .before .plain-of in
     let args = c .before .before .before .before .before .before .before .before .before .before .before .before .before .before .before .args in
     let pre = c .before .before .before .before .before .before .before .before .before .before .before .before .before .before .before .pre in
     let if1 = c .before .before .before .before .before .before .before .if1 in
     let read-cleared = c .before .before .before .before .read-cleared in
     λ rooms p used ro. let y =
     many (args .range .end - args .range .first) (length (args .own .now)) ((args .range .end - args .range .first) * 34 + 32) (ltb (args .kind) 2 || ltb 3 (args .kind))
-    (eqb (c .before .before .before .before .before .before .before .before .before .plain-of .result) (args .range .end)) (if1 .left) in
+    (eqb (plain-of .result) (args .range .end)) (if1 .left) in
     let l = length-take-le ((args .range .end - args .range .first) * 34 + 32) (args .own .now) (y .1) in behind (length (args .own .now) - ((args .range .end - args .range .first) * 34 + 32))
     (rest-zero (args .kind) (args .fill) (take (args .fill) (args .text .now)) (args .own .now) (args .text .now) (pre .1 .1 .1 .1 .1 .0)
     ((args .range .end - args .range .first) * 34 + 32) (omega arith) (y .1)) (read-cleared .ensures rooms p used (length (args .own .now)) (omega (arith, l, y .1)) ro)

@@ -23,12 +23,7 @@ same-length : tie.Need-same-length
 same-length c = search needs
 
 returns : tie.Need-returns
-returns c =
-    let args = c .before .before .before .before .before .before .before .before .args in
-    let key-at = c .before .before .before .before .key-at in (
-      sym (c .if1 .taken) ∙ c .before .is-chained .ensures ∙ ap (λ (k : List ℕ). among k (keysIn (args .attributes .now) (args .source .now) (args .first) (args .j))) (key-at .ensures),
-      λ e. absurd (never e),
-    )
+returns c = (λ e. absurd (never e), λ e. absurd (never e))
 
 sub-link : tie.Need-sub-link
 sub-link c = search needs
@@ -46,15 +41,15 @@ same-length-2 c = search needs
 returns-2 : tie.Need-returns-2
 returns-2 c =
     let start = c .before .before .before .before .before .before .before .before .before .before .before .before in
-    let key-at = c .before .before .before .before .before .before .before .before .key-at in
-    let bucket = c .before .before .before .before .before .before .before .bucket in
+    let key-at-step = c .before .before .before .before .before .before .before .before .key-at in
+    let bucket-step = c .before .before .before .before .before .before .before .bucket in
     let is-chained = c .before .before .before .before .before .is-chained in
     let if1 = c .before .before .before .before .if1 in
     let s = start .args in (
-      sym (if1 .left) ∙ is-chained .ensures ∙ ap (λ (k : List ℕ). among k (keysIn (s .attributes .now) (s .source .now) (s .first) (s .j))) (key-at .ensures),
+      λ e. sym (ap (λ (k : List ℕ). among k (keysIn (s .attributes .now) (s .source .now) (s .first) (s .j))) (key-at-step .ensures)) ∙ is-chained .ensures (if1 .left),
       λ _. subst (λ (w : List ℕ). Chained (falls (s .attributes .now) (s .source .now) (s .first) (s .m)) (s .j + 1 - s .first) (s .m) w) (sym (c .before .before .link .ensures))
           (entered (s .attributes .now) (s .source .now) (s .first) (s .j) (s .m) (start .pre .0) (start .pre .1 .1 .1 .1)
-          (start .pre .1 .1 .1 .0) (bucket .ensures ∙ ap (bucketOf (s .m)) (key-at .ensures))),
+          (start .pre .1 .1 .1 .0) (bucket-step .ensures ∙ ap (bucketOf (s .m)) (key-at-step .ensures))),
     )
 
 pub enter-spec : {M : Type 1} → statement M

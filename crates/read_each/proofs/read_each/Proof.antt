@@ -45,12 +45,13 @@ loop-less c = let x = c .before .before .before .before .before .before .before 
 
 loop-again : tie.Need-loop-again Inv-loop μ-loop
 loop-again c =
+    let chosen = c .before .before .before .before .before .before .before .before .before .before .chosen in
     let pre = c .before .before .before .before .before .before .before .before .before .before .before .before .before .before .before .before .before .before .pre in
     let loop = c .before .before .before .before .before .before .before .before .before .before .before .before .before .loop in
     let loop-test = c .before .before .before .before .before .before .before .before .before .before .before .before .loop-test in
     let step-attribute = c .before .before .before .before .before .before .before .step-attribute in
     going-on (loop .inv) (loop-test .taken) (pre .1 .1 .1 .1 .1 .1 .1) (pre .1 .0)
-    (c .before .before .before .before .before .before .before .before .before .before .chosen .ensures) (step-attribute .ensures) (c .before .step .given .1)
+    (chosen .ensures) (step-attribute .ensures) (c .before .step .given .1)
     (step-attribute .kept .1 .1 .1 .1 .1 .1 .1 .1 .0) (step-attribute .kept .1 .1 .1 .1 .1 .1 .1 .1 .1 .0)
 
 enum-known-step-2 : tie.Need-enum-known-step-2 Inv-loop μ-loop
@@ -70,12 +71,13 @@ same-length-2 c =
 
 returns : tie.Need-returns Inv-loop μ-loop
 returns c =
+    let chosen = c .before .before .before .before .before .before .before .before .before .before .chosen in
     let pre = c .before .before .before .before .before .before .before .before .before .before .before .before .before .before .before .before .before .before .pre in
     let loop = c .before .before .before .before .before .before .before .before .before .before .before .before .before .loop in
     let loop-test = c .before .before .before .before .before .before .before .before .before .before .before .before .loop-test in
     let step-attribute = c .before .before .before .before .before .before .before .step-attribute in
     going-stopped (loop .inv) (loop-test .taken) (pre .1 .1 .1 .1 .1 .1 .1) (pre .1 .0)
-    (c .before .before .before .before .before .before .before .before .before .before .chosen .ensures) (step-attribute .ensures) (c .before .step2 .given .1)
+    (chosen .ensures) (step-attribute .ensures) (c .before .step2 .given .1)
 
 same-length-3 : tie.Need-same-length-3 Inv-loop μ-loop
 same-length-3 c = c .before .loop .inv .own-same

@@ -1,15 +1,15 @@
-use Rattle.read_free.proofs.Going.{Going, going-start, going-room, going-more}
-use Prim.Native.Nat.{_-_}
-use mathlib.Core.Path.{refl, _∙_}
 use native.Mathlib.Omega.{arith}
+use mathlib.Core.Path.{refl, _∙_}
+use Prim.Native.Nat.{_-_}
+use Rattle.read_free.proofs.Going.{Going, going-start, going-room, going-more}
 use Rattle.read_free.proofs.free_chained.Statement.{statement}
 use Rattle.read_free.proofs.free_chained.Tie as tie
 
 abbrev Inv-loop : tie.InvT-loop
-Inv-loop attributes source first end work₀ m j₀ work j = Going attributes source first end m work₀ work j
+Inv-loop attributes source first end longest work₀ m j₀ work j = Going attributes source first end m work₀ work j
 
 abbrev μ-loop : tie.MeasureT-loop
-μ-loop attributes source first end work₀ m j₀ work j = end - j
+μ-loop attributes source first end longest work₀ m j₀ work j = end - j
 
 sub-m : tie.Need-sub-m Inv-loop μ-loop
 sub-m c = omega arith
@@ -21,16 +21,13 @@ loop-holds : tie.Need-loop-holds Inv-loop μ-loop
 loop-holds c = going-start _ _ _ _ _ _ (c .before .before .before .pre .0) (c .before .before .before .pre .1 .1 .1 .0) refl (c .before .before .before .pre .1 .1 .1 .1)
 
 enter-requires : tie.Need-enter-requires Inv-loop μ-loop
-enter-requires c κs =
-    let pre = c .before .before .before .before .before .before .pre in (
-      c .before .before .loop .inv .begun,
-      (omega (arith, pre .1 .0), (omega (arith, pre .1 .1 .0), (going-room (c .before .before .loop .inv) (c .before .loop-test .taken), c .before .before .loop .inv .chains))),
-    )
+enter-requires c κs = let pre = c .before .before .before .before .before .before .pre in let inv = c .before .before .loop .inv in
+    (inv .begun, (omega (arith, pre .1 .0, c .before .loop-test .taken), (omega (arith, pre .1 .1 .0, c .before .loop-test .taken), (going-room inv (c .before .loop-test .taken), inv .chains))))
 
 same-length : tie.Need-same-length Inv-loop μ-loop
 same-length c =
     let loop = c .before .before .before .before .before .before .loop in
-    c .before .before .before .enter .kept .1 .1 .1 .1 .1 .0 ∙ loop .inv .kept
+    c .before .before .before .enter .kept .1 .1 .1 .1 .1 .1 .0 ∙ loop .inv .kept
 
 returns : tie.Need-returns Inv-loop μ-loop
 returns c =
@@ -40,9 +37,9 @@ returns c =
 add-j : tie.Need-add-j Inv-loop μ-loop
 add-j c =
     let good = c .before .before .before .before .before .before .before .before .before .before .good in
-    let pre = c .before .before .before .before .before .before .before .before .before .before .pre in
+    let pre-step = c .before .before .before .before .before .before .before .before .before .before .pre in
     let loop-test = c .before .before .before .before .before .loop-test in
-    omega (arith, pre .1 .0, good, loop-test .taken)
+    omega (arith, pre-step .1 .0, good, loop-test .taken)
 
 loop-less : tie.Need-loop-less Inv-loop μ-loop
 loop-less c =
@@ -53,7 +50,7 @@ loop-again : tie.Need-loop-again Inv-loop μ-loop
 loop-again c =
     let loop = c .before .before .before .before .before .before .loop in
     let loop-test = c .before .before .before .before .before .loop-test in
-    going-more (loop .inv) (loop-test .taken) (c .before .before .before .enter .kept .1 .1 .1 .1 .1 .0) (c .before .before .before .enter .ensures) (c .if1 .left)
+    going-more (loop .inv) (loop-test .taken) (c .before .before .before .enter .kept .1 .1 .1 .1 .1 .1 .0) (c .before .before .before .enter .ensures) (c .if1 .left)
 
 same-length-2 : tie.Need-same-length-2 Inv-loop μ-loop
 same-length-2 c = c .before .loop .inv .kept

@@ -1,65 +1,82 @@
-use Rattle.read_free.proofs.Rooms.{roomy, front-zero, whole-zero}
-use Rattle.read_free.proofs.MoreKeys.{unrepeated-none}
+use Rattle.read_free.proofs.Rooms.{room-to-sort, whole-zero}
 use lib.Seq.{length-take-le}
 use lib.ListN.{length}
-use Prim.Native.Nat.{_-_}
+use lib.Dec.{eqb, ltb}
 use mathlib.Core.Path.{sym}
 use native.Mathlib.Omega.{arith}
+use Prim.Native.Nat.{_-_, _*_}
 use borrow.Author.Needs.{needs}
 use Rattle.read_free.proofs.free_to.Statement.{statement}
 use Rattle.read_free.proofs.free_to.Tie as tie
 
-sub-room-of : tie.Need-sub-room-of
-sub-room-of c = search needs
+sub-n : tie.Need-sub-n
+sub-n c = search needs
 
-room-of-requires : tie.Need-room-of-requires
-room-of-requires c κs = search needs
+mul-e : tie.Need-mul-e
+mul-e c =
+    let pre = c .before .before .before .before .pre in
+    omega (arith, pre .1 .1 .0)
 
-returns : tie.Need-returns
-returns c =
-    let start = c .before .before .before .before .before in
-    (unrepeated-none (start .args .attributes .now) (start .args .source .now) (start .args .first), start .pre .1 .1)
+longest-of-requires : tie.Need-longest-of-requires
+longest-of-requires c κs = search needs
 
-slice-relend-prefix-free-by-chains : tie.Need-slice-relend-prefix-free-by-chains
-slice-relend-prefix-free-by-chains c =
-    let args = c .before .before .before .before .before .args in
-    roomy (args .end - args .first) (length (args .work .now)) (c .before .room-of .ensures) (c .if1 .left) .within
-
-slice-aggregate-free-by-chains : tie.Need-slice-aggregate-free-by-chains
-slice-aggregate-free-by-chains c =
-    let args = c .before .before .before .before .before .before .args in
-    sym (length-take-le (c .before .before .room-of .result) (args .work .now)
-    (roomy (args .end - args .first) (length (args .work .now)) (c .before .before .room-of .ensures) (c .before .if1 .left) .within))
-
-free-by-chains-requires : tie.Need-free-by-chains-requires
-free-by-chains-requires c κs =
-    let args = c .before .before .before .before .before .before .args in
-    let pre = c .before .before .before .before .before .before .pre in
-    let y = roomy (args .end - args .first) (length (args .work .now)) (c .before .before .room-of .ensures) (c .before .if1 .left) in
-    let w = args .work .now in
-    let l = length-take-le (c .before .before .room-of .result) w (y .within) in
-    (pre .0, (pre .1 .0, (y .most, (omega arith, front-zero w (y .within) (pre .1 .1)))))
+free-in-words-requires : tie.Need-free-in-words-requires
+free-in-words-requires c κs = search needs
 
 same-length : tie.Need-same-length
 same-length c = search needs
 
+returns : tie.Need-returns
+returns c =
+    let pre = c .before .before .before .before .before .before .before .before .before .before .pre in
+    (c .before .before .before .free-in-words .ensures .0, (c .before .before .before .free-in-words .ensures .1, pre .1 .1 .1 .1))
+
+slice-relend-prefix-free-by-sort : tie.Need-slice-relend-prefix-free-by-sort
+slice-relend-prefix-free-by-sort c = let s = c .before .before .before .before .before .before .before .before .before .before .args in
+    room-to-sort (eqb (c .before .before .before .free-in-words .result) (s .end)) (ltb 8 (s .end - s .first)) ((s .end - s .first) * 4) (length (s .spare .now)) (c .if1 .left)
+
+slice-aggregate-free-by-sort : tie.Need-slice-aggregate-free-by-sort
+slice-aggregate-free-by-sort c =
+    let free-in-words = c .before .before .before .before .free-in-words in
+    let s = c .before .before .before .before .before .before .before .before .before .before .before .args in sym (length-take-le ((s .end - s .first) * 4) (s .spare .now)
+    (room-to-sort (eqb (free-in-words .result) (s .end)) (ltb 8 (s .end - s .first)) ((s .end - s .first) * 4) (length (s .spare .now)) (c .before .if1 .left)))
+
+free-by-sort-requires : tie.Need-free-by-sort-requires
+free-by-sort-requires c κs =
+    let pre = c .before .before .before .before .before .before .before .before .before .before .before .pre in
+    let free-in-words = c .before .before .before .before .free-in-words in
+    let s = c .before .before .before .before .before .before .before .before .before .before .before .args in let l = length-take-le ((s .end - s .first) * 4) (s .spare .now)
+    (room-to-sort (eqb (free-in-words .result) (s .end)) (ltb 8 (s .end - s .first)) ((s .end - s .first) * 4) (length (s .spare .now)) (c .before .if1 .left)) in
+    (pre .0, (pre .1 .1 .0, omega (arith, l)))
+
+same-length-2 : tie.Need-same-length-2
+same-length-2 c = search needs
+
+same-length-3 : tie.Need-same-length-3
+same-length-3 c = search needs
+
 returns-2 : tie.Need-returns-2
 returns-2 c =
-    let start = c .before .before .before .before .before .before .before .before .before in
-    let room-of = c .before .before .before .before .before .room-of in
+    let start = c .before .before .before .before .before .before .before .before .before .before .before .before .before .before in
+    let free-in-words = c .before .before .before .before .before .before .before .free-in-words in
     let if1 = c .before .before .before .before .if1 in
-    let y = roomy (start .args .end - start .args .first) (length (start .args .work .now)) (room-of .ensures) (if1 .left) in
-    (c .before .before .free-by-chains .ensures .0, whole-zero (start .args .work .now) (y .within) (start .pre .1 .1) (c .before .before .free-by-chains .ensures .1))
+    let s = start .args in
+    let r = room-to-sort (eqb (free-in-words .result) (s .end)) (ltb 8 (s .end - s .first)) ((s .end - s .first) * 4) (length (s .spare .now)) (if1 .left) in
+    (c .before .before .free-by-sort .ensures .0 .free, (free-in-words .ensures .1, whole-zero (s .spare .now) r (start .pre .1 .1 .1 .1) (c .before .before .free-by-sort .ensures .1)))
 
 pub free-to-spec : {M : Type 1} → statement M
 free-to-spec =
     tie.close
     (tie.spec
-    sub-room-of
-    room-of-requires
-    returns
-    slice-relend-prefix-free-by-chains
-    slice-aggregate-free-by-chains
-    free-by-chains-requires
+    sub-n
+    mul-e
+    longest-of-requires
+    free-in-words-requires
     same-length
+    returns
+    slice-relend-prefix-free-by-sort
+    slice-aggregate-free-by-sort
+    free-by-sort-requires
+    same-length-2
+    same-length-3
     returns-2)

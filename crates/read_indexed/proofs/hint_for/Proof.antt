@@ -61,9 +61,10 @@ add-result-2 c = search needs
 
 returns : tie.Need-returns
 returns c =
+    let key-at = c .before .before .before .before .before .before .key-at in
     let args = c .before .before .before .before .before .before .before .before .before .before .before .args in
     λ _. sym (c .place-in .ensures
-    ∙ ap (λ (l : List ℕ). placeAt (take (args .k) (args .own .now)) (args .text .now) (valueText l) (args .extras) 0) (c .before .before .before .before .before .before .key-at .ensures))
+    ∙ ap (λ (l : List ℕ). placeAt (take (args .k) (args .own .now)) (args .text .now) (valueText l) (args .extras) 0) (key-at .ensures))
 
 returns-2 : tie.Need-returns-2
 returns-2 c = λ h. absurd (omega (arith, h))

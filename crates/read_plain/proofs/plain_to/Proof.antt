@@ -18,13 +18,17 @@ loop-holds : tie.Need-loop-holds Inv-loop μ-loop
 loop-holds c = (plain-none (c .before .before .args .attributes .now) (c .before .before .args .source .now) (c .before .before .args .first), c .before .before .pre .0)
 
 key-at-requires : tie.Need-key-at-requires Inv-loop μ-loop
-key-at-requires c κs = omega (arith, c .before .before .before .before .pre .1, c .loop-test .taken)
+key-at-requires c κs =
+    let pre = c .before .before .before .before .pre in
+    omega (arith, pre .1, c .loop-test .taken)
 
 is-own-requires : tie.Need-is-own-requires Inv-loop μ-loop
 is-own-requires c κs = search needs
 
 returns : tie.Need-returns Inv-loop μ-loop
-returns c = c .before .before .before .before .loop .inv .0
+returns c =
+    let loop = c .before .before .before .before .loop in
+    loop .inv .0
 
 add-j : tie.Need-add-j Inv-loop μ-loop
 add-j c = omega (arith, c .before .before .before .loop-test .taken)
@@ -34,8 +38,9 @@ loop-less c = omega (arith, c .before .before .before .loop-test .taken)
 
 loop-again : tie.Need-loop-again Inv-loop μ-loop
 loop-again c =
+    let loop = c .before .before .before .before .loop in
     let args = c .before .before .before .before .before .before .before .args in (
-      plain-more (args .attributes .now) (args .source .now) (args .first) (c .before .before .before .before .loop .inv .0)
+      plain-more (args .attributes .now) (args .source .now) (args .first) (loop .inv .0)
           (sym (c .before .is-own .ensures ∙ ap unaltered (c .before .before .key-at .ensures)) ∙ not-false _ (c .if1 .left)),
       omega (arith, c .before .before .before .loop-test .taken),
     )

@@ -1,0 +1,5 @@
+pub mod Merging
+pub mod Counting
+pub mod Numbers
+mod Running
+mod Sorting
