@@ -119,6 +119,7 @@ fn main() {
         time(&format!("{n} extras, every second one is there already"), &extras(n, |i| format!("{}{:06}", if i % 2 == 0 { "a" } else { "&#97;" }, i / 2)), each, &mut a);
         time(&format!("{n} ignored attributes"), &ignored(n), each, &mut a);
     }
+    time("62,000 extras, keys of one length", &extras(62_000, |i| format!("k{i:06}")), 62_000.0, &mut a);
     time("65,536 ignored attributes", &ignored(65_536), 65_536.0, &mut a);
     time("30,000 cases of two attributes each", &cases(30_000), 60_000.0, &mut a);
     for n in [1_024, 8_192, 65_536] {
