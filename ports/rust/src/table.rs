@@ -70,12 +70,13 @@ impl<'a> Table<'a> {
         sums
     }
 
-    /// What reading and listing this table can need at most; more than that makes no difference. Bytes outside the source are refused
-    /// before anything is stored.
+    /// What reading and listing this table can need at most, and room to sort and chain the attributes of one element, so that many
+    /// are never slow; more than that makes no difference. Bytes outside the source are refused before anything is stored.
     pub(crate) fn needs(&self) -> Needs {
         let sums = self.attribute_sums();
         let most = sums.len() as u64 - 1;
         let mut needs = Needs::default();
+        let mut many = 0;
         for [kind, _, len, first, count] in Self::entries(self.events) {
             match kind as u32 {
                 kind::START | kind::EMPTY => {
@@ -86,6 +87,7 @@ impl<'a> Table<'a> {
                     needs.records = needs.records.saturating_add(1 + (to - from) as u64);
                     needs.text = needs.text.saturating_add(both);
                     needs.listing = needs.listing.saturating_add(LINE + 2 * values);
+                    many = many.max((to - from) as u64);
                 }
                 // a decoded piece is no longer than its bytes; an Indent is one newline
                 kind::TEXT | kind::CDATA | kind::REFERENCE => {
@@ -96,9 +98,17 @@ impl<'a> Table<'a> {
             }
         }
         needs.text = needs.text.saturating_add(needs.scratch);
+        // two words and four bytes for each attribute, where the library doesn't compare all pairs
+        if many > FEW {
+            needs.records = needs.records.saturating_add(many.div_ceil(16));
+            needs.text = needs.text.saturating_add(4 * many);
+        }
         needs
     }
 }
+
+/// The attributes of one element whose keys are compared pair by pair, at most.
+const FEW: u64 = 8;
 
 /// Bytes of a listing's line without its texts, at most: brackets, a tag, five numbers of twenty digits, quotes.
 pub(crate) const LINE: u64 = 160;
