@@ -63,7 +63,7 @@ def document(element, keys, before=b"", value=b""):
 def ordinary(size=None):
     """A report of 11,000 cases, or of so many bytes with longer texts."""
     out, put, i = [b'<testsuites name="run" tests="11000">\n'], 0, 0
-    text = b"" if size is None else b"[INFO] connected to database; took 12 ms\n" * 8
+    text = b"" if size is None else b"[INFO] connected to database; took 12 ms\n" * 40
     while (i < 11000 if size is None else put < size):
         part = b'  <testsuite name="suite%d" tests="100" failures="10">\n' % (i // 100)
         for _ in range(100):
@@ -145,7 +145,7 @@ ROWS = [
     ("most.bin", "62,000 extras, a table", lambda: suite([b"k%06d" % i for i in range(62000)])),
     ("spelled.bin", "62,000 extras, keys spelled with `&#97;`", lambda: suite([b"&#97;%06d" % i for i in range(62000)])),
     ("hash.bin", "60,000 extras whose keys share a hash, a table", lambda: suite(colliding(60000, b""))),
-    ("spelled-hash.bin", "4,000 extras whose cleaned keys share a hash, `&#97;` before each", lambda: suite([b"&#97;" + k for k in colliding(4000, b"a")])),
+    ("spelled-hash.bin", "4,000 extras whose cleaned keys share a hash, `&#97;` before each", lambda: suite([b"&#97;" + k[1:] for k in colliding(4000, b"a")])),
     ("twice.bin", "60,000 extras, the second is the first, spelled otherwise", lambda: suite([b"a", b"&#97;"] + [b"k%06d" % i for i in range(59998)])),
     ("ampersands.bin", "a key of 131,072 ampersands behind 60,000 extras, a table", lambda: suite([b"k%06d" % i for i in range(60000)] + [b"&" * 131072])),
     ("ampersand.bin", "a key of 131,072 ampersands behind nine extras, a table", lambda: suite([b"k%06d" % i for i in range(9)] + [b"&" * 131072])),

@@ -9,7 +9,7 @@ use borrow.Author.Tests.{eq-eqb, ne-eqb, leb-true, leb-false}
 use lib.Dec.{eqb, leb}
 use lib.ListN.{length, drop, getD, length-drop}
 use Rattle.area.proofs.Lists.{drop-next}
-use Rattle.key_order.specs.KeyOrder.{commonLength}
+use Rattle.key_order.specs.inside.KeyOrder.{commonLength}
 
 -- the first i bytes are equal
 pub record Commoning (a b : List ℕ) (n i : ℕ) : Type 0 where

@@ -8,7 +8,7 @@ use native.Mathlib.Omega.{arith}
 use borrow.Author.Tests.{eqb-true, eqb-false, leb-true, leb-false, ltb-true, ltb-false}
 use lib.Dec.{eqb, leb, ltb}
 use lib.ListN.{length, getD}
-use Rattle.key_order.specs.KeyOrder.{Lower, Comes, shorter, lower, tied, commonLength, comes}
+use Rattle.key_order.specs.inside.KeyOrder.{Lower, Comes, shorter, lower, tied, commonLength, comes}
 
 lower-trans : (a b c : List ℕ) → Lower a b → Lower b c → Lower a c
 unfolding Lower

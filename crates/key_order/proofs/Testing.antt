@@ -7,7 +7,7 @@ use native.Mathlib.Omega.{arith}
 use borrow.Author.Tests.{eq-eqb, ne-eqb}
 use lib.Dec.{eqb, leb, ltb}
 use lib.ListN.{length, getD}
-use Rattle.key_order.specs.KeyOrder.{commonLength, comes}
+use Rattle.key_order.specs.inside.KeyOrder.{commonLength, comes}
 use Rattle.key_order.proofs.Ordering.{common-most}
 
 module _ {k l a b : List ℕ} (p : a ≡ k) (q : b ≡ l) (i j : ℕ) where

@@ -7,7 +7,7 @@ ghost use mathlib.Core.Path.{_≡_};
 ghost use Prim.Native.Nat.{_≤_, _<_, _+_};
 ghost use lib.ListN.{length, take};
 ghost use Rattle.table.specs.Event.{keyAt};
-ghost use Rattle.key_order.specs.KeyOrder.{commonLength, comesIn};
+ghost use Rattle.key_order.specs.inside.KeyOrder.{commonLength, comesIn};
 
 // How many bytes the two begin with in common.
 pub fn common(a: &[u8], b: &[u8]) -> usize

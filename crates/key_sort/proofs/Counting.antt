@@ -7,7 +7,7 @@ use native.Mathlib.Omega.{arith}
 use borrow.Author.Tests.{eqb-true, eqb-false}
 use lib.Dec.{eqb}
 use lib.ListN.{length, getD}
-use Rattle.key_sort.specs.Arranged.{Before, Ordered, count, numbers}
+use Rattle.key_sort.specs.inside.Arranged.{Before, Ordered, count, numbers}
 
 -- two ranges, one behind the other
 pub count-numbers : (x first h rest : ℕ) → count x (numbers first (h + rest)) ≡ count x (numbers first h) + count x (numbers (first + h) rest)

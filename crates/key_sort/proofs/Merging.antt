@@ -6,7 +6,7 @@ use mathlib.Core.Bool.{Bool, true, false, cond}
 use native.Mathlib.Omega.{arith}
 use lib.Dec.{eqb}
 use lib.ListN.{length, getD, drop}
-use Rattle.key_sort.specs.Arranged.{Before, Ordered, count}
+use Rattle.key_sort.specs.inside.Arranged.{Before, Ordered, count}
 use Rattle.key_sort.specs.inside.Merged.{takesFirst, merged}
 
 pub length-merged : (test : ℕ → ℕ → Bool) (n : ℕ) (xs ys : List ℕ) → length (merged test n xs ys) ≡ n

@@ -8,9 +8,9 @@ use borrow.Rule.Slice.PartMut.{putMid}
 use Rattle.area.proofs.Parts.{rest-part, rest-back}
 use lib.Seq.{length-take-le, take-at, drop-at, take-append-add}
 use Rattle.table.specs.Event.{keyAt}
-use Rattle.key_order.specs.KeyOrder.{ComesIn, comesIn}
+use Rattle.key_order.specs.inside.KeyOrder.{ComesIn, comesIn}
 use Rattle.key_order.proofs.Ordering.{comes-true, comes-false, comes-trans}
-use Rattle.key_sort.specs.Arranged.{Before, Ordered, count, numbers, Arranged}
+use Rattle.key_sort.specs.inside.Arranged.{Before, Ordered, count, numbers, Arranged}
 use Rattle.key_sort.specs.inside.Merged.{merged, mergedTo}
 use Rattle.key_sort.specs.inside.Numbers.{numbersIn}
 use Rattle.key_sort.proofs.Numbers.{length-numbers, numbers-front}

@@ -1,2 +1,3 @@
+pub mod Arranged
 pub mod Merged
 pub mod Numbers

@@ -8,8 +8,8 @@ use key_order::comes;
 ghost use mathlib.Core.Path.{_≡_};
 ghost use Prim.Native.Nat.{_+_, _≤_};
 ghost use lib.ListN.{length, take, drop};
-ghost use Rattle.key_order.specs.KeyOrder.{ComesIn, comesIn};
-ghost use Rattle.key_sort.specs.Arranged.{Arranged};
+ghost use Rattle.key_order.specs.inside.KeyOrder.{ComesIn, comesIn};
+ghost use Rattle.key_sort.specs.inside.Arranged.{Arranged};
 ghost use Rattle.key_sort.specs.inside.Numbers.{numbersIn};
 ghost use Rattle.key_sort.specs.inside.Merged.{takesFirst, mergedTo};
 

@@ -11,9 +11,9 @@ use lib.ListN.{length, getD}
 use Rattle.names.specs.Names.{sameBytes}
 use Rattle.names.proofs.NameLaws.{same-refl, same-true}
 use Rattle.table.specs.Event.{keyAt}
-use Rattle.key_order.specs.KeyOrder.{Comes, ComesIn}
+use Rattle.key_order.specs.inside.KeyOrder.{Comes, ComesIn}
 use Rattle.key_order.proofs.Ordering.{comes-same, comes-tied}
-use Rattle.key_sort.specs.Arranged.{count, numbers, Arranged}
+use Rattle.key_sort.specs.inside.Arranged.{count, numbers, Arranged}
 use Rattle.key_sort.proofs.Counting.{count-in, Placed, placed, ordered-at}
 use Rattle.read_sorted.specs.inside.Repeats.{Unrepeated, Repeated, FirstRepeat, alike, Hit, FirstIn}
 

@@ -3,7 +3,7 @@ use Prim.Native.Nat.{_+_, _-_, _/_, _≤_}
 use mathlib.Core.Path.{_∙_}
 use native.Mathlib.Omega.{arith}
 use lib.ListN.{length}
-use Rattle.key_order.specs.KeyOrder.{ComesIn}
+use Rattle.key_order.specs.inside.KeyOrder.{ComesIn}
 use Rattle.key_sort.specs.inside.Numbers.{numbersIn}
 use Rattle.key_sort.proofs.Numbers.{length-numbers}
 use Rattle.key_sort.proofs.Sorting.{arranged-none, arranged-one, arranged-whole, whole-size, whole-numbers, part-size}

@@ -1,7 +1,7 @@
 use Rattle.key_sort.proofs.Running.{Running, running-start, running-first, running-second, running-put, running-done, some-first, some-second}
 use Rattle.key_sort.proofs.Numbers.{length-numbers}
 use Rattle.key_sort.specs.inside.Numbers.{numbersIn}
-use Rattle.key_order.specs.KeyOrder.{comesIn}
+use Rattle.key_order.specs.inside.KeyOrder.{comesIn}
 use Prim.Native.Nat.{_+_, _-_, _<_}
 use lib.ListN.{length}
 use mathlib.Core.Path.{_≡_, refl, _∙_}

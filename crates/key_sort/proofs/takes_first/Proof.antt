@@ -1,6 +1,6 @@
 use Rattle.key_sort.proofs.Running.{first-none, second-none, both-some}
 use Rattle.key_sort.specs.inside.Numbers.{numbersIn}
-use Rattle.key_order.specs.KeyOrder.{comesIn}
+use Rattle.key_order.specs.inside.KeyOrder.{comesIn}
 use mathlib.Core.Path.{ap, _∙_}
 use lib.ListN.{getD}
 use Prim.Native.Nat.{ℕ}
