@@ -138,12 +138,12 @@ fn first_and_last_start() {
     let mut ties = 0;
     for _ in 0..3000 {
         let (mut rows, mut moments, mut open) = (vec![record(1, 0), record(2, 0)], vec![], false);
+        let year = [0, 1900, 1999, 2000, 9999][random.below(5)];
         for _ in 0..random.below(12) {
             let (kind, offset) = ([3, 3, 3, 19, 2, 9][random.below(6)], random.below(2879) as u32);
             let minutes = 1440 + offset + random.below(3) as u32;
             let day = 1 + minutes / 1440;
             let nanos = [0, 1, 999_999_999][random.below(3)];
-            let year = [0, 1900, 1999, 2000, 9999][random.below(5)];
             let mut r = record(kind, 1);
             if kind == 9 && !open {
                 rows.push(record(3, 1));
