@@ -38,7 +38,7 @@ fn tell_refusal(refusal: Refusal) {
 pub fn tell_words(words: &[u32]) {
     let mut i = 0;
     while i < words.len() {
-        tell_number(words[i] as u64);
+        tell_place(words[i]);
         if i % 5 == 4 {
             say(b"\n");
         }
