@@ -287,15 +287,15 @@ fn every_cause_has_its_line() {
 
     let refusal = Counts { tests: u64::MAX, ..Counts::default() }.add_case(Outcome::Success).unwrap_err();
     line(&mut made, &mut seen, Cause::CountLimit, &refusal, &none);
-    let refusal = release_sheet(&[Counts::default(); limits::REPORTS + 1]).unwrap_err();
-    line(&mut made, &mut seen, Cause::TooManyReports, &refusal, &none);
-    assert!(release_sheet(&[Counts::default(); limits::REPORTS]).is_ok());
 
     // 23 comes before 24
     let refusal = rehearse(&Order { cases: 4097, failures: 4098, ..Order::default() }).unwrap_err();
     line(&mut made, &mut seen, Cause::TooManyCases, &refusal, &none);
     let refusal = rehearse(&Order { failures: 1, ..Order::default() }).unwrap_err();
     line(&mut made, &mut seen, Cause::NoSuchReport, &refusal, &none);
+    let refusal = release_sheet(&[Counts::default(); limits::REPORTS + 1]).unwrap_err();
+    line(&mut made, &mut seen, Cause::TooManyReports, &refusal, &none);
+    assert!(release_sheet(&[Counts::default(); limits::REPORTS]).is_ok());
 
     hold("causes.txt", &made);
     let sentences: std::collections::BTreeSet<String> = Cause::all().map(|c| c.to_string()).collect();

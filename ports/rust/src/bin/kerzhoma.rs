@@ -18,22 +18,19 @@ kerzhoma: JUnit test reports, read by a proved library
     kerzhoma check FILE            only tells whether the report is accepted
     kerzhoma explain FILE          writes why the report is refused, or accepted
     kerzhoma write FILE -o FILE    writes the report again, as a table
-    kerzhoma span FILE             writes the first and last start of its cases,
-                                   and the seconds and nanoseconds between
+    kerzhoma span FILE             writes its first and last start, and the span
+    kerzhoma sheet FILE..          sums the counts that reports state
     kerzhoma rehearse CASES FAILURES ERRORS SKIPPED FLAKY -o FILE
                                    writes a report with just these numbers
-    kerzhoma sheet FILE..          sums the counts that reports state
 
 FILE is an XML document if its name ends in .xml or --xml is given, else a table
 of XML events: three little-endian words, the numbers of events, attributes and
-source bytes, then the three; bytes behind it are ignored. - is standard input
-or output. At most 65536 events, 65536 attributes and 16777216 source bytes are
-taken.
+source bytes (65536, 65536 and 16777216 at most), then the three; bytes behind
+it are ignored. - is standard input or output.
 
 A listing has no private text. The line of explain may have some: it tells the
-names of the suite and case. What the others say on standard error has no names.
-There sheet also tells of a report whose cases come to other counts than it
-states.
+names of the suite and case. What the others say on standard error has no names;
+there sheet also tells of a report whose cases come to other counts.
 
 Exit status: 0 the report is accepted, 1 it is refused, 2 bad usage, or input
 or output that fails.
