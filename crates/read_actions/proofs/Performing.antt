@@ -28,7 +28,7 @@ use Rattle.read_content.specs.inside.Holds.{killWords, Holds, Opened, Lists, Ca
 use Rattle.read_content.specs.declared.Content.{Content as CodedContent}
 use Rattle.read_content.specs.declared.Performed.{Performed}
 use Rattle.read_content.specs.declared.Performed.the-variants.{To, Not}
-use Rattle.read_content.proofs.Areas.{fits-words, fits-text, fits-scratch}
+use Rattle.read_content.proofs.Areas.{fits-words, fits-text, fits-description, fits-gathered}
 use Rattle.read_content.proofs.Refusing.{halts}
 use Rattle.read_opening.proofs.Opening.{comes-on, list-opened, opens-bounds, few-properties}
 
@@ -81,11 +81,11 @@ module _ (k : CodedMode) (l : Level) (o : Output) (m : Marks) {words text scratc
   pub text-end : c .fill ≤ length text
   text-end = fits-text (h .holds)
 
-  pub pieces-end : c .description + c .gathered ≤ length scratch
-  pieces-end = fits-scratch (h .holds)
+  pub gathered-end : c .child + c .gathered ≤ length scratch
+  gathered-end = fits-gathered (h .holds)
 
   pub description-end : c .description ≤ length scratch
-  description-end = let x = fits-scratch (h .holds) in omega arith
+  description-end = fits-description (h .holds)
 
   pub record-end : recordOf l m * 32 ≤ length words
   record-end = within-words (recordOf l m) (record-low l m c (h .said) (opened-in k l o m c (h .said) (h .lists)))

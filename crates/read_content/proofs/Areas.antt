@@ -1,9 +1,9 @@
 -- The areas are long enough for what they hold, and zero behind it. Assumes nothing.
 use Prim.Native.Nat.{ℕ, _+_, _-_, _*_, _≤_}
 use mathlib.Core.Path.{_≡_, sym, ap, _∙_}
-use mathlib.Core.List.{List, _++_}
+use mathlib.Core.List.{List}
 use native.Mathlib.Omega.{arith}
-use lib.ListN.{length, take, drop, length-append, length-replicate, length-drop}
+use lib.ListN.{length, take, drop, length-append, length-replicate, length-drop, take-append-drop}
 use lib.Seq.{take-at, drop-at}
 use Rattle.area.specs.Area.{zeros}
 use Rattle.area.proofs.Parts.{rest-part}
@@ -34,15 +34,6 @@ module _ {words text scratch attributes source : List ℕ} {c : CodedContent} {s
       let e = hd .fill in
       omega arith
 
-  -- scratch: description, gathered text, and what is behind both
-  pub scratch-size : length scratch ≡ c .description + (c .gathered + length (hd .behind))
-  scratch-size =
-      let a = ap length (hd .pieces) ∙ length-append (s .description) (s .gathered ++ hd .behind) in
-      let b = length-append (s .gathered) (hd .behind) in
-      let d = hd .description in
-      let e = hd .gathered in
-      omega arith
-
   -- the records in use lie in the words: the bound at `words[used * 32..]`
   pub fits-words : c .used * 32 ≤ length words
   fits-words = let e = words-size in omega arith
@@ -51,9 +42,24 @@ module _ {words text scratch attributes source : List ℕ} {c : CodedContent} {s
   pub fits-text : c .fill ≤ length text
   fits-text = let e = text-size in omega arith
 
-  -- description and gathered text lie in scratch: the bound at the part behind them
-  pub fits-scratch : c .description + c .gathered ≤ length scratch
-  fits-scratch = let e = scratch-size in omega arith
+  -- the open description, there or not, is no longer than scratch: the bound at the part behind it
+  pub fits-description : c .description ≤ length scratch
+  fits-description = hd .within
+
+  -- the text of a child begins in scratch ..
+  pub fits-from : c .child ≤ length scratch
+  fits-from = let a = hd .begins in let b = hd .within in omega arith
+
+  -- .. and ends there
+  pub fits-gathered : c .child + c .gathered ≤ length scratch
+  fits-gathered =
+      let f = fits-from in
+      let n = length-drop (c .child) scratch in
+      let a =
+      sym (ap length (take-append-drop (c .gathered) (drop (c .child) scratch))) ∙ length-append (take (c .gathered) (drop (c .child) scratch)) (drop (c .gathered) (drop (c .child) scratch)) in
+      let b = ap length (hd .behind) in
+      let d = hd .gathered in
+      omega arith
 
   pub own-zero : drop (c .used * 32) words ≡ zeros (length words - c .used * 32)
   own-zero =
@@ -83,13 +89,10 @@ module _ {words text scratch attributes source : List ℕ} {c : CodedContent} {s
   pub text-front : take (c .fill) text ≡ s .texts
   text-front = ap (take (c .fill)) (hd .stored) ∙ take-at (s .texts) (zeros (hd .left)) (c .fill) (sym (hd .fill))
 
-  -- the slice that the code takes for the description is the definition's
-  pub description-part : take (c .description) scratch ≡ s .description
-  description-part = ap (take (c .description)) (hd .pieces) ∙ take-at (s .description) (s .gathered ++ hd .behind) (c .description) (sym (hd .description))
+  -- the slice that the code takes for a description that no child's text was put over is the definition's
+  pub description-part : c .child ≡ c .description → take (c .description) scratch ≡ s .description
+  description-part = hd .described
 
   -- the slice that the code takes for the gathered text is the definition's
-  pub gathered-part : take (c .gathered) (drop (c .description) scratch) ≡ s .gathered
-  gathered-part =
-      ap (λ (l : List ℕ). take (c .gathered) (drop (c .description) l)) (hd .pieces)
-      ∙ ap (take (c .gathered)) (drop-at (s .description) (s .gathered ++ hd .behind) (c .description) (sym (hd .description)))
-      ∙ take-at (s .gathered) (hd .behind) (c .gathered) (sym (hd .gathered))
+  pub gathered-part : take (c .gathered) (drop (c .child) scratch) ≡ s .gathered
+  gathered-part = hd .behind

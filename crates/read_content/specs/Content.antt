@@ -25,7 +25,7 @@ use Rattle.read_state.specs.Control.{Act, pass, openReport, openSuite, openCase
 use Rattle.read_place.specs.Marks.{Marks}
 use Rattle.refusal.specs.declared.Cause.the-variants as cause
 
--- the records, the texts stored, the open description, and the text of a child, which stands behind it in scratch (rule M6)
+-- the records, the texts stored, the open description, and the text of a child (rule M6)
 pub record Content : Type 0 where
   pub records : List (List ℕ)
   pub texts : List ℕ
@@ -94,7 +94,7 @@ pieceOf Other s = gives []
 abbrev pub withTexts : Content → List ℕ → List ℕ → Content
 withTexts c d g = record { records = c .records; texts = c .texts; description = d; gathered = g }
 
--- to the open description (rule X11), or to the text of a child behind it (rule M6)
+-- to the open description (rule X11), or to the text of a child (rule M6)
 abbrev pub joinPiece : Mode → List ℕ → Content → Content
 joinPiece (at l) v c = withTexts c (c .description ++ v) (c .gathered)
 joinPiece (gathering l o) v c = withTexts c (c .description) (c .gathered ++ v)
@@ -102,11 +102,19 @@ joinPiece (listing l) v c = c
 joinPiece (skipping m name depth) v c = c
 joinPiece finished v c = c
 
--- a piece is decoded, and goes into scratch (rule M6); 14 and 21 have the path of the text (rules F9 and F12)
+-- the text that a piece goes to
+abbrev pub own : Mode → Content → List ℕ
+own (at l) c = c .description
+own (gathering l o) c = c .gathered
+own (listing l) c = []
+own (skipping m name depth) c = []
+own finished c = []
+
+-- a piece is decoded, and goes to its text, which is no longer than scratch (rule M6); 14 and 21 have the path of the text (rules F9 and F12)
 unfoldable pub gather : Rooms → Place → Mode → PieceKind → List ℕ → Content → Outcome Content
 gather rooms p mode k s c =
     there p (pieceOf k s) >>= λ v.
-    need (fits (rooms .scratch) (length (c .description) + length (c .gathered) + length v)) p cause.ScratchFull (accepted (joinPiece mode v c))
+    need (fits (rooms .scratch) (length (own mode c) + length v)) p cause.ScratchFull (accepted (joinPiece mode v c))
 
 -- ---- actions
 abbrev pub grown : Content → Grown → Content

@@ -19,14 +19,15 @@ pub struct List {
     pub count: usize,
 }
 
-// How many records and bytes of text are there, how many bytes of scratch the open description and the text of a child behind
-// it take; the record of the live report, the last properties list of the open suite and case, and a range of attributes
-// without a repeated key.
+// How many records and bytes of text are there, how many bytes the open description and the text of a child have, and where the
+// child's begins in scratch: behind the description, or at the front, over it (rule M6); the record of the live report, the last
+// properties list of the open suite and case, and a range of attributes without a repeated key.
 pub struct Content {
     pub used: usize,
     pub fill: usize,
     pub description: usize,
     pub gathered: usize,
+    pub child: usize,
     pub report_at: usize,
     pub suite_list: List,
     pub case_list: List,
@@ -47,6 +48,7 @@ pub fn no_content() -> Content
         fill: 0,
         description: 0,
         gathered: 0,
+        child: 0,
         report_at: 0,
         suite_list: none,
         case_list: none,

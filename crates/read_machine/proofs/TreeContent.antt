@@ -28,7 +28,7 @@ use Rattle.read_element.proofs.TreeRoles.{Wide, suite-wide, case-wide, Class, c
 use Rattle.read_element.proofs.TreeElement.{Stored, grows-by, stores, Few, no-extras, extras-of, element-read, length-changed}
 use Rattle.read_state.specs.Control.{Level, top, suite, case, status, Output, Mode, at, gathering, listing, skipping, finished}
 use Rattle.read_place.specs.Marks.{Marks}
-use Rattle.read_content.specs.Content.{Content, killAll, killKind, kept, pieceOf, withTexts, joinPiece, gather, adding, withRecords, cleaned, keeping, isEmpty, describing, outputting}
+use Rattle.read_content.specs.Content.{Content, killAll, killKind, kept, pieceOf, withTexts, joinPiece, own, gather, adding, withRecords, cleaned, keeping, isEmpty, describing, outputting}
 use Rattle.read_machine.proofs.TreeOrder.{kinds, kinds-append, Some, There}
 use Rattle.read_machine.proofs.TreeKept.{Kept, alive, kept-some, kept-more, all-killed, length-all, kind-killed-kept, length-kind}
 use Rattle.read_machine.proofs.TreeKept.{sortsOf, kept-changed, changed-same, Status, status-bounds, status-third, status-outputs}
@@ -243,4 +243,4 @@ pub gathers-piece : {rooms : Rooms} {c : Content} (p : Place) (m : Mode) (k : Pi
 unfolding gather
 gathers-piece {rooms} {c} p m k b f s =
     bind (answered p (pieceOf k b)) λ v e.
-    needed (fits (rooms .scratch) (length (c .description) + length (c .gathered) + length v)) p cause.ScratchFull λ z. accept (joins m v (piece-utf8 k b v f e) s)
+    needed (fits (rooms .scratch) (length (own m c) + length v)) p cause.ScratchFull λ z. accept (joins m v (piece-utf8 k b v f e) s)

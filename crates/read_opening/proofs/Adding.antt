@@ -134,7 +134,6 @@ module _ {words text scratch attributes source : List ℕ} {c : CodedContent} {s
   grown-holds {own} {text′} {extras} {e} {g} h q f k = record {
     room = h .room;
     left = h .left;
-    behind = hd .behind;
     records =
         rest-back words (c .used * 32) own
         ∙ ap (λ (x : List ℕ). x ++ own) (own-front hd)
@@ -145,7 +144,10 @@ module _ {words text scratch attributes source : List ℕ} {c : CodedContent} {s
     used = let a = hd .used in let b = h .count in let d = length-append (s .records) (g .main ∷ g .extras) in omega arith;
     stored = h .stored;
     fill = h .filled;
-    pieces = hd .pieces;
+    within = hd .within;
+    begins = hd .begins;
+    described = hd .described;
+    behind = hd .behind;
     description = hd .description;
     gathered = hd .gathered;
     free = f;

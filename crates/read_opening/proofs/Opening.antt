@@ -49,7 +49,6 @@ module _ {words text scratch attributes source : List ℕ} {c : CodedContent} {s
       record {
         room = hd .room;
         left = hd .left;
-        behind = hd .behind;
         records =
             e ∙ ap (λ (k : ℕ). killWords k (c .«report_at») words) n
             ∙ ap (killWords (length (s .records) - c .«report_at») (c .«report_at»)) (hd .records)
@@ -59,7 +58,10 @@ module _ {words text scratch attributes source : List ℕ} {c : CodedContent} {s
         used = u ∙ sym (all-size (s .records));
         stored = hd .stored;
         fill = hd .fill;
-        pieces = hd .pieces;
+        within = hd .within;
+        begins = hd .begins;
+        described = hd .described;
+        behind = hd .behind;
         description = hd .description;
         gathered = hd .gathered;
         free = hd .free;
@@ -80,7 +82,6 @@ module _ {words text scratch attributes source : List ℕ} {c : CodedContent} {s
       rw q (record {
         room = hd .room;
         left = hd .left;
-        behind = hd .behind;
         records =
             e ∙ ap (killWords (list .count) (list .first)) (hd .records)
             ∙ kill-words (list .count) (list .first) (s .records) (zeros (hd .room)) (hd .whole) (omega arith)
@@ -89,7 +90,10 @@ module _ {words text scratch attributes source : List ℕ} {c : CodedContent} {s
         used = hd .used ∙ sym (kind-size κ from (s .records));
         stored = hd .stored;
         fill = hd .fill;
-        pieces = hd .pieces;
+        within = hd .within;
+        begins = hd .begins;
+        described = hd .described;
+        behind = hd .behind;
         description = hd .description;
         gathered = hd .gathered;
         free = hd .free;
@@ -129,13 +133,15 @@ holds-lists c′ q hd =
     rw q (record {
       room = hd .room;
       left = hd .left;
-      behind = hd .behind;
       records = hd .records;
       whole = hd .whole;
       used = hd .used;
       stored = hd .stored;
       fill = hd .fill;
-      pieces = hd .pieces;
+      within = hd .within;
+      begins = hd .begins;
+      described = hd .described;
+      behind = hd .behind;
       description = hd .description;
       gathered = hd .gathered;
       free = hd .free;

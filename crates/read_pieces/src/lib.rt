@@ -1,7 +1,11 @@
 // Pieces of text gathered.
+use fronting::move_front;
 use read_content::Content;
 use read_content::Performed;
 use read_content::refused;
+use read_scratch::fronted;
+use read_scratch::may_move;
+use read_scratch::piece_from;
 use read_state::Control;
 use read_state::Level;
 use read_state::Mode;
@@ -18,8 +22,9 @@ ghost use lib.ListN.{length};
 ghost use Rattle.text.specs.Kept.{keptAnswer};
 ghost use Rattle.read_state.specs.inside.Coded.{levelOf, modeOf};
 ghost use Rattle.table.specs.Event.{pieceKind, pieceBytes};
-ghost use Rattle.read_pieces.specs.inside.Promises.{Gathers};
-ghost use Rattle.read_pieces.specs.inside.Pieces.{pieceAnswer, pieceLaid, joinedBy, gathersAt};
+ghost use Rattle.read_scratch.specs.inside.Places.{pieceFrom};
+ghost use Rattle.read_pieces.specs.inside.Promises.{GathersOver, Gathers};
+ghost use Rattle.read_pieces.specs.inside.Pieces.{pieceAnswer, pieceLaid, describedBy, lengthenedBy, joinedBy, isFull, keptLength, toldBy, gathersAt};
 ghost use Rattle.refusal.specs.declared.Cause.the-variants as cause;
 ghost use Rattle.read_state.specs.Control.{gathers};
 
@@ -47,8 +52,8 @@ pub fn is_gathering(control: Control) -> bool
     }
 }
 
-// A piece of text by its event's kind (rule X9), into scratch behind what it holds.
-fn gather_piece(kind: u32, bytes: &[u8], out: &mut [u8]) -> Kept
+// A piece of text by its event's kind (rule X9), into a part of scratch.
+pub fn gather_piece(kind: u32, bytes: &[u8], out: &mut [u8]) -> Kept
     ensures { λ r. ⌜ keptAnswer cause.ScratchFull r ≡ pieceAnswer (pieceKind kind) (length (now (out .entry))) (pieceBytes kind (now (bytes .entry))) ⌝ }
     ensures { λ r. ⌜ now (out .exit) ≡ pieceLaid (pieceKind kind) (now (out .entry)) (pieceBytes kind (now (bytes .entry))) ⌝ }
 {
@@ -61,33 +66,60 @@ fn gather_piece(kind: u32, bytes: &[u8], out: &mut [u8]) -> Kept
     }
 }
 
-// The content with n bytes more, of the open description or of the text of a child.
-fn joined(mode: Mode, content: Content, n: usize) -> Content
-    requires { ⌜ content .description + content .gathered + n ≤ 9223372036854775807 ⌝ }
-    ensures { λ r. ⌜ r ≡ joinedBy mode n content ⌝ }
+// The description with n bytes more: in scratch, too, unless a child's text was put over it.
+fn described(content: Content, n: usize) -> Content
+    requires { ⌜ content .description + n ≤ 9223372036854775807 ⌝ }
+    ensures { λ r. ⌜ r ≡ describedBy n content ⌝ }
 {
     let mut c = content;
-    match mode {
-        Mode::At => c.description = c.description + n,
-        Mode::Text => c.gathered = c.gathered + n,
-        Mode::List => {}
+    let end = c.description + n;
+    if c.child == c.description {
+        c.child = end;
+        c.description = end;
+        return c;
     }
+    c.description = end;
     c
 }
 
-// A piece goes behind the open description and the text of a child (rule M6); 21 is told here, at the Ref (rule F12).
-pub fn gather(
-    mode: Mode,
-    kind: u32,
-    bytes: &[u8],
-    content: Content,
-    scratch: &mut [u8],
-) -> Performed
-    requires { ⌜ content .description + content .gathered ≤ length (now scratch) ⌝ }
-    ensures { λ r. ⌜ Gathers mode kind (now (bytes .entry)) content (now (scratch .entry)) (now (scratch .exit)) r ⌝ }
+// The text of a child with n bytes more.
+fn lengthened(content: Content, n: usize) -> Content
+    requires { ⌜ content .gathered + n ≤ 9223372036854775807 ⌝ }
+    ensures { λ r. ⌜ r ≡ lengthenedBy n content ⌝ }
 {
-    let from = content.description + content.gathered;
-    let piece = gather_piece(kind, bytes, &mut scratch[from..]);
+    let mut c = content;
+    c.gathered = c.gathered + n;
+    c
+}
+
+fn joined(mode: Mode, content: Content, n: usize) -> Content
+    requires { ⌜ pieceFrom mode content + n ≤ 9223372036854775807 ⌝ }
+    ensures { λ r. ⌜ r ≡ joinedBy mode n content ⌝ }
+{
+    match mode {
+        Mode::At => described(content, n),
+        Mode::Text => lengthened(content, n),
+        Mode::List => content,
+    }
+}
+
+fn is_full(piece: Kept) -> bool
+    ensures { λ r. ⌜ r ≡ isFull piece ⌝ }
+{
+    match piece {
+        Kept::Full => true,
+        Kept::Put(_) => false,
+        Kept::NotUtf8 => false,
+        Kept::BadReference => false,
+        Kept::UnknownName => false,
+    }
+}
+
+// What a piece comes to; 21 is told here, at the Ref (rule F12).
+fn told(mode: Mode, content: Content, piece: Kept) -> Performed
+    requires { ⌜ pieceFrom mode content + keptLength piece ≤ 9223372036854775807 ⌝ }
+    ensures { λ r. ⌜ r ≡ toldBy mode content piece ⌝ }
+{
     match piece {
         Kept::Put(n) => Performed::To(joined(mode, content, n)),
         Kept::Full => refused(Cause::ScratchFull),
@@ -95,4 +127,35 @@ pub fn gather(
         Kept::BadReference => refused(Cause::BadReference),
         Kept::UnknownName => refused(Cause::UnknownEntity),
     }
+}
+
+// A piece of a child's text that has no room behind the open description: the text goes over that, to scratch's front.
+fn gather_over(kind: u32, bytes: &[u8], content: Content, scratch: &mut [u8]) -> Performed
+    requires { ⌜ content .child + content .gathered ≤ length (now scratch) ⌝ }
+    ensures { λ r. ⌜ GathersOver kind (now (bytes .entry)) content (now (scratch .entry)) (now (scratch .exit)) r ⌝ }
+{
+    let n = content.gathered;
+    move_front(scratch, content.child, n);
+    let piece = gather_piece(kind, bytes, &mut scratch[n..]);
+    told(Mode::Text, fronted(content), piece)
+}
+
+// A piece goes behind the text that it belongs to (rule M6).
+pub fn gather(
+    mode: Mode,
+    kind: u32,
+    bytes: &[u8],
+    content: Content,
+    scratch: &mut [u8],
+) -> Performed
+    requires { ⌜ content .description ≤ length (now scratch) ⌝ }
+    requires { ⌜ content .child + content .gathered ≤ length (now scratch) ⌝ }
+    ensures { λ r. ⌜ Gathers mode kind (now (bytes .entry)) content (now (scratch .entry)) (now (scratch .exit)) r ⌝ }
+{
+    let from = piece_from(mode, content);
+    let piece = gather_piece(kind, bytes, &mut scratch[from..]);
+    if is_full(piece) & may_move(mode, content) {
+        return gather_over(kind, bytes, content, scratch);
+    }
+    told(mode, content, piece)
 }

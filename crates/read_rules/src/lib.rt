@@ -129,7 +129,7 @@ fn tag_of_output(output: Output) -> usize
 }
 
 // Tags are passed over, and their depth isn't counted (rule R14).
-fn step_text(output: Output, kind: u32, tag: usize) -> Act
+pub fn step_text(output: Output, kind: u32, tag: usize) -> Act
     ensures { λ r. ⌜ ((l : plan.Level) (name : List ℕ) → actIn (plan.gathering l (outputOf output)) name r ≡ rules.inText l (outputOf output) (tagKind kind) tag) ⌝ }
 {
     if (EMPTY < kind) & (tag == tag_of_output(output)) {
@@ -149,7 +149,7 @@ fn open_property(tag: usize, empty: bool) -> Act
 }
 
 // An Empty `properties` ends nothing (rule R15).
-fn step_list(kind: u32, tag: usize) -> Act
+pub fn step_list(kind: u32, tag: usize) -> Act
     ensures { λ r. ⌜ ((l : plan.Level) (name : List ℕ) → tagOf name ≡ tag → actIn (plan.listing l) name r ≡ rules.inList l (tagKind kind) name) ⌝ }
 {
     match kind {

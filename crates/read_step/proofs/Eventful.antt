@@ -25,6 +25,7 @@ use Rattle.read_content.specs.inside.Holds.{Lists}
 use Rattle.read_machine.specs.Machine.{Machine, act, step, run}
 use Rattle.read_machine.proofs.Skipping.{moved, act-passes, act-stops, Keeps, finished-runs}
 use Rattle.table_events.specs.inside.Pieces.{isPiece}
+use Rattle.read_again.proofs.Since.{since-steps}
 use Rattle.read_step.specs.inside.Planned.{planned, nameIn}
 use Rattle.read_step.specs.inside.Standing.{machineOf, runOn, inSkip, runSkip, Stands, refusalAt, Acted, Ended, Stepped}
 use Rattle.read_step.specs.inside.Promises.{StepsSkip}
@@ -65,12 +66,13 @@ module _ (rooms : Rooms) (events attributes source : List ℕ) (good : tableOf e
 
   -- ---- one event inside the table
   steps : (words text scratch : List ℕ) (o : Outcome Machine) → leb (countOf events) i ≡ false → step rooms (eventAt events attributes source i) s ≡ o
-      → (r : Step) → Acted attributes source words text scratch st o r → Stepped rooms events attributes source words text scratch st rest r
+      → (r : Step) → Acted attributes source words text scratch st o r → Stepped rooms events attributes source words text scratch st s rest r
   steps words text scratch o e q (way.Go t) a =
       let h : i < countOf events = leb-false (countOf events) i e in
       let n : t .marks .event ≡ i + 1 = a .next in
       record {
         content = a .content;
+        since = λ first x. since-steps events attributes source s first h rooms (machineOf t (a .content)) (q ∙ a .same) n x;
         same = run-goes-on rooms events attributes source s i refl h (machineOf t (a .content)) n (q ∙ a .same);
         stands = a .stands;
         later = omega arith;
@@ -90,10 +92,10 @@ module _ (rooms : Rooms) (events attributes source : List ℕ) (good : tableOf e
       ∙ ap (λ (b : List ℕ). Piece (pieceKind kind) (pieceBytes kind b)) (sym (bytes-here e)))
 
   pub piece-way : (words text scratch : List ℕ) → isPiece kind ≡ true → (r : Step)
-      → Acted attributes source words text scratch st (step rooms (Piece (pieceKind kind) (pieceBytes kind bytes)) s) r → Stepped rooms events attributes source words text scratch st rest r
+      → Acted attributes source words text scratch st (step rooms (Piece (pieceKind kind) (pieceBytes kind bytes)) s) r → Stepped rooms events attributes source words text scratch st s rest r
   piece-way words text scratch p r a = go (leb (countOf events) i) refl
     where
-      go : (b : Bool) → leb (countOf events) i ≡ b → Stepped rooms events attributes source words text scratch st rest r
+      go : (b : Bool) → leb (countOf events) i ≡ b → Stepped rooms events attributes source words text scratch st s rest r
       go true e = let q : true ≡ false = sym p ∙ ap isPiece (kind-end e) in let z : _≡_ {A = ℕ} 0 1 = cc in absurd (omega arith)
       go false e = steps words text scratch (step rooms (Piece (pieceKind kind) (pieceBytes kind bytes)) s) e (piece-here e p) r a
 
@@ -133,11 +135,11 @@ module _ (rooms : Rooms) (events attributes source : List ℕ) (good : tableOf e
         go false e = (e, tag-name (st .control) kind bytes a aq b ∙ bytes-here e)
 
     pub act-way : (words text scratch : List ℕ) → (a ≡ stop → ⊥) → (first end : ℕ) → first ≡ firstAt events i → end ≡ endAt events i → (r : Step) → Acted attributes source words
-        text scratch st (act rooms a first (attributesFrom attributes source (end - first) first) s) r → Stepped rooms events attributes source words text scratch st rest r
+        text scratch st (act rooms a first (attributesFrom attributes source (end - first) first) s) r → Stepped rooms events attributes source words text scratch st s rest r
     act-way words text scratch n first end fq eq r d = go (leb (countOf events) i) refl
       where
         ends : leb (countOf events) i ≡ true → (r : Step) → Acted attributes source words text scratch st (act rooms a first (attributesFrom attributes source (end - first) first) s) r
-            → Stepped rooms events attributes source words text scratch st rest r
+            → Stepped rooms events attributes source words text scratch st s rest r
         ends e (way.Go t) x =
             absurd (eof-ends rooms first (attributesFrom attributes source (end - first) first) s (machineOf t (x .content))
             (st .control .mode) (levelOf (st .control .level)) (outputOf (st .control .output)) (st .control .seen) (st .control .closed)
@@ -146,7 +148,7 @@ module _ (rooms : Rooms) (events attributes source : List ℕ) (good : tableOf e
         ends e way.Stop x = absurd x
         ends e (way.Halt h) x = record { placed = x .placed; same = act-end e first end fq eq ∙ x .same }
 
-        go : (b : Bool) → leb (countOf events) i ≡ b → Stepped rooms events attributes source words text scratch st rest r
+        go : (b : Bool) → leb (countOf events) i ≡ b → Stepped rooms events attributes source words text scratch st s rest r
         go true e = ends e r d
         go false e = steps words text scratch (act rooms a first (attributesFrom attributes source (end - first) first) s) e (act-here e first end fq eq) r d
 
@@ -187,27 +189,33 @@ module _ (rooms : Rooms) (events attributes source : List ℕ) (good : tableOf e
   -- ---- skips
   module _ (p : isPiece kind ≡ false) where
     -- an unknown element
-    pub skip-way : actOf (st .control) (nameIn kind bytes) Skip ≡ planned (controlOf (st .control)) kind bytes → (i < countOf events) × (rest ≡ runSkip rooms events attributes source i s)
+    skip-steps : actOf (st .control) (nameIn kind bytes) Skip ≡ planned (controlOf (st .control)) kind bytes
+        → (i < countOf events) × (step rooms (eventAt events attributes source i) s ≡ accepted (inSkip (bytesAt events source i) (i + 1) s))
     unfolding orSkip begins
-    skip-way q =
+    skip-steps q =
         let m : Mode = modeOf (st .control) in
         let x = begins-here p (orSkip (levelIn m) (nameIn kind bytes)) q refl in
         let h : i < countOf events = leb-false (countOf events) i (x .0) in
         let inside : at (levelIn m) ≡ m = skip-inside (st .control .mode) (levelOf (st .control .level)) (outputOf (st .control .output)) (st .control .seen)
         (tagKind kind) (levelIn m) bytes (nameIn kind bytes) (tag-plan (st .control) kind bytes (orSkip (levelIn m) (nameIn kind bytes)) q refl) in (
           h,
-          run-goes rooms events attributes source s i refl h (inSkip (bytesAt events source i) (i + 1) s)
-              (act-here p (orSkip (levelIn m) (nameIn kind bytes)) q (x .0) (firstAt events i) (endAt events i) refl refl
+          act-here p (orSkip (levelIn m) (nameIn kind bytes)) q (x .0) (firstAt events i) (endAt events i) refl refl
               ∙ act-passes rooms (firstAt events i) (attributesFrom attributes source (endAt events i - firstAt events i) (firstAt events i)) s (skipping (at (levelIn m)) (nameIn kind bytes) 0)
               ∙ ap (λ (o : Mode). accepted (moved (skipping o (nameIn kind bytes) 0) (i + 1) s)) inside
-              ∙ ap (λ (n : List ℕ). accepted (moved (skipping m n 0) (i + 1) s)) (x .1)),
+              ∙ ap (λ (n : List ℕ). accepted (moved (skipping m n 0) (i + 1) s)) (x .1),
         )
 
+    pub skip-way : actOf (st .control) (nameIn kind bytes) Skip ≡ planned (controlOf (st .control)) kind bytes → (i < countOf events) × (rest ≡ runSkip rooms events attributes source i s)
+    skip-way q =
+        let x = skip-steps q in
+        (x .0, run-goes rooms events attributes source s i refl (x .0) (inSkip (bytesAt events source i) (i + 1) s) (x .1))
+
     pub skip-stepped : (words text scratch : List ℕ) (r : Step) → actOf (st .control) (nameIn kind bytes) Skip ≡ planned (controlOf (st .control)) kind bytes → StepsSkip st i events source r
-        → Stands attributes source words text scratch (st .content) s → Stepped rooms events attributes source words text scratch st rest r
+        → Stands attributes source words text scratch (st .content) s → Stepped rooms events attributes source words text scratch st s rest r
     skip-stepped words text scratch r q f t =
-        subst (λ (o : Outcome Machine). Stepped rooms events attributes source words text scratch st o r)
-        (sym (skip-way q .1)) (f rooms attributes words text scratch c st (omega arith) (omega arith) refl t)
+        subst (λ (o : Outcome Machine). Stepped rooms events attributes source words text scratch st s o r)
+        (sym (skip-way q .1)) (f rooms attributes words text scratch c st s (omega arith) (omega arith) refl
+        (λ first x. since-steps events attributes source s first (skip-steps q .0) rooms (inSkip (bytesAt events source i) (i + 1) s) (skip-steps q .1) refl x) t)
 
     -- a Start `property`
     pub property-way : actOf (st .control) (nameIn kind bytes) (ReadProperty false) ≡ planned (controlOf (st .control)) kind bytes → (first end : ℕ) → first ≡ firstAt events i → end ≡ endAt events i

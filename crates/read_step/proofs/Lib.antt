@@ -7,3 +7,4 @@ pub mod Eventful
 pub mod Passing
 pub mod Beginning
 pub mod Properties
+pub mod Settling

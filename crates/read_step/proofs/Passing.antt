@@ -1,6 +1,6 @@
 -- An element is passed over whole. Assumes nothing.
 use Prim.Native.Nat.{ℕ, _+_, _-_, _≤_, _<_}
-use mathlib.Core.Path.{_≡_, sym, ap, subst, _∙_}
+use mathlib.Core.Path.{_≡_, refl, sym, ap, subst, _∙_}
 use mathlib.Core.List.{List}
 use native.Mathlib.Omega.{arith}
 use Rattle.refusal.specs.Refusal.{nowhere, Outcome, refused}
@@ -20,7 +20,9 @@ use Rattle.read_place.specs.declared.Marks.{Marks as CodedMarks}
 use Rattle.read_content.specs.Content.{Content}
 use Rattle.read_machine.specs.Machine.{Machine}
 use Rattle.read_machine.proofs.Skipping.{afterSkip, skips, skip-within}
-use Rattle.read_step.specs.inside.Standing.{machineOf, runOn, runSkip, Stands, Refuses, Went}
+use Rattle.read_step.specs.inside.Standing.{machineOf, runOn, inSkip, runSkip, Stands, Refuses, Went}
+use Rattle.read_again.specs.inside.Since.{Since, firstOf}
+use Rattle.read_again.proofs.Since.{since-skipped}
 use Rattle.read_step.specs.declared.State.{State}
 use Rattle.read_step.proofs.Stepping.{going, halts-here}
 
@@ -41,15 +43,20 @@ module _ (rooms : Rooms) (events attributes source : List ℕ) (st from : State)
   far = skip-within rooms events attributes source name 0 (countOf events - (start + 1)) (start + 1)
 
   pub skip-went : (words text scratch : List ℕ) (m′ : CodedMarks) (j : ℕ) → skipped ≡ next j → marksOf m′ ≡ goTo j (marksOf (st .marks))
-      → st .marks .event ≤ start + 1 → Stands attributes source words text scratch (st .content) (machineOf st c)
-      → Went rooms events attributes source words text scratch (from .marks .event) rest (record { control = st .control; marks = m′; content = st .content })
-  skip-went words text scratch m′ j e m reached t =
+      → st .marks .event ≤ start + 1 → (s : Machine)
+      → ((first : ℕ) → Since events attributes source first s → Since events attributes source (firstOf first s) (inSkip name (start + 1) (machineOf st c)))
+      → Stands attributes source words text scratch (st .content) (machineOf st c)
+      → Went rooms events attributes source words text scratch (from .marks .event) s rest (record { control = st .control; marks = m′; content = st .content })
+  skip-went words text scratch m′ j e m reached s k t =
       let f : (start + 1 < j) × (j ≤ start + 1 + (countOf events - (start + 1))) = subst (Far (start + 1) (start + 1 + (countOf events - (start + 1)))) e far in
       let low = f .0 in
       let high = f .1 in
       let n : m′ .event ≡ j = ap (λ (x : Marks). x .event) m in
       record {
         content = c;
+        since = λ first x.
+            since-skipped events attributes source (firstOf first s) (modeOf (st .control)) name start j (inSkip name (start + 1) (machineOf st c))
+            (machineOf (record { control = st .control; marks = m′; content = st .content }) c) h refl refl e refl refl n (k first x);
         same =
             reads ∙ ap (afterSkip rooms events attributes source (countOf events) (modeOf (st .control)) (machineOf st c)) e
             ∙ ap (λ (x : Marks). runOn rooms events attributes source (record { control = controlOf (st .control); content = c; marks = x })) (sym m);

@@ -28,6 +28,7 @@ use Rattle.read_step.specs.declared.Halt.{Halt}
 use Rattle.read_step.specs.declared.Step.{Step}
 use Rattle.read_step.specs.declared.Step.the-variants as way
 use Rattle.read_step.specs.declared.State.{State}
+use Rattle.read_again.proofs.Since.{since-steps}
 use Rattle.read_step.proofs.Running.{run-goes, run-refuses}
 
 no : {A : Type 0} → _≡_ {A = Bool} false true → A
@@ -120,24 +121,29 @@ module _ (rooms : Rooms) (events attributes source : List ℕ) (st : State) (c :
           ap (λ (m : Mode). modePath m (marksOf (st .marks))) here ∙ sym (stays-there rooms l name j xs s (machineOf u d) e .1)
           ∙ ap (λ (m : Mode). modePath m (marksOf (u .marks))) (sym there)
 
+      property-steps : u .marks .event ≡ i + 1 → step rooms (eventAt events attributes source i) s ≡ accepted (moved (skipping (modeOf (u .control)) name 0) (i + 1) (machineOf u d))
+      property-steps n =
+          g ∙ opens-skip rooms l name j xs s (machineOf u d) e
+          ∙ ap (λ (m : Mode). accepted (moved (skipping m name 0) (u .marks .event) (machineOf u d))) (sym there)
+          ∙ ap (λ (k : ℕ). accepted (moved (skipping (modeOf (u .control)) name 0) k (machineOf u d))) n
+
       property-goes : u .marks .event ≡ i + 1 → runOn rooms events attributes source s ≡ runSkip rooms events attributes source i (machineOf u d)
       property-goes n =
-          run-goes rooms events attributes source s i refl h (moved (skipping (modeOf (u .control)) name 0) (i + 1) (machineOf u d))
-          (g ∙ opens-skip rooms l name j xs s (machineOf u d) e
-          ∙ ap (λ (m : Mode). accepted (moved (skipping m name 0) (u .marks .event) (machineOf u d))) (sym there)
-          ∙ ap (λ (k : ℕ). accepted (moved (skipping (modeOf (u .control)) name 0) k (machineOf u d))) n)
+          run-goes rooms events attributes source s i refl h (moved (skipping (modeOf (u .control)) name 0) (i + 1) (machineOf u d)) (property-steps n)
 
     -- ---- what the code's answers come to
     module _ (words text scratch : List ℕ) {r₀ : Step} where
       pub property-went : {u : State} (r : Step) → isList (modeOf (st .control)) ≡ true → r₀ ≡ way.Go u
           → Acted attributes source words text scratch st (act rooms (readProperty l true name) j xs s) r₀
-          → StepsSkip u i events source r → Stepped rooms events attributes source words text scratch st (runOn rooms events attributes source s) r
+          → StepsSkip u i events source r → Stepped rooms events attributes source words text scratch st s (runOn rooms events attributes source s) r
       property-went {u} r list q a f =
           let m : Moved attributes source words text scratch i (act rooms (readProperty l true name) j xs s) u =
           subst (λ (x : Step). Acted attributes source words text scratch st (act rooms (readProperty l true name) j xs s) x) q a in
           let n = m .next in
-          subst (λ (o : Outcome Machine). Stepped rooms events attributes source words text scratch st o r) (sym (property-goes list u (m .content) (m .same) (m .next)))
-          (f rooms attributes words text scratch (m .content) st (omega arith) (omega arith) (property-path list u (m .content) (m .same)) (m .stands))
+          subst (λ (o : Outcome Machine). Stepped rooms events attributes source words text scratch st s o r) (sym (property-goes list u (m .content) (m .same) (m .next)))
+          (f rooms attributes words text scratch (m .content) st s (omega arith) (omega arith) (property-path list u (m .content) (m .same))
+          (λ first x. since-steps events attributes source s first h rooms (moved (skipping (modeOf (u .control)) name 0) (i + 1) (machineOf u (m .content)))
+          (property-steps list u (m .content) (m .same) (m .next)) refl x) (m .stands))
 
       pub property-stops : r₀ ≡ way.Stop → Acted attributes source words text scratch st (act rooms (readProperty l true name) j xs s) r₀ → ⊥
       property-stops q a = subst (λ (x : Step). Acted attributes source words text scratch st (act rooms (readProperty l true name) j xs s) x) q a

@@ -1,6 +1,7 @@
 // One step of reading: an event, with what is skipped behind it.
 use names::tag_of;
 use read_actions::perform;
+use read_again::restored;
 use read_attribute::Range;
 use read_content::Content;
 use read_content::Performed;
@@ -14,6 +15,7 @@ use read_place::no_marks;
 use read_place::onward;
 use read_rules::plan_eof;
 use read_rules::plan_tag;
+use read_scratch::is_lost;
 use read_state::Act;
 use read_state::Control;
 use read_state::Level;
@@ -41,13 +43,15 @@ ghost use Rattle.table.specs.Table.{countOf, tableOf};
 ghost use Rattle.read_state.specs.inside.Coded.{modeOf, controlOf, actOf, isStep};
 ghost use Rattle.tree_status.specs.Status.{Few};
 ghost use Rattle.read_place.specs.inside.Coded.{marksOf, Low};
-ghost use Rattle.read_state.specs.declared.Act.the-variants.{ReadProperty};
+ghost use Rattle.read_state.specs.declared.Act.the-variants.{Close, ReadProperty};
 ghost use Rattle.read_content.specs.Content as deed;
 ghost use Rattle.read_element.specs.inside.Refines.{tagged, areas};
 ghost use Rattle.read_content.specs.inside.Holds.{apt};
-ghost use Rattle.read_step.specs.inside.Planned.{planned, nameIn, isSkip, isStop, hasContent};
+ghost use Rattle.read_step.specs.inside.Planned.{planned, nameIn, isSkip, isStop, isClose, hasContent};
 ghost use Rattle.read_step.specs.inside.Standing.{machineOf, Standing, Bounded, Lent, Spans, haltAt, beginning, after};
-ghost use Rattle.read_step.specs.inside.Promises.{given, lent, StepsPiece, StepsSkip, StepsAct, StepsProperty, StepsEvent};
+ghost use Rattle.read_step.specs.inside.Promises.{given, lent, StandingAgain, StandingSince, StepsPiece, StepsSkip, StepsAct, StepsReady, StepsProperty, StepsEvent};
+ghost use Rattle.read_again.specs.inside.Turns.{Known};
+ghost use Rattle.table_events.specs.inside.Ranges.{firstAt, endAt};
 
 pub struct State {
     pub control: Control,
@@ -326,9 +330,123 @@ fn step_property(
     }
 }
 
-// One event, with what is skipped behind it.
+// The End that closes an element whose description a child's text was put over: first that is gathered again.
+fn step_again(
+    act: Act,
+    st: State,
+    first: usize,
+    range: Range,
+    events: &[u32],
+    attributes: &[u32],
+    source: &[u8],
+    records: &mut [u32],
+    text: &mut [u8],
+    scratch: &mut [u8],
+) -> Step
+    requires { ⌜ act ≡ Close ⌝ }
+    requires { ⌜ apt act (modeOf (st .control)) ≡ true ⌝ }
+    requires { ⌜ Known (now events) ⌝ }
+    requires { ⌜ first ≤ countOf (now events) ⌝ }
+    requires { ⌜ Spans (length (now attributes)) (range .first) (range .end) ⌝ }
+    requires { ⌜ Lent (length (now records)) (length (now text)) (length (now scratch)) ⌝ }
+    requires { ⌜ StandingAgain act (given (now events) (now attributes) (now source)) (lent (now records) (now text) (now scratch)) first st ⌝ }
+    ensures { λ r. ⌜ StepsReady act st first range (given (now (events .entry)) (now (attributes .entry)) (now (source .entry)))
+        (lent (now (records .entry)) (now (text .entry)) (now (scratch .entry))) (lent (now (records .exit)) (now (text .exit)) (now (scratch .exit))) r ⌝ }
+{
+    let control = st.control;
+    let marks = st.marks;
+    let content = restored(st.content, events, source, first, scratch);
+    let ready = State {
+        control,
+        marks,
+        content,
+    };
+    step_act(
+        act,
+        ready,
+        range,
+        attributes,
+        source,
+        records,
+        text,
+        scratch,
+    )
+}
+
+fn is_close(act: Act) -> bool
+    ensures { λ r. ⌜ r ≡ isClose act ⌝ }
+{
+    match act {
+        Act::Close => true,
+        Act::Stop => false,
+        Act::Pass => false,
+        Act::Skip => false,
+        Act::Open(_, _) => false,
+        Act::OpenText(_) => false,
+        Act::CloseText(_) => false,
+        Act::OpenList(_) => false,
+        Act::CloseList => false,
+        Act::ReadProperty(_) => false,
+        Act::Missing => false,
+        Act::Broken(_) => false,
+    }
+}
+
+// An action, with the description in scratch where it is to be stored.
+fn step_ready(
+    act: Act,
+    st: State,
+    first: usize,
+    range: Range,
+    events: &[u32],
+    attributes: &[u32],
+    source: &[u8],
+    records: &mut [u32],
+    text: &mut [u8],
+    scratch: &mut [u8],
+) -> Step
+    requires { ⌜ apt act (modeOf (st .control)) ≡ true ⌝ }
+    requires { ⌜ isStep act ≡ true ⌝ }
+    requires { ⌜ Known (now events) ⌝ }
+    requires { ⌜ first ≤ countOf (now events) ⌝ }
+    requires { ⌜ Spans (length (now attributes)) (range .first) (range .end) ⌝ }
+    requires { ⌜ Lent (length (now records)) (length (now text)) (length (now scratch)) ⌝ }
+    requires { ⌜ StandingAgain act (given (now events) (now attributes) (now source)) (lent (now records) (now text) (now scratch)) first st ⌝ }
+    ensures { λ r. ⌜ StepsReady act st first range (given (now (events .entry)) (now (attributes .entry)) (now (source .entry)))
+        (lent (now (records .entry)) (now (text .entry)) (now (scratch .entry))) (lent (now (records .exit)) (now (text .exit)) (now (scratch .exit))) r ⌝ }
+{
+    if is_close(act) & is_lost(st.content) {
+        return step_again(
+            act,
+            st,
+            first,
+            range,
+            events,
+            attributes,
+            source,
+            records,
+            text,
+            scratch,
+        );
+    }
+    step_act(act, st, range, attributes, source, records, text, scratch)
+}
+
+// The attributes of an event.
+fn range_at(events: &[u32], i: usize) -> Range
+    ensures { λ r. ⌜ r .first ≡ firstAt (now (events .entry)) i ⌝ }
+    ensures { λ r. ⌜ r .end ≡ endAt (now (events .entry)) i ⌝ }
+{
+    Range {
+        first: first_at(events, i),
+        end: end_at(events, i),
+    }
+}
+
+// One event, with what is skipped behind it; `first` is the event of the open description's first piece.
 pub fn step_event(
     st: State,
+    first: usize,
     events: &[u32],
     attributes: &[u32],
     source: &[u8],
@@ -338,12 +456,12 @@ pub fn step_event(
 ) -> Step
     requires { ⌜ tableOf (now events) (now attributes) (now source) ≡ why.accepted tt ⌝ }
     requires { ⌜ st .marks .event ≤ countOf (now events) ⌝ }
+    requires { ⌜ first ≤ countOf (now events) ⌝ }
     requires { ⌜ Lent (length (now records)) (length (now text)) (length (now scratch)) ⌝ }
-    requires { ⌜ Standing (now attributes) (now source) (now records) (now text) (now scratch) st ⌝ }
-    ensures { λ r. ⌜ StepsEvent st (given (now (events .entry)) (now (attributes .entry)) (now (source .entry)))
+    requires { ⌜ StandingSince (given (now events) (now attributes) (now source)) (lent (now records) (now text) (now scratch)) first st ⌝ }
+    ensures { λ r. ⌜ StepsEvent st first (given (now (events .entry)) (now (attributes .entry)) (now (source .entry)))
         (lent (now (records .entry)) (now (text .entry)) (now (scratch .entry))) (lent (now (records .exit)) (now (text .exit)) (now (scratch .exit))) r ⌝ }
 {
-    let control = st.control;
     let marks = st.marks;
     let i = marks.event;
     let kind = kind_at(events, i);
@@ -351,17 +469,14 @@ pub fn step_event(
     if is_piece(kind) {
         return step_piece(st, kind, bytes, scratch);
     }
-    let act = plan(control, kind, bytes);
+    let act = plan(st.control, kind, bytes);
     if is_skip(act) {
         return step_skip(st, i, events, source);
     }
     if is_stop(act) {
         return Step::Stop;
     }
-    let range = Range {
-        first: first_at(events, i),
-        end: end_at(events, i),
-    };
+    let range = range_at(events, i);
     if has_content(act) {
         return step_property(
             st,
@@ -374,5 +489,16 @@ pub fn step_event(
             scratch,
         );
     }
-    step_act(act, st, range, attributes, source, records, text, scratch)
+    step_ready(
+        act,
+        st,
+        first,
+        range,
+        events,
+        attributes,
+        source,
+        records,
+        text,
+        scratch,
+    )
 }

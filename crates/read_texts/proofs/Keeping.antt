@@ -118,9 +118,10 @@ module _ {words text scratch attributes source : List ℕ} {c : CodedContent} {s
         ∙ ap (λ (x : List ℕ). s .texts ++ x) (laid-zeros (hd .left) (cleaned v) (omega arith))
         ∙ sym (append-assoc (s .texts) (cleaned v) (zeros (hd .left - length (cleaned v))))
 
-    kept-holds : (d rest : List ℕ) (dn : ℕ) {words′ text′ : List ℕ} → scratch ≡ d ++ rest → dn ≡ length d → words′ ≡ inRecord i (kept taken (putText o k (c .fill) n)) words
-        → text′ ≡ take (c .fill) text ++ laid (drop (c .fill) text) (cleaned v) → Holds words′ text′ scratch attributes source (storedIn n dn c) (grown d)
-    kept-holds d rest dn {words′} {text′} sc dl w t =
+    kept-holds : (d : List ℕ) (dn bn : ℕ) {words′ text′ : List ℕ} → dn ≤ length scratch → bn ≤ dn
+        → (bn ≡ dn → take dn scratch ≡ d) → dn ≡ length d → words′ ≡ inRecord i (kept taken (putText o k (c .fill) n)) words
+        → text′ ≡ take (c .fill) text ++ laid (drop (c .fill) text) (cleaned v) → Holds words′ text′ scratch attributes source (storedIn n dn bn c) (grown d)
+    kept-holds d dn bn {words′} {text′} wi be sc dl w t =
         let f : List ℕ → List ℕ = kept taken (putText o k (length (s .texts)) (length (cleaned v))) in
         let q = length-append (s .texts) (cleaned v) in
         let a = hd .fill in
@@ -128,7 +129,6 @@ module _ {words text scratch attributes source : List ℕ} {c : CodedContent} {s
         record {
           room = hd .room;
           left = hd .left - length (cleaned v);
-          behind = rest;
           records =
               w ∙ ap (λ (x : ℕ). inRecord i (kept taken (putText o k x n)) words) (hd .fill)
               ∙ ap (λ (x : ℕ). inRecord i (kept taken (putText o k (length (s .texts)) x)) words) b
@@ -137,7 +137,10 @@ module _ {words text scratch attributes source : List ℕ} {c : CodedContent} {s
           used = hd .used ∙ sym (changed-size f i (s .records));
           stored = new-text t;
           fill = omega arith;
-          pieces = sc;
+          within = wi;
+          begins = be;
+          described = sc;
+          behind = refl;
           description = dl;
           gathered = refl;
           free = hd .free;
@@ -147,10 +150,11 @@ module _ {words text scratch attributes source : List ℕ} {c : CodedContent} {s
         }
 
   -- the elements that are open stay so
-  pub still-open : (m : Marks) (l : Level) (n dn : ℕ) (d : List ℕ) → Opened l m c s → Opened l m (storedIn n dn c) (grown d)
-  still-open m l n dn d x =
+  pub still-open : (m : Marks) (l : Level) (n dn bn : ℕ) (d : List ℕ) → Opened l m c s → Opened l m (storedIn n dn bn c) (grown d)
+  still-open m l n dn bn d x =
       let f : List ℕ → List ℕ = kept taken (putText o k (length (s .texts)) (length (cleaned v))) in
-      opened-kinds m c (storedIn n dn c) s (grown d) refl refl (changed-size f i (s .records)) (changed-kind f (kept-kind o k (length (s .texts)) (length (cleaned v)) taken low) i (s .records)) l x
+      opened-kinds m c (storedIn n dn bn c) s (grown d) refl refl (changed-size f i (s .records))
+      (changed-kind f (kept-kind o k (length (s .texts)) (length (cleaned v)) taken low) i (s .records)) l x
 
   module _ {rooms : Rooms} (sz : Sized rooms (length words) (length text) (length scratch)) (p : Place) (pa : p .attribute ≡ nowhere) (f : Content → List ℕ) where
     made : length (cleaned v) ≤ length text - c .fill → (keeping rooms p taken i o k v s >>= λ x. accepted (withTexts x (f x) [])) ≡ accepted (grown (f (record {
@@ -175,7 +179,7 @@ module _ {words text scratch attributes source : List ℕ} {c : CodedContent} {s
         sz .for-text (length (s .texts) + length (cleaned v)) ∙ lt-leb (length (s .texts) + length (cleaned v)) (length text) (omega arith) in
         rw b refl
 
-    pub kept-comes : (Q : CodedContent → Content → Type 0) (d rest : List ℕ) (dn : ℕ) {words′ text′ : List ℕ} → scratch ≡ d ++ rest → dn ≡ length d
+    pub kept-comes : (Q : CodedContent → Content → Type 0) (d : List ℕ) (dn bn : ℕ) {words′ text′ : List ℕ} → dn ≤ length scratch → bn ≤ dn → (bn ≡ dn → take dn scratch ≡ d) → dn ≡ length d
         → f (record {
           records = changed i (kept taken (putText o k (length (s .texts)) (length (cleaned v)))) (s .records);
           texts = s .texts ++ cleaned v;
@@ -183,13 +187,13 @@ module _ {words text scratch attributes source : List ℕ} {c : CodedContent} {s
           gathered = s .gathered;
         }) ≡ d
         → (stored : Stored) → storedAnswer cause.TextFull stored ≡ placing cause.TextFull (length text - c .fill) (cleaned v) → words′ ≡ keptWords stored taken i o k (c .fill) words
-        → text′ ≡ take (c .fill) text ++ laid (drop (c .fill) text) (cleaned v) → ((n : ℕ) → Q (storedIn n dn c) (grown d))
-        → Comes Q p words′ text′ scratch attributes source (keeping rooms p taken i o k v s >>= λ x. accepted (withTexts x (f x) [])) (keptTo stored dn c)
-    kept-comes Q d rest dn {words′} {text′} sc dl fd (Put n) e w t q =
-        subst (λ (x : Outcome Content). Comes Q p words′ text′ scratch attributes source x (To (storedIn n dn c)))
+        → text′ ≡ take (c .fill) text ++ laid (drop (c .fill) text) (cleaned v) → ((n : ℕ) → Q (storedIn n dn bn c) (grown d))
+        → Comes Q p words′ text′ scratch attributes source (keeping rooms p taken i o k v s >>= λ x. accepted (withTexts x (f x) [])) (keptTo stored dn bn c)
+    kept-comes Q d dn bn {words′} {text′} wi be sc dl fd (Put n) e w t q =
+        subst (λ (x : Outcome Content). Comes Q p words′ text′ scratch attributes source x (To (storedIn n dn bn c)))
         (sym (made (fitted e) ∙ ap (λ (x : List ℕ). accepted (grown x)) fd))
-        (went (kept-holds e d rest dn sc dl w t, q n))
-    kept-comes Q d rest dn sc dl fd Full e w t q = halts p TextFull pa (short (full-over cause.TextFull (length text - c .fill) (cleaned v) e)) refl
+        (went (kept-holds e d dn bn wi be sc dl w t, q n))
+    kept-comes Q d dn bn wi be sc dl fd Full e w t q = halts p TextFull pa (short (full-over cause.TextFull (length text - c .fill) (cleaned v) e)) refl
 
 -- ---- the two texts
 empty-true : (l : List ℕ) → length l ≡ 0 → isEmpty l ≡ true
@@ -220,22 +224,25 @@ record-inside status m c s o e = o .1 .1
 module _ {words text scratch attributes source : List ℕ} {c : CodedContent} {s : Content} (hd : Holds words text scratch attributes source c s)
     {rooms : Rooms} (sz : Sized rooms (length words) (length text) (length scratch)) (p : Place) (pa : p .attribute ≡ nowhere) (m : Marks) where
   -- a description that trimming leaves empty is missing (rule X11)
-  pub none-described : {clean : List ℕ} → Lists (at status) m c s → clean ≡ trimmed (take (c .description) scratch) → length clean ≡ 0 → {r : Performed} → r ≡ keptTo (Put 0) 0 c
+  pub none-described : {clean : List ℕ} → c .child ≡ c .description → Lists (at status) m c s
+      → clean ≡ trimmed (take (c .description) scratch) → length clean ≡ 0 → {r : Performed} → r ≡ keptTo (Put 0) 0 0 c
       → Performs (at case) m p words text scratch attributes source (describing rooms p m s) r
   unfolding describing
-  none-described {clean} li e z {r} q =
-      let t : isEmpty (trimmed (s .description)) ≡ true = empty-true (trimmed (s .description)) (ap (λ (x : List ℕ). length (trimmed x)) (sym (description-part hd)) ∙ sym (ap length e) ∙ z) in
-      rw (q, t) (went {s = withTexts s [] []} {c = storedIn 0 0 c} (
+  none-described {clean} lo li e z {r} q =
+      let t : isEmpty (trimmed (s .description)) ≡ true = empty-true (trimmed (s .description)) (ap (λ (x : List ℕ). length (trimmed x)) (sym (description-part hd lo)) ∙ sym (ap length e) ∙ z) in
+      rw (q, t) (went {s = withTexts s [] []} {c = storedIn 0 0 0 c} (
         record {
           room = hd .room;
           left = hd .left;
-          behind = scratch;
           records = hd .records;
           whole = hd .whole;
           used = hd .used;
           stored = hd .stored;
           fill = let a = hd .fill in omega arith;
-          pieces = refl;
+          within = omega arith;
+          begins = omega arith;
+          described = λ x. refl;
+          behind = refl;
           description = refl;
           gathered = refl;
           free = hd .free;
@@ -245,36 +252,41 @@ module _ {words text scratch attributes source : List ℕ} {c : CodedContent} {s
         ((li .0 .0, li .0 .1 .0), refl),
       ))
 
-  pub some-described : {clean words′ text′ : List ℕ} (i : ℕ) → m .statusAt ≡ i → Lists (at status) m c s → clean ≡ trimmed (take (c .description) scratch) → (length clean ≡ 0 → ⊥)
+  pub some-described : {clean words′ text′ : List ℕ} (i : ℕ) → m .statusAt ≡ i → c .child ≡ c .description
+      → Lists (at status) m c s → clean ≡ trimmed (take (c .description) scratch) → (length clean ≡ 0 → ⊥)
       → (stored : Stored) → storedAnswer cause.TextFull stored ≡ placing cause.TextFull (length text - c .fill) (cleaned (take (c .description) scratch))
       → words′ ≡ keptWords stored true i 20 6 (c .fill) words
-      → text′ ≡ take (c .fill) text ++ laid (drop (c .fill) text) (cleaned (take (c .description) scratch)) → {r : Performed} → r ≡ keptTo stored 0 c
+      → text′ ≡ take (c .fill) text ++ laid (drop (c .fill) text) (cleaned (take (c .description) scratch)) → {r : Performed} → r ≡ keptTo stored 0 0 c
       → Performs (at case) m p words′ text′ scratch attributes source (describing rooms p m s) r
   unfolding describing
-  some-described {clean} i im li e z stored a w t {r} q =
-      let u : isEmpty (trimmed (s .description)) ≡ false = empty-false (trimmed (s .description)) (λ y. z (ap length e ∙ ap (λ (x : List ℕ). length (trimmed x)) (description-part hd) ∙ y)) in
+  some-described {clean} i im lo li e z stored a w t {r} q =
+      let u : isEmpty (trimmed (s .description)) ≡ false = empty-false (trimmed (s .description)) (λ y. z (ap length e ∙ ap (λ (x : List ℕ). length (trimmed x)) (description-part hd lo) ∙ y)) in
       rw (q, u)
-      (kept-comes hd true (m .statusAt) 20 6 (s .description) (lit≤ tt) (lit≤ tt) (λ y. li .0 .1 .1) sz p pa (λ x. []) (Lists (at case) m) [] scratch 0 refl refl refl stored
-      (a ∙ ap (λ (x : List ℕ). placing cause.TextFull (length text - c .fill) (cleaned x)) (description-part hd))
+      (kept-comes hd true (m .statusAt) 20 6 (s .description) (lit≤ tt) (lit≤ tt) (λ y. li .0 .1 .1) sz p
+      pa (λ x. []) (Lists (at case) m) [] 0 0 (omega arith) (omega arith) (λ y. refl) refl refl stored
+      (a ∙ ap (λ (x : List ℕ). placing cause.TextFull (length text - c .fill) (cleaned x)) (description-part hd lo))
       (w ∙ ap (λ (x : ℕ). keptWords stored true x 20 6 (c .fill) words) (sym im))
-      (t ∙ ap (λ (x : List ℕ). take (c .fill) text ++ laid (drop (c .fill) text) (cleaned x)) (description-part hd))
-      (λ n. (still-open hd true (m .statusAt) 20 6 (s .description) (lit≤ tt) (lit≤ tt) (λ y. li .0 .1 .1) m case n 0 [] (li .0 .0, li .0 .1 .0), refl)))
+      (t ∙ ap (λ (x : List ℕ). take (c .fill) text ++ laid (drop (c .fill) text) (cleaned x)) (description-part hd lo))
+      (λ n. (still-open hd true (m .statusAt) 20 6 (s .description) (lit≤ tt) (lit≤ tt) (λ y. li .0 .1 .1) m case n 0 0 [] (li .0 .0, li .0 .1 .0), refl)))
 
   -- an output is kept, an empty one too (rule X12)
   pub output-kept : {words′ text′ : List ℕ} (l : Level) (o : Output) {taken : Bool} {i w k : ℕ} {g : List ℕ} → Opened l m c s → taken ≡ takes l m → i ≡ recordOf l m → w ≡ wordOf o → k ≡ bitOf o
-      → g ≡ take (c .description + c .gathered - c .description) (drop (c .description) scratch)
+      → g ≡ take (c .child + c .gathered - c .child) (drop (c .child) scratch)
       → (stored : Stored) → storedAnswer cause.TextFull stored ≡ placing cause.TextFull (length text - c .fill) (cleaned g) → words′ ≡ keptWords stored taken i w k (c .fill) words
-      → text′ ≡ take (c .fill) text ++ laid (drop (c .fill) text) (cleaned g) → {r : Performed} → r ≡ keptTo stored (c .description) c
+      → text′ ≡ take (c .fill) text ++ laid (drop (c .fill) text) (cleaned g) → {r : Performed} → r ≡ keptTo stored (c .description) (c .child) c
       → Performs (at l) m p words′ text′ scratch attributes source (outputting rooms p l o m s) r
   unfolding outputting
   output-kept l o {g = g} op te ie we ke ge stored a w t {r} q =
-      let n : c .description + c .gathered - c .description ≡ c .gathered = omega arith in
-      let h : g ≡ s .gathered = ge ∙ ap (λ (x : ℕ). take x (drop (c .description) scratch)) n ∙ gathered-part hd in
+      let n : c .child + c .gathered - c .child ≡ c .gathered = omega arith in
+      let h : g ≡ s .gathered = ge ∙ ap (λ (x : ℕ). take x (drop (c .child) scratch)) n ∙ gathered-part hd in
       rw q
       (kept-comes hd (takes l m) (recordOf l m) (wordOf o) (bitOf o) (s .gathered) (word-low o) (word-high o) (record-inside l m c s op)
-      sz p pa (λ x. x .description) (Lists (at l) m) (s .description) (s .gathered ++ hd .behind) (c .description)
-      (hd .pieces) (hd .description) refl stored
+      sz p pa (λ x. x .description) (Lists (at l) m) (s .description) (c .description) (c .child)
+      (hd .within) (hd .begins) (hd .described) (hd .description) refl stored
       (a ∙ ap (λ (x : List ℕ). placing cause.TextFull (length text - c .fill) (cleaned x)) h)
       (w ∙ cc)
       (t ∙ ap (λ (x : List ℕ). take (c .fill) text ++ laid (drop (c .fill) text) (cleaned x)) h)
-      (λ n. (still-open hd (takes l m) (recordOf l m) (wordOf o) (bitOf o) (s .gathered) (word-low o) (word-high o) (record-inside l m c s op) m l n (c .description) (s .description) op, refl)))
+      (λ n. (
+        still-open hd (takes l m) (recordOf l m) (wordOf o) (bitOf o) (s .gathered) (word-low o) (word-high o) (record-inside l m c s op) m l n (c .description) (c .child) (s .description) op,
+        refl,
+      )))

@@ -89,15 +89,16 @@ fn keep_text(
     }
 }
 
-fn kept_text(stored: Stored, content: Content, description: usize) -> Performed
+fn kept_text(stored: Stored, content: Content, description: usize, child: usize) -> Performed
     requires { ⌜ storedEnd (content .fill) stored ≤ 16777216 ⌝ }
-    ensures { λ r. ⌜ r ≡ keptTo stored description content ⌝ }
+    ensures { λ r. ⌜ r ≡ keptTo stored description child content ⌝ }
 {
     match stored {
         Stored::Put(n) => {
             let mut c = content;
             c.fill = c.fill + n;
             c.description = description;
+            c.child = child;
             c.gathered = 0;
             Performed::To(c)
         }
@@ -105,7 +106,8 @@ fn kept_text(stored: Stored, content: Content, description: usize) -> Performed
     }
 }
 
-// A description that trimming leaves empty is missing (rule X11), and nothing is stored for it (rule M5).
+// The open description, which no child's text was put over. One that trimming leaves empty is missing (rule X11), and nothing is
+// stored for it (rule M5).
 pub fn close_status(
     i: usize,
     content: Content,
@@ -124,7 +126,7 @@ pub fn close_status(
     let fill = content.fill;
     let description = &scratch[..n];
     if trim(description).len() == 0 {
-        return kept_text(Stored::Put(0), content, 0);
+        return kept_text(Stored::Put(0), content, 0, 0);
     }
     let stored = keep_text(
         true,
@@ -136,7 +138,7 @@ pub fn close_status(
         records,
         text,
     );
-    kept_text(stored, content, 0)
+    kept_text(stored, content, 0, 0)
 }
 
 // The text of a child, also an empty one (rule X12); one that was there with this name is replaced (rule R17).
@@ -152,12 +154,13 @@ pub fn close_text(
     requires { ⌜ recordOf (levelOf level) (marksOf marks) * 32 ≤ length (now records) ⌝ }
     requires { ⌜ content .fill ≤ length (now text) ⌝ }
     requires { ⌜ length (now text) ≤ 16777216 ⌝ }
-    requires { ⌜ content .description + content .gathered ≤ length (now scratch) ⌝ }
+    requires { ⌜ content .child + content .gathered ≤ length (now scratch) ⌝ }
     ensures { λ r. ⌜ ClosesText (levelOf level) (outputOf output) (marksOf marks) content
         (areas (now (records .entry)) (now (text .entry))) (areas (now (records .exit)) (now (text .exit))) (now (scratch .entry)) r ⌝ }
 {
-    let from = content.description;
+    let from = content.child;
     let to = from + content.gathered;
+    let description = content.description;
     let fill = content.fill;
     let stored = keep_text(
         is_taken(level, marks),
@@ -169,5 +172,5 @@ pub fn close_text(
         records,
         text,
     );
-    kept_text(stored, content, from)
+    kept_text(stored, content, description, from)
 }

@@ -6,6 +6,7 @@ use clearing::clear_all;
 use clearing::clear_tree;
 use read_fault::within;
 use read_path::path_of;
+use read_scratch::first_of;
 use read_step::Halt;
 use read_step::State;
 use read_step::Step;
@@ -59,8 +60,20 @@ fn run_events(
         (lent (now (records .entry)) (now (text .entry)) (now (scratch .entry))) (areas (now (records .exit)) (now (text .exit))) r ⌝ }
 {
     let mut st = begin();
+    let mut first = 0;
     loop {
-        let next = step_event(st, events, attributes, source, records, text, scratch);
+        let marks = st.marks;
+        first = first_of(first, st.content, marks.event);
+        let next = step_event(
+            st,
+            first,
+            events,
+            attributes,
+            source,
+            records,
+            text,
+            scratch,
+        );
         match next {
             Step::Go(s) => st = s,
             Step::Stop => break Run::Done,

@@ -18,13 +18,13 @@ use Rattle.read_rules.specs.Rules.{planAt, planEof, planFault}
 use Rattle.read_place.specs.Marks.{Marks}
 use Rattle.read_path.specs.Paths.{actPlace}
 use Rattle.read_content.specs.Content.{Content, killAll, killKind, propertyKind, recordOf, wordOf, bitOf, takes, kept, pieceOf, joinPiece}
-use Rattle.read_content.specs.Content.{gather, adding, withRecords, cleaned, keeping, isEmpty, describing, outputting, perform}
+use Rattle.read_content.specs.Content.{own, gather, adding, withRecords, cleaned, keeping, isEmpty, describing, outputting, perform}
 use Rattle.read_machine.specs.Machine.{Machine, act, step}
 use Rattle.read_machine.proofs.TreeKept.{length-all, length-kind}
 use Rattle.round_rooms.specs.Pieces.{pieceSize, eventSize}
 use Rattle.round_rooms.proofs.Suiting.{Suits, stops, comes, leaf, starts, bind, bind-held, needing, choosing, fitting}
 use Rattle.round_rooms.proofs.Elements.{Fit, rooms, stored, element-suits}
-use Rattle.round_rooms.proofs.Scratch.{piece-size, taken}
+use Rattle.round_rooms.proofs.Scratch.{own-size, piece-size, taken}
 use Rattle.refusal.specs.declared.Cause.the-variants as cause
 
 module _ (n m k : ℕ) where
@@ -43,7 +43,7 @@ module _ (n m k : ℕ) where
   unfolding gather
   gather-suits p mode b s c l =
       bind-held (leaf _) (answered p (pieceOf b s)) λ v e.
-      fitting k (length (c .description) + length (c .gathered) + length v) p cause.ScratchFull (λ f. (f, omega (arith, piece-size b s v e))) (comes (join-fits mode v c))
+      fitting k (length (own mode c) + length v) p cause.ScratchFull (λ f. (f, omega (arith, piece-size b s v e, own-size mode c))) (comes (join-fits mode v c))
 
   adding-suits : (p : Place) (kind j : ℕ) (xs : List Attribute) (c : Content) → Suits (ContentFits c) ContentFits (adding (rooms n m k) p kind j xs c) (adding unlimited p kind j xs c)
   unfolding adding

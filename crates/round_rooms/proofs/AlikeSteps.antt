@@ -22,13 +22,13 @@ use Rattle.read_rules.specs.Rules.{atTop, atSuite, atCase, atStatus, inText, in
 use Rattle.read_place.specs.Marks.{Marks}
 use Rattle.read_path.specs.Paths.{actPlace}
 use Rattle.read_content.specs.Content.{Content, killAll, killKind, propertyKind, recordOf, wordOf, bitOf, takes, kept, pieceOf, joinPiece}
-use Rattle.read_content.specs.Content.{gather, adding, withRecords, cleaned, keeping, isEmpty, describing, outputting, perform}
+use Rattle.read_content.specs.Content.{own, gather, adding, withRecords, cleaned, keeping, isEmpty, describing, outputting, perform}
 use Rattle.read_machine.specs.Machine.{Machine, act, step}
 use Rattle.read_machine.proofs.TreeKept.{length-all, length-kind}
 use Rattle.round_rooms.specs.Pieces.{pieceSize, eventSize}
 use Rattle.round_rooms.specs.Needs.{eventRecords, attributeBytes, eventBytes}
 use Rattle.round_rooms.proofs.Elements.{rooms}
-use Rattle.round_rooms.proofs.Scratch.{piece-size, taken, join-size}
+use Rattle.round_rooms.proofs.Scratch.{own-size, piece-size, taken, join-size}
 use Rattle.round_rooms.proofs.Alike.{Alike, halts, gives, whole, weaken, bind, needing, choosing, fitting}
 use Rattle.round_rooms.proofs.AlikeElements.{element-alike}
 use Rattle.refusal.specs.declared.Cause.the-variants as cause
@@ -97,7 +97,7 @@ module _ (n m k : ℕ) where
       let j = join-size mode v c in
       let x = ap (λ (rs : List (List ℕ)). length rs) (join-records mode v c) in
       let y = ap (λ (t : List ℕ). length t) (join-texts mode v c) in
-      fitting k (length (c .description) + length (c .gathered) + length v) p cause.ScratchFull (omega (arith, l, z))
+      fitting k (length (own mode c) + length v) p cause.ScratchFull (omega (arith, l, z, own-size mode c))
       (gives (record { records = omega (arith, x); bytes = omega (arith, y, z, j); opens = omega (arith, z, j) })))
 
   adding-alike : (p : Place) (kind j : ℕ) (xs : List Attribute) (c : Content) → length (c .records) + (1 + length xs) ≤ n → weight c + attributeBytes xs ≤ m

@@ -22,7 +22,7 @@ use Rattle.read_rules.specs.Rules.{planAt, planEof, planFault}
 use Rattle.read_place.specs.Marks.{Marks}
 use Rattle.read_path.specs.Paths.{actPlace}
 use Rattle.read_content.specs.Content.{Content, killAll, killKind, propertyKind, recordOf, wordOf, bitOf, takes, pieceOf}
-use Rattle.read_content.specs.Content.{joinPiece, gather, adding, withRecords, keeping, isEmpty, describing, outputting, perform}
+use Rattle.read_content.specs.Content.{joinPiece, own, gather, adding, withRecords, keeping, isEmpty, describing, outputting, perform}
 use Rattle.read_machine.specs.Machine.{Machine, act, step}
 use Rattle.round_rooms.specs.Pieces.{pieceSize, eventSize}
 use Rattle.tree_status.specs.Status.{ruled}
@@ -54,6 +54,13 @@ taken c = length (c .description) + length (c .gathered)
 abbrev pub Opens : ℕ → Content → Type 0
 Opens n c = taken c ≤ n
 
+pub own-size : (mode : Mode) (c : Content) → length (own mode c) ≤ taken c
+own-size (at l) c = omega arith
+own-size (gathering l o) c = omega arith
+own-size (listing l) c = omega arith
+own-size (skipping m name depth) c = omega arith
+own-size finished c = omega arith
+
 pub join-size : (mode : Mode) (v : List ℕ) (c : Content) → taken (joinPiece mode v c) ≤ taken c + length v
 join-size (at l) v c = omega (arith, length-append (c .description) v)
 join-size (gathering l o) v c = omega (arith, length-append (c .gathered) v)
@@ -65,7 +72,7 @@ gather-opens : (p : Place) (mode : Mode) (k : PieceKind) (s : List ℕ) (c : Con
 unfolding gather
 gather-opens p mode k s c =
     bind (answered p (pieceOf k s)) λ v e.
-    needed (fits (unlimited .scratch) (length (c .description) + length (c .gathered) + length v)) p cause.ScratchFull λ z.
+    needed (fits (unlimited .scratch) (length (own mode c) + length v)) p cause.ScratchFull λ z.
     accept (omega (arith, join-size mode v c, piece-size k s v e))
 
 -- ---- actions never lengthen what is open

@@ -21,7 +21,7 @@ is-ruled-requires c κs = search needs
 returns : tie.Need-returns
 returns c =
     let args = c .before .before .before .before .before .before .before .args in
-    λ rooms p s k j xs attributes source pa kt hd li sz. rw (c .before .before .enum-told3 .given .1) (closed-case p k (marksOf (args .marks)) rooms j
+    λ rooms p s k j xs attributes source pa kt lo hd li sz. rw (c .before .before .enum-told3 .given .1) (closed-case p k (marksOf (args .marks)) rooms j
     xs (args .content) s (ap ruled kt ∙ sym (c .before .is-ruled .ensures) ∙ c .if1 .taken) hd (rw (c .before .before .enum-told3 .given .1) at li))
 
 refused-requires : tie.Need-refused-requires
@@ -38,17 +38,18 @@ close-status-requires c κs =
 returns-2 : tie.Need-returns-2
 returns-2 c =
     let args = c .before .before .before .before .before .args in
-    λ rooms p s k j xs attributes source pa kt hd li sz. rw (c .enum-told .given .1) (closed-top p k (marksOf (args .marks)) rooms j xs (args .content) s hd (rw (c .enum-told .given .1) at li))
+    λ rooms p s k j xs attributes source pa kt lo hd li sz. rw (c .enum-told .given .1) (closed-top p k (marksOf (args .marks)) rooms j xs (args .content) s hd (rw (c .enum-told .given .1) at li))
 
 returns-3 : tie.Need-returns-3
 returns-3 c =
     let args = c .before .before .before .before .before .args in
-    λ rooms p s k j xs attributes source pa kt hd li sz. rw (c .enum-told2 .given .1) (closed-suite p k (marksOf (args .marks)) rooms j xs (args .content) s hd (rw (c .enum-told2 .given .1) at li))
+    λ rooms p s k j xs attributes source pa kt lo hd li sz.
+    rw (c .enum-told2 .given .1) (closed-suite p k (marksOf (args .marks)) rooms j xs (args .content) s hd (rw (c .enum-told2 .given .1) at li))
 
 returns-4 : tie.Need-returns-4
 returns-4 c =
     let args = c .before .before .before .before .before .before .before .before .args in
-    λ rooms p s k j xs attributes source pa kt hd li sz. rw (c .before .before .before .enum-told3 .given .1)
+    λ rooms p s k j xs attributes source pa kt lo hd li sz. rw (c .before .before .before .enum-told3 .given .1)
     (closed-not p k (marksOf (args .marks)) rooms j xs (args .content) s (ap ruled kt ∙ sym (c .before .before .is-ruled .ensures) ∙ c .before .if1 .left) pa (c .refused .ensures))
 
 same-length : tie.Need-same-length
@@ -62,8 +63,8 @@ returns-5 c =
     let args = c .before .before .before .before .before .before .before .before .before .before .before .before .args in
     let enum-told4 = c .before .before .before .before .before .before .before .enum-told4 in
     let close-status = c .before .before .before .before .close-status in
-    λ rooms p s k j xs attributes source pa kt hd li sz. rw (enum-told4 .given .1) (closed-status p k (marksOf (args .marks)) rooms j xs
-    (args .content) s (close-status .ensures rooms p s (marksOf (args .marks)) attributes source refl pa hd (rw (enum-told4 .given .1) at li) sz))
+    λ rooms p s k j xs attributes source pa kt lo hd li sz. rw (enum-told4 .given .1) (closed-status p k (marksOf (args .marks)) rooms j xs
+    (args .content) s (close-status .ensures rooms p s (marksOf (args .marks)) attributes source refl pa lo hd (rw (enum-told4 .given .1) at li) sz))
 
 pub close-spec : {M : Type 1} → statement M
 close-spec =

@@ -1,4 +1,4 @@
-use Rattle.read_actions.proofs.Performing.{held, text-end, pieces-end, description-end, record-end, status-end, list-end, property-end, kind-end, acted-pass, acted-skip}
+use Rattle.read_actions.proofs.Performing.{held, text-end, gathered-end, description-end, record-end, status-end, list-end, property-end, kind-end, acted-pass, acted-skip}
 use Rattle.read_actions.proofs.Performing.{acted-stop, acted-text, acted-end, acted-close, acted-close-text, acted-property, acted-list, acted-open, acted-missing, acted-broken}
 use Rattle.read_content.specs.declared.Performed.the-variants.{To}
 use Rattle.read_place.specs.inside.Coded.{marksOf}
@@ -64,7 +64,7 @@ close-text-requires c κs =
         text-end (start .args .control .mode) (levelOf (start .args .control .level)) (outputOf (start .args .control .output)) (marksOf (start .args .marks)) (start .pre .1 .1 .1 .1 .1),
         (
           start .pre .1 .1 .1 .1 .0,
-          pieces-end (start .args .control .mode) (levelOf (start .args .control .level)) (outputOf (start .args .control .output)) (marksOf (start .args .marks)) (start .pre .1 .1 .1 .1 .1),
+          gathered-end (start .args .control .mode) (levelOf (start .args .control .level)) (outputOf (start .args .control .output)) (marksOf (start .args .marks)) (start .pre .1 .1 .1 .1 .1),
         ),
       ),
     )
@@ -136,7 +136,7 @@ returns c =
     let start = c .before .before .before .before .before .before .before .before .before .before .before .before .before .before .before .before in
     let act = c .before .before .before .before .before .before .before .before .act in
     let open-element = c .before .before .before .before .open-element in
-    λ rooms p s name pa hd li sz. acted-open (levelOf (start .args .control .level)) (outputOf (start .args .control .output)) (start .args .control .seen) (start .args .control .closed)
+    λ rooms p s name pa lo hd li sz. acted-open (levelOf (start .args .control .level)) (outputOf (start .args .control .output)) (start .args .control .seen) (start .args .control .closed)
     (start .args .control .tally) name (marksOf (start .args .marks)) p rooms (start .args .range .first) (attributesFrom (start .args .attributes .now) (start .args .source .now)
     (start .args .range .end - start .args .range .first) (start .args .range .first)) _ _ _ _ _ (start .args .content) s _ (start .args .control .mode) (start .pre .0)
     li (act .given .1) (λ x. open-element .ensures rooms p s (start .args .scratch .now) (controlOf (start .args .control)) (marksOf (start .args .marks)) _ pa x hd li sz)
@@ -152,10 +152,11 @@ returns-2 c =
     let start = c .before .before .before .before .before .before .before .before .before .before .before .before .before .before .before in
     let enum-told-step = c .before .before .before .before .before .before .before .enum-told in
     let close = c .before .before .before .before .close in
-    λ rooms p s name pa hd li sz. acted-close (levelOf (start .args .control .level)) (outputOf (start .args .control .output)) (start .args .control .seen) (start .args .control .closed)
+    λ rooms p s name pa lo hd li sz. acted-close (levelOf (start .args .control .level)) (outputOf (start .args .control .output)) (start .args .control .seen) (start .args .control .closed)
     (start .args .control .tally) name (marksOf (start .args .marks)) p rooms (start .args .range .first) (attributesFrom (start .args .attributes .now) (start .args .source .now)
     (start .args .range .end - start .args .range .first) (start .args .range .first)) _ _ _ _ _ (start .args .content) s _ (start .args .control .mode) (start .pre .0) li
-    (enum-told-step .given .1) (λ x. close .ensures rooms p s (controlOf (start .args .control)) _ _ (start .args .attributes .now) (start .args .source .now) pa refl hd x sz)
+    (enum-told-step .given .1)
+    (λ x. close .ensures rooms p s (controlOf (start .args .control)) _ _ (start .args .attributes .now) (start .args .source .now) pa refl (lo (enum-told-step .given .1)) hd x sz)
 
 same-length-5 : tie.Need-same-length-5
 same-length-5 c = search needs
@@ -168,7 +169,7 @@ returns-3 c =
     let start = c .before .before .before .before .before .before .before .before .before .before .before .before .before .before .before .before in
     let act2 = c .before .before .before .before .before .before .before .before .act2 in
     let close-text = c .before .before .before .before .close-text in
-    λ rooms p s name pa hd li sz. acted-close-text (levelOf (start .args .control .level)) (outputOf (start .args .control .output)) (start .args .control .seen)
+    λ rooms p s name pa lo hd li sz. acted-close-text (levelOf (start .args .control .level)) (outputOf (start .args .control .output)) (start .args .control .seen)
     (start .args .control .closed) (start .args .control .tally) name (marksOf (start .args .marks)) p rooms (start .args .range .first)
     (attributesFrom (start .args .attributes .now) (start .args .source .now) (start .args .range .end - start .args .range .first) (start .args .range .first)) _ _ _ _ _ (start .args .content)
     s _ (start .args .control .mode) (start .pre .0) li (act2 .given .1) (λ x. close-text .ensures rooms p s (start .args .attributes .now) (start .args .source .now) pa hd x sz)
@@ -180,7 +181,7 @@ returns-4 : tie.Need-returns-4
 returns-4 c =
     let start = c .before .before .before .before .before .before .before .before .before .before .before .before in
     let enum-told2 = c .before .before .before .before .enum-told2 in
-    λ rooms p s name pa hd li sz. acted-list (levelOf (start .args .control .level)) (outputOf (start .args .control .output)) (start .args .control .seen)
+    λ rooms p s name pa lo hd li sz. acted-list (levelOf (start .args .control .level)) (outputOf (start .args .control .output)) (start .args .control .seen)
     (start .args .control .closed) (start .args .control .tally) name (marksOf (start .args .marks)) p rooms (start .args .range .first)
     (attributesFrom (start .args .attributes .now) (start .args .source .now) (start .args .range .end - start .args .range .first) (start .args .range .first)) _ _ _ _ _ (start .args .content)
     s _ (start .args .control .mode) (start .pre .0) li (enum-told2 .given .1) hd (c .before .before .open-list .ensures .1) (ap To (c .before .before .open-list .ensures .0))
@@ -196,7 +197,7 @@ returns-5 c =
     let start = c .before .before .before .before .before .before .before .before .before .before .before .before .before .before .before in
     let enum-told3 = c .before .before .before .before .before .before .before .enum-told3 in
     let read-property = c .before .before .before .before .read-property in
-    λ rooms p s name pa hd li sz. acted-property (levelOf (start .args .control .level)) (outputOf (start .args .control .output)) (start .args .control .seen)
+    λ rooms p s name pa lo hd li sz. acted-property (levelOf (start .args .control .level)) (outputOf (start .args .control .output)) (start .args .control .seen)
     (start .args .control .closed) (start .args .control .tally) name (marksOf (start .args .marks)) p rooms (start .args .range .first)
     (attributesFrom (start .args .attributes .now) (start .args .source .now) (start .args .range .end - start .args .range .first) (start .args .range .first)) _ _ _ _ _ (start .args .content)
     s _ (start .args .control .mode) (start .pre .0) li (enum-told3 .given .1) (λ x. read-property .ensures rooms p s (start .args .scratch .now) (marksOf (start .args .marks)) pa hd x sz)
@@ -204,7 +205,7 @@ returns-5 c =
 returns-6 : tie.Need-returns-6
 returns-6 c =
     let start = c .before .before .before .before .before .before .before .before .before in
-    λ rooms p s name pa hd li sz. acted-missing (levelOf (start .args .control .level)) (outputOf (start .args .control .output)) (start .args .control .seen)
+    λ rooms p s name pa lo hd li sz. acted-missing (levelOf (start .args .control .level)) (outputOf (start .args .control .output)) (start .args .control .seen)
     (start .args .control .closed) (start .args .control .tally) name (marksOf (start .args .marks)) p rooms (start .args .range .first)
     (attributesFrom (start .args .attributes .now) (start .args .source .now) (start .args .range .end - start .args .range .first) (start .args .range .first))
     _ _ _ _ _ (start .args .content) s _ (start .args .control .mode) (start .pre .0) pa (c .before .enum-told4 .given .1) (c .refused .ensures)
@@ -212,7 +213,7 @@ returns-6 c =
 returns-7 : tie.Need-returns-7
 returns-7 c =
     let start = c .before .before .before .before .before .before .before .before .before .before in
-    λ rooms p s name pa hd li sz. acted-broken (levelOf (start .args .control .level)) (outputOf (start .args .control .output)) (start .args .control .seen)
+    λ rooms p s name pa lo hd li sz. acted-broken (levelOf (start .args .control .level)) (outputOf (start .args .control .output)) (start .args .control .seen)
     (start .args .control .closed) (start .args .control .tally) name (marksOf (start .args .marks)) p rooms (start .args .range .first)
     (attributesFrom (start .args .attributes .now) (start .args .source .now) (start .args .range .end - start .args .range .first) (start .args .range .first))
     _ _ _ _ _ (start .args .content) s _ (start .args .control .mode) (start .pre .0) pa (c .before .before .act3 .given .1) (c .refused2 .ensures)
@@ -220,7 +221,7 @@ returns-7 c =
 returns-8 : tie.Need-returns-8
 returns-8 c =
     let start = c .before .before .before .before .before .before .before .before in
-    λ rooms p s name pa hd li sz. acted-pass (levelOf (start .args .control .level)) (outputOf (start .args .control .output)) (start .args .control .seen)
+    λ rooms p s name pa lo hd li sz. acted-pass (levelOf (start .args .control .level)) (outputOf (start .args .control .output)) (start .args .control .seen)
     (start .args .control .closed) (start .args .control .tally) name (marksOf (start .args .marks)) p rooms (start .args .range .first)
     (attributesFrom (start .args .attributes .now) (start .args .source .now) (start .args .range .end - start .args .range .first) (start .args .range .first))
     _ _ _ _ _ (start .args .content) s _ (start .args .control .mode) (start .pre .0) li hd refl (c .enum-told5 .given .1)
@@ -228,7 +229,7 @@ returns-8 c =
 returns-9 : tie.Need-returns-9
 returns-9 c =
     let start = c .before .before .before .before .before .before .before .before in
-    λ rooms p s name pa hd li sz. acted-skip (levelOf (start .args .control .level)) (outputOf (start .args .control .output)) (start .args .control .seen)
+    λ rooms p s name pa lo hd li sz. acted-skip (levelOf (start .args .control .level)) (outputOf (start .args .control .output)) (start .args .control .seen)
     (start .args .control .closed) (start .args .control .tally) name (marksOf (start .args .marks)) p rooms (start .args .range .first)
     (attributesFrom (start .args .attributes .now) (start .args .source .now) (start .args .range .end - start .args .range .first) (start .args .range .first))
     _ _ _ _ _ (start .args .content) s _ (start .args .control .mode) (start .pre .0) li hd refl (c .enum-told6 .given .1)
@@ -236,7 +237,7 @@ returns-9 c =
 returns-10 : tie.Need-returns-10
 returns-10 c =
     let start = c .before .before .before .before .before .before .before .before in
-    λ rooms p s name pa hd li sz. acted-text (levelOf (start .args .control .level)) (outputOf (start .args .control .output)) (start .args .control .seen)
+    λ rooms p s name pa lo hd li sz. acted-text (levelOf (start .args .control .level)) (outputOf (start .args .control .output)) (start .args .control .seen)
     (start .args .control .closed) (start .args .control .tally) name (marksOf (start .args .marks)) p rooms (start .args .range .first)
     (attributesFrom (start .args .attributes .now) (start .args .source .now) (start .args .range .end - start .args .range .first) (start .args .range .first))
     _ _ _ _ _ (start .args .content) s _ (start .args .control .mode) (start .pre .0) li hd refl (c .enum-told7 .given .1)
@@ -244,7 +245,7 @@ returns-10 c =
 returns-11 : tie.Need-returns-11
 returns-11 c =
     let start = c .before .before .before .before .before .before .before .before in
-    λ rooms p s name pa hd li sz. acted-end (levelOf (start .args .control .level)) (outputOf (start .args .control .output)) (start .args .control .seen)
+    λ rooms p s name pa lo hd li sz. acted-end (levelOf (start .args .control .level)) (outputOf (start .args .control .output)) (start .args .control .seen)
     (start .args .control .closed) (start .args .control .tally) name (marksOf (start .args .marks)) p rooms (start .args .range .first)
     (attributesFrom (start .args .attributes .now) (start .args .source .now) (start .args .range .end - start .args .range .first) (start .args .range .first))
     _ _ _ _ _ (start .args .content) s _ (start .args .control .mode) (start .pre .0) li hd refl (c .enum-told8 .given .1)
@@ -252,7 +253,7 @@ returns-11 c =
 returns-12 : tie.Need-returns-12
 returns-12 c =
     let start = c .before .before .before .before .before .before .before .before in
-    λ rooms p s name pa hd li sz. acted-stop (levelOf (start .args .control .level)) (outputOf (start .args .control .output)) (start .args .control .seen)
+    λ rooms p s name pa lo hd li sz. acted-stop (levelOf (start .args .control .level)) (outputOf (start .args .control .output)) (start .args .control .seen)
     (start .args .control .closed) (start .args .control .tally) name (marksOf (start .args .marks)) p rooms (start .args .range .first)
     (attributesFrom (start .args .attributes .now) (start .args .source .now) (start .args .range .end - start .args .range .first) (start .args .range .first))
     _ _ _ _ _ (start .args .content) s _ (start .args .control .mode) (start .pre .0) li hd refl (c .enum-told9 .given .1)

@@ -12,6 +12,7 @@ use Rattle.read_each.specs.inside.Promises.{attributesIn}
 use Rattle.read_state.specs.Control.{Level, Mode, at, Control, turn}
 use Rattle.read_state.specs.inside.Coded.{modeOf, controlOf, closing, actOf, turned}
 use Rattle.read_state.specs.declared.Act.{Act as CodedAct}
+use Rattle.read_state.specs.declared.Act.the-variants.{Close}
 use Rattle.read_state.specs.declared.Control.{Control as CodedControl}
 use Rattle.read_place.specs.Marks.{Marks, marksAfter}
 use Rattle.read_content.specs.Content.{Content, perform}
@@ -25,6 +26,7 @@ abbrev pub Closes : Level → Tally → Marks → CodedContent → (before after
 Closes l tally m c before after scratch r =
     (rooms : Rooms) (p : Place) (s : Content) (k : Control) (j : ℕ) (xs : List Attribute) (attributes source : List ℕ) → p .attribute ≡ nowhere
     → k .tally ≡ tally
+    → c .child ≡ c .description
     → Holds (before .records) (before .text) scratch attributes source c s
     → Lists (at l) m c s
     → Sized rooms (length (before .records)) (length (before .text)) (length scratch)
@@ -40,10 +42,12 @@ ReadyIn mode m range c t a scratch =
     × ((length (a .text) ≤ 16777216)
     × Carries mode m (a .records) (a .text) scratch (t .attributes) (t .source) c)))
 
--- an action is done with the attributes of a range, as `perform` says, and reading goes on where it leads
+-- an action is done with the attributes of a range, as `perform` says, and reading goes on where it leads; where an element is closed, no
+-- description is lost
 abbrev pub PerformsAct : CodedAct → Range → CodedControl → Marks → CodedContent → Table → (before after : Areas) (scratch : List ℕ) → Performed → Type 0
 PerformsAct act range control m c t before after scratch r =
     (rooms : Rooms) (p : Place) (s : Content) (name : List ℕ) → p .attribute ≡ nowhere
+    → (act ≡ Close → c .child ≡ c .description)
     → Holds (before .records) (before .text) scratch (t .attributes) (t .source) c s
     → Lists (modeOf control) m c s
     → Sized rooms (length (before .records)) (length (before .text)) (length scratch)

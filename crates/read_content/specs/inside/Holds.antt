@@ -58,17 +58,20 @@ pub record Listed (kind from : ℕ) (list : CodedList) (rs : List (List ℕ)) : 
   pub each : (i : ℕ) → list .first ≤ i → i < list .first + list .count → (from ≤ i) × (kindIn rs i ≡ kind)
 
 -- ---- what the areas hold
--- behind the records and the texts stored they are zero; scratch begins with the open description and the text of a child
+-- behind the records and the texts stored they are zero; scratch has the text of a child, and at its front the open description, if the
+-- child's begins behind that
 pub record Holds (words text scratch attributes source : List ℕ) (c : CodedContent) (s : Content) : Type 0 where
   pub room : ℕ
   pub left : ℕ
-  pub behind : List ℕ
   pub records : words ≡ joined (s .records) ++ zeros room
   pub whole : Whole (s .records)
   pub used : c .used ≡ length (s .records)
   pub stored : text ≡ s .texts ++ zeros left
   pub fill : c .fill ≡ length (s .texts)
-  pub pieces : scratch ≡ s .description ++ (s .gathered ++ behind)
+  pub within : c .description ≤ length scratch
+  pub begins : c .child ≤ c .description
+  pub described : c .child ≡ c .description → take (c .description) scratch ≡ s .description
+  pub behind : take (c .gathered) (drop (c .child) scratch) ≡ s .gathered
   pub description : c .description ≡ length (s .description)
   pub gathered : c .gathered ≡ length (s .gathered)
   pub free : Free attributes source (c .free .first) (c .free .end)
@@ -197,7 +200,7 @@ listOf status c = c .«case_list»
 
 abbrev pub content : (used fill description gathered reportAt : ℕ) → CodedList → CodedList → CodedContent → CodedContent
 content u f d g r sl cl c =
-    record { used = u; fill = f; description = d; gathered = g; «report_at» = r; «suite_list» = sl; «case_list» = cl; free = c .free }
+    record { used = u; fill = f; description = d; gathered = g; child = c .child; «report_at» = r; «suite_list» = sl; «case_list» = cl; free = c .free }
 
 abbrev pub withList : Level → CodedContent → CodedList → CodedContent
 withList top c l = content (c .used) (c .fill) (c .description) (c .gathered) (c .«report_at») l (c .«case_list») c
@@ -213,6 +216,7 @@ addedIn e c =
       fill = e .fill;
       description = c .description;
       gathered = c .gathered;
+      child = c .child;
       «report_at» = c .«report_at»;
       «suite_list» = c .«suite_list»;
       «case_list» = c .«case_list»;
@@ -244,4 +248,4 @@ statusEnd status m = m .statusAt
 -- ---- before the first event
 abbrev pub noContent : CodedContent
 noContent =
-    record { used = 0; fill = 0; description = 0; gathered = 0; «report_at» = 0; «suite_list» = noList; «case_list» = noList; free = record { first = 0; end = 0 } }
+    record { used = 0; fill = 0; description = 0; gathered = 0; child = 0; «report_at» = 0; «suite_list» = noList; «case_list» = noList; free = record { first = 0; end = 0 } }

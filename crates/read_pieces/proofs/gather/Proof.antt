@@ -1,24 +1,30 @@
-use native.Mathlib.Omega.{arith}
-use Prim.Native.Nat.{_+_}
-use mathlib.Core.Path.{sym, ap, _∙_}
-use Rattle.text.specs.Kept.{keptAnswer}
-use Rattle.refusal.specs.declared.Cause.the-variants.{ScratchFull, NotUtf8, BadReference, UnknownEntity}
-use Rattle.read_content.specs.declared.Performed.the-variants.{To}
+use Rattle.read_pieces.proofs.Gathering.{over-length}
+use Rattle.read_pieces.proofs.Gathering.{over-gathered}
+use Rattle.read_state.specs.declared.Mode.{Mode as CodedMode}
+use Rattle.read_content.specs.inside.Holds.{Sized}
+use lib.ListN.{length}
+use mathlib.Core.Path.{subst}
+use Prim.Native.Nat.{ℕ}
+use Rattle.read_pieces.proofs.Gathering.{from-fits, piece-fits, piece-told, over-holds, moves, both, neither}
+use Rattle.read_scratch.specs.inside.Places.{pieceFrom}
 use Rattle.table.specs.Event.{pieceKind, pieceBytes}
-use Rattle.read_pieces.proofs.Gathering.{piece-fits, piece-put, piece-not}
+use mathlib.Core.Path.{sym, ap, _∙_}
+use denote.Ref.{now}
+use native.Mathlib.Omega.{arith}
 use borrow.Author.Needs.{needs}
 use Rattle.read_pieces.proofs.gather.Statement.{statement}
 use Rattle.read_pieces.proofs.gather.Tie as tie
-use Rattle.refusal.specs.declared.Cause.the-variants as cause
 
-add-from : tie.Need-add-from
-add-from c = search needs
+piece-from-requires : tie.Need-piece-from-requires
+piece-from-requires c κs = search needs
 
 sub-gather-piece : tie.Need-sub-gather-piece
-sub-gather-piece c = search needs
+sub-gather-piece c = let f = from-fits (c .before .before .before .args .mode) (c .before .before .before .args .content)
+    (c .before .before .before .pre .0) (c .before .before .before .pre .1) (c .piece-from .ensures) in omega arith
 
 part-gather-piece-start : tie.Need-part-gather-piece-start
-part-gather-piece-start c = search needs
+part-gather-piece-start c = let f = from-fits (c .before .before .before .args .mode) (c .before .before .before .args .content)
+    (c .before .before .before .pre .0) (c .before .before .before .pre .1) (c .piece-from .ensures) in omega arith
 
 part-gather-piece-end : tie.Need-part-gather-piece-end
 part-gather-piece-end c = search needs
@@ -26,117 +32,76 @@ part-gather-piece-end c = search needs
 gather-piece-requires : tie.Need-gather-piece-requires
 gather-piece-requires c κs = search needs
 
-enum-known-piece : tie.Need-enum-known-piece
-enum-known-piece c = search needs
+is-full-requires : tie.Need-is-full-requires
+is-full-requires c κs = search needs
 
-joined-requires : tie.Need-joined-requires
-joined-requires c κs =
-    let args = c .before .before .before .before .before .before .before .before .before .before .args in
-    let pre = c .before .before .before .before .before .before .before .before .before .before .pre in
-    let gather-piece = c .before .before .before .before .before .gather-piece in
-    let h = piece-fits (args .scratch .now) (args .content .description + args .content .gathered) (c .before .piece .given .0 .0) (pieceKind (args .kind))
-    (pieceBytes (args .kind) (args .bytes .now)) pre (sym (ap (keptAnswer cause.ScratchFull) (c .before .piece .given .1)) ∙ gather-piece .ensures .0) in omega arith
+may-move-requires : tie.Need-may-move-requires
+may-move-requires c κs = search needs
 
-enum-told : tie.Need-enum-told
-enum-told c = search needs
-
-refused-requires : tie.Need-refused-requires
-refused-requires c κs = search needs
-
-enum-told-2 : tie.Need-enum-told-2
-enum-told-2 c = search needs
-
-refused-requires-2 : tie.Need-refused-requires-2
-refused-requires-2 c κs = search needs
-
-enum-told-3 : tie.Need-enum-told-3
-enum-told-3 c = search needs
-
-refused-requires-3 : tie.Need-refused-requires-3
-refused-requires-3 c κs = search needs
-
-enum-told-4 : tie.Need-enum-told-4
-enum-told-4 c = search needs
-
-refused-requires-4 : tie.Need-refused-requires-4
-refused-requires-4 c κs = search needs
+gather-over-requires : tie.Need-gather-over-requires
+gather-over-requires c κs = search needs
 
 same-length : tie.Need-same-length
 same-length c = search needs
 
 returns : tie.Need-returns
 returns c =
-    let args = c .before .before .before .before .before .before .before .before .before .before .before .args in
-    let gather-piece = c .before .before .before .before .before .before .gather-piece in
-    λ rooms p s l o m words text attributes source pa hd li sz. piece-put hd sz p pa (args .mode) l o m li (pieceKind (args .kind)) (pieceBytes (args .kind) (args .bytes .now))
-    (sym (ap (keptAnswer cause.ScratchFull) (c .before .before .piece .given .1)) ∙ gather-piece .ensures .0) (gather-piece .ensures .1) (ap To (c .joined .ensures))
+    let start = c .before .before .before .before .before .before .before .before .before .before .before .before .before .before in
+    let piece-from = c .before .before .before .before .before .before .before .before .before .before .before .piece-from in
+    let gather-piece = c .before .before .before .before .before .before .before .before .before .gather-piece in
+    let is-full = c .before .before .before .before .before .before .is-full in
+    let may-move = c .before .before .before .before .before .may-move in
+    let if1 = c .before .before .before .before .if1 in
+    let e = moves (start .args .mode) (start .args .content) (sym (may-move .ensures) ∙ both (is-full .result) (may-move .result) (if1 .taken)) in
+    λ rooms p s l o m words text attributes source pa ga hd li sz.
+    over-gathered (start .args .mode) l o m p words text _ attributes source (start .args .content) s rooms
+    (pieceKind (start .args .kind)) (pieceBytes (start .args .kind) (now (start .args .bytes))) _ e li
+    (λ x. c .before .before .gather-over .ensures rooms p s l o m words text attributes source pa
+    (over-holds hd (pieceKind (start .args .kind)) (pieceBytes (start .args .kind) (now (start .args .bytes))) (piece-from .result)
+    (piece-from .ensures ∙ ap (λ (k : CodedMode). pieceFrom k (start .args .content)) e) (gather-piece .ensures .1)) x
+    (subst (λ (n : ℕ). Sized rooms (length words) (length text) n) (sym (over-length (pieceKind (start .args .kind)) (pieceBytes (start .args .kind) (now (start .args .bytes)))
+    (start .args .scratch .now) (piece-from .result) (from-fits (start .args .mode) (start .args .content) (start .pre .0) (start .pre .1) (piece-from .ensures)) (gather-piece .ensures .1))) sz))
+
+told-requires : tie.Need-told-requires
+told-requires c κs =
+    let args = c .before .before .before .before .before .before .before .before .before .before .args in
+    let pre = c .before .before .before .before .before .before .before .before .before .before .pre in
+    let piece-from = c .before .before .before .before .before .before .before .piece-from in
+    let gather-piece = c .before .before .before .before .before .gather-piece in
+    let e = piece-from .ensures in
+    let h = piece-fits (args .scratch .now) (piece-from .result) (gather-piece .result) (pieceKind (args .kind)) (pieceBytes (args .kind) (now (args .bytes)))
+    (from-fits (args .mode) (args .content) (pre .0) (pre .1) e) (gather-piece .ensures .0) in
+    omega arith
 
 same-length-2 : tie.Need-same-length-2
 same-length-2 c = search needs
 
 returns-2 : tie.Need-returns-2
 returns-2 c =
-    let args = c .before .before .before .before .before .before .before .before .before .before .args in
-    let gather-piece = c .before .before .before .before .before .gather-piece in
-    λ rooms p s l o m words text attributes source pa hd li sz. piece-not hd sz p pa (args .mode) l o m li (pieceKind (args .kind)) (pieceBytes (args .kind) (args .bytes .now))
-    ScratchFull (sym (ap (keptAnswer cause.ScratchFull) (c .before .enum-told .given .1)) ∙ gather-piece .ensures .0) (c .refused .ensures)
-
-same-length-3 : tie.Need-same-length-3
-same-length-3 c = search needs
-
-returns-3 : tie.Need-returns-3
-returns-3 c =
-    let args = c .before .before .before .before .before .before .before .before .before .before .args in
-    let gather-piece = c .before .before .before .before .before .gather-piece in
-    λ rooms p s l o m words text attributes source pa hd li sz. piece-not hd sz p pa (args .mode) l o m li (pieceKind (args .kind)) (pieceBytes (args .kind) (args .bytes .now))
-    NotUtf8 (sym (ap (keptAnswer cause.ScratchFull) (c .before .enum-told2 .given .1)) ∙ gather-piece .ensures .0) (c .refused2 .ensures)
-
-same-length-4 : tie.Need-same-length-4
-same-length-4 c = search needs
-
-returns-4 : tie.Need-returns-4
-returns-4 c =
-    let args = c .before .before .before .before .before .before .before .before .before .before .args in
-    let gather-piece = c .before .before .before .before .before .gather-piece in
-    λ rooms p s l o m words text attributes source pa hd li sz. piece-not hd sz p pa (args .mode) l o m li (pieceKind (args .kind)) (pieceBytes (args .kind) (args .bytes .now))
-    BadReference (sym (ap (keptAnswer cause.ScratchFull) (c .before .enum-told3 .given .1)) ∙ gather-piece .ensures .0) (c .refused3 .ensures)
-
-same-length-5 : tie.Need-same-length-5
-same-length-5 c = search needs
-
-returns-5 : tie.Need-returns-5
-returns-5 c =
-    let args = c .before .before .before .before .before .before .before .before .before .before .args in
-    let gather-piece = c .before .before .before .before .before .gather-piece in
-    λ rooms p s l o m words text attributes source pa hd li sz. piece-not hd sz p pa (args .mode) l o m li (pieceKind (args .kind)) (pieceBytes (args .kind) (args .bytes .now))
-    UnknownEntity (sym (ap (keptAnswer cause.ScratchFull) (c .before .enum-told4 .given .1)) ∙ gather-piece .ensures .0) (c .refused4 .ensures)
+    let args = c .before .before .before .before .before .before .before .before .before .before .before .args in
+    let piece-from = c .before .before .before .before .before .before .before .before .piece-from in
+    let gather-piece = c .before .before .before .before .before .before .gather-piece in
+    λ rooms p s l o m words text attributes source pa ga hd li sz.
+    piece-told hd sz p pa (args .mode) l o m ga li (pieceKind (args .kind)) (pieceBytes (args .kind) (now (args .bytes))) (piece-from .result) (piece-from .ensures)
+    (gather-piece .result)
+    (λ x. sym (c .before .before .may-move .ensures)
+    ∙ neither (c .before .before .before .is-full .result) (c .before .before .may-move .result) (c .before .if1 .left) (c .before .before .before .is-full .ensures ∙ x))
+    (gather-piece .ensures .0) (gather-piece .ensures .1) (c .told .ensures)
 
 pub gather-spec : {M : Type 1} → statement M
 gather-spec =
     tie.close
     (tie.spec
-    add-from
+    piece-from-requires
     sub-gather-piece
     part-gather-piece-start
     part-gather-piece-end
     gather-piece-requires
-    enum-known-piece
-    joined-requires
-    enum-told
-    refused-requires
-    enum-told-2
-    refused-requires-2
-    enum-told-3
-    refused-requires-3
-    enum-told-4
-    refused-requires-4
+    is-full-requires
+    may-move-requires
+    gather-over-requires
     same-length
     returns
+    told-requires
     same-length-2
-    returns-2
-    same-length-3
-    returns-3
-    same-length-4
-    returns-4
-    same-length-5
-    returns-5)
+    returns-2)

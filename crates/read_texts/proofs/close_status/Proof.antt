@@ -20,7 +20,7 @@ kept-text-requires : tie.Need-kept-text-requires
 kept-text-requires c κs = search needs
 
 returns : tie.Need-returns
-returns c = λ rooms p s m attributes source mi pa hd li sz. none-described hd sz p pa m li (c .before .before .trim .ensures) (c .before .if1 .taken) (c .kept-text .ensures)
+returns c = λ rooms p s m attributes source mi pa lo hd li sz. none-described hd sz p pa m lo li (c .before .before .trim .ensures) (c .before .if1 .taken) (c .kept-text .ensures)
 
 keep-text-requires : tie.Need-keep-text-requires
 keep-text-requires c κs = search needs
@@ -45,7 +45,7 @@ returns-2 c =
     let trim = c .before .before .before .before .before .before .before .before .before .trim in
     let if1 = c .before .before .before .before .before .before .before .before .if1 in
     let keep-text = c .before .before .before .before .before .keep-text in
-    λ rooms p s m attributes source mi pa hd li sz. some-described hd sz p pa m (args .i) mi li (trim .ensures) (if1 .left)
+    λ rooms p s m attributes source mi pa lo hd li sz. some-described hd sz p pa m (args .i) mi lo li (trim .ensures) (if1 .left)
     (keep-text .result) (keep-text .ensures .0) (keep-text .ensures .1 .1) (keep-text .ensures .1 .0) (c .kept-text2 .ensures)
 
 pub close-status-spec : {M : Type 1} → statement M

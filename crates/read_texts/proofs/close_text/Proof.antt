@@ -42,8 +42,8 @@ kept-text-requires c κs =
     let args = c .before .before .before .before .before .before .before .before .before .before .before .before .before .before .before .before .args in
     let pre = c .before .before .before .before .before .before .before .before .before .before .before .before .before .before .before .before .pre in
     let keep-text = c .before .before .before .before .keep-text in
-    let h = end-fits (keep-text .result) (length (args .text .now)) (args .content .fill) (cleaned (take (args .content .description + args .content .gathered - args .content .description)
-    (drop (args .content .description) (args .scratch .now)))) (pre .1 .0) (keep-text .ensures .0) in let l = pre .1 .1 .0 in omega arith
+    let h = end-fits (keep-text .result) (length (args .text .now)) (args .content .fill) (cleaned (take (args .content .child + args .content .gathered - args .content .child)
+    (drop (args .content .child) (args .scratch .now)))) (pre .1 .0) (keep-text .ensures .0) in let l = pre .1 .1 .0 in omega arith
 
 same-length : tie.Need-same-length
 same-length c = search needs

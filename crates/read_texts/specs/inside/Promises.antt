@@ -13,10 +13,11 @@ use Rattle.read_content.specs.declared.Performed.{Performed}
 use Rattle.read_element.specs.inside.Refines.{Areas}
 use Rattle.read_content.specs.inside.Holds.{Holds, Lists, Sized, Performs}
 
--- the open description is put into record i, as `describing` says, and reading goes on in the case
+-- the open description, if no child's text was put over it, is put into record i, as `describing` says, and reading goes on in the case
 abbrev pub ClosesStatus : ℕ → CodedContent → (before after : Areas) (scratch : List ℕ) → Performed → Type 0
 ClosesStatus i c before after scratch r =
     (rooms : Rooms) (p : Place) (s : Content) (m : Marks) (attributes source : List ℕ) → m .statusAt ≡ i → p .attribute ≡ nowhere
+    → c .child ≡ c .description
     → Holds (before .records) (before .text) scratch attributes source c s
     → Lists (at status) m c s
     → Sized rooms (length (before .records)) (length (before .text)) (length scratch)

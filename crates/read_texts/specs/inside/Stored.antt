@@ -10,11 +10,22 @@ use Rattle.read_content.specs.Content.{kept}
 use Rattle.read_content.specs.declared.Content.{Content as CodedContent}
 use Rattle.read_content.specs.declared.Performed.{Performed}
 use Rattle.read_content.specs.declared.Performed.the-variants.{To, Not}
-use Rattle.read_content.specs.inside.Holds.{inRecord, faultOf, content}
+use Rattle.read_content.specs.inside.Holds.{inRecord, faultOf}
 
--- a text of n bytes more is stored, and `description` bytes of scratch are left
-abbrev pub storedIn : ℕ → ℕ → CodedContent → CodedContent
-storedIn n description c = content (c .used) (c .fill + n) description 0 (c .«report_at») (c .«suite_list») (c .«case_list») c
+-- a text of n bytes more is stored, the description has so many bytes, and a child's text begins there
+abbrev pub storedIn : (n description child : ℕ) → CodedContent → CodedContent
+storedIn n description child c =
+    record {
+      used = c .used;
+      fill = c .fill + n;
+      description = description;
+      gathered = 0;
+      child = child;
+      «report_at» = c .«report_at»;
+      «suite_list» = c .«suite_list»;
+      «case_list» = c .«case_list»;
+      free = c .free;
+    }
 
 abbrev pub storedEnd : ℕ → Stored → ℕ
 storedEnd fill (Put n) = fill + n
@@ -25,6 +36,6 @@ abbrev pub keptWords : Stored → Bool → ℕ → ℕ → ℕ → ℕ → List 
 keptWords (Put n) taken i o k start words = inRecord i (kept taken (putText o k start n)) words
 keptWords Full taken i o k start words = words
 
-abbrev pub keptTo : Stored → ℕ → CodedContent → Performed
-keptTo (Put n) description c = To (storedIn n description c)
-keptTo Full description c = Not (faultOf TextFull)
+abbrev pub keptTo : Stored → (description child : ℕ) → CodedContent → Performed
+keptTo (Put n) description child c = To (storedIn n description child c)
+keptTo Full description child c = Not (faultOf TextFull)
