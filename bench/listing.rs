@@ -6,7 +6,7 @@ use std::time::Instant;
 mod call;
 mod table;
 
-use table::{report, Table};
+use table::{interleaved, report, reruns, Table};
 
 struct Areas { records: Vec<u32>, text: Vec<u8>, scratch: Vec<u8>, out: Vec<u8> }
 
@@ -45,6 +45,19 @@ fn main() {
     assert!(n > 500_000);
     with_crate(&t, &listing, ours);
     if cfg!(with_crate) { return; }
+
+    // gathered texts, with scratch for all of them and for the longest alone
+    for (name, (x, longest)) in [("10,900 reruns", reruns()), ("one rerun of 65,526 events", interleaved())] {
+        a.scratch.resize(4 << 20, 0);
+        let roomy = best(&format!("{name}, scratch of 4 MiB"), 20, || run(&x, &mut a));
+        let n = run(&x, &mut a);
+        let listing = a.out[..n].to_vec();
+        a.scratch.truncate(longest);
+        let short = best(&format!("{name}, scratch of {longest} bytes"), 20, || run(&x, &mut a));
+        let n = run(&x, &mut a);
+        assert!(n > 100 && a.out[..n] == listing[..]);
+        println!("ratio: {:.3}", short / roomy);
+    }
 
     let mut x = Table::default();
     for _ in 0..65_536 { x.event(0, "testsuites", &[]); }

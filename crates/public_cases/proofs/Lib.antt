@@ -1,3 +1,3 @@
 pub mod Cases
 pub mod OneCall
-pub mod Scratch
+pub mod ShortAreas

@@ -2,3 +2,4 @@ pub mod Document
 pub mod Reports
 pub mod Cases
 pub mod OneCall
+pub mod ShortAreas

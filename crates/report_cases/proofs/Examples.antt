@@ -327,10 +327,14 @@ abbrev extra-room : Case
 extra-room = tells (record { records = some 3; text = some 3; scratch = some 0 })
     (inReport (alone (bytes "testsuite") (name (bytes "s") ∷ attribute (bytes "x") (bytes "1") ∷ attribute (bytes "&#120;") (bytes "3") ∷ []) ∷ [])) (some cause.TextFull)
 
--- description and text share scratch (rule M6)
-abbrev scratch-shared : Case
-scratch-shared = tells (record { records = some 9; text = some 9; scratch = some 2 })
-    (inCase (holding (bytes "flakyError") [] (Piece Chars (bytes "ab") ∷ texted (bytes "stackTrace") (bytes "c")))) (some cause.ScratchFull)
+-- each gathered text has scratch for itself (rule M6), a description also behind a child
+abbrev scratch-apart : Case
+scratch-apart = tells (record { records = some 9; text = some 9; scratch = some 2 })
+    (inCase (holding (bytes "flakyError") [] (Piece Chars (bytes "ab") ∷ texted (bytes "stackTrace") (bytes "cd")))) none
+
+abbrev scratch-behind : Case
+scratch-behind = tells (record { records = some 9; text = some 9; scratch = some 2 })
+    (inCase (holding (bytes "flakyError") [] (Piece Chars (bytes "ab") ∷ texted (bytes "stackTrace") (bytes "c") ++ (Piece Chars (bytes "d") ∷ [])))) (some cause.ScratchFull)
 
 -- ---- values, room and order
 -- a value is tested wherever its key is read, and as what its key says (rules A5, A6 and V1)
@@ -578,8 +582,9 @@ fault-behind = tells unlimited (alone (bytes "testsuites") [] ∷ Fault ∷ []) 
 abbrev examples : List Case
 examples = list-replaced ∷ empty-list-replaces ∷ case-list ∷ outputs-replaced ∷ case-outputs ∷ pieces-joined ∷ second-report ∷ later-suite ∷ flaky-runs ∷ flaky-error ∷ reruns ∷ no-runs
     ∷ skipped-case ∷ two-mains ∷ next-case ∷ run-texts ∷ main-texts ∷ blank-description ∷ extra-replaced ∷ case-extra ∷ no-extra ∷ report-attributes ∷ report-uuid ∷ case-attributes
-    ∷ unnamed-suite ∷ unnamed-case ∷ mark-first ∷ repeated ∷ bad-time ∷ room-kept ∷ room-enough ∷ replaced-extra-room ∷ extra-room ∷ scratch-shared ∷ bad-disabled ∷ bad-assertions ∷ bad-value
-    ∷ bad-type ∷ bad-timestamp ∷ bad-extra ∷ bad-extra-key ∷ decoded ∷ no-value ∷ status-extra ∷ extra-record ∷ record-first ∷ run-moment ∷ suites-in-order ∷ output-room ∷ name-first
+    ∷ unnamed-suite ∷ unnamed-case ∷ mark-first ∷ repeated ∷ bad-time ∷ room-kept ∷ room-enough ∷ replaced-extra-room ∷ extra-room ∷ scratch-apart ∷ scratch-behind
+    ∷ bad-disabled ∷ bad-assertions ∷ bad-value ∷ bad-type ∷ bad-timestamp ∷ bad-extra ∷ bad-extra-key
+    ∷ decoded ∷ no-value ∷ status-extra ∷ extra-record ∷ record-first ∷ run-moment ∷ suites-in-order ∷ output-room ∷ name-first
     ∷ whole-report ∷ whole-suite ∷ late-suite-parts ∷ whole-case ∷ whole-run ∷ whole-main ∷ main-output ∷ main-first ∷ filtered-description ∷ bad-report-timestamp
     ∷ bad-report-time ∷ bad-key ∷ bad-message ∷ named-status ∷ key-first ∷ extra-path ∷ repeated-later ∷ second-extra ∷ decoded-room ∷ description-room
     ∷ pieces-shared ∷ scratch-back ∷ faulty-second ∷ behind-text ∷ text-outside ∷ unclosed ∷ closed ∷ fault-behind ∷ []
@@ -600,4 +605,4 @@ examples-hold =
     (one refl (one refl (one refl (one refl (one refl (one refl (one refl (one refl (one refl (one refl (one refl (one refl (one refl (one refl (one refl (one refl
     (one refl (one refl (one refl (one refl (one refl (one refl (one refl (one refl (one refl (one refl (one refl (one refl (one refl (one refl (one refl (one refl
     (one refl (one refl (one refl (one refl (one refl (one refl (one refl (one refl (one refl
-    (one refl (one refl (one refl (one refl (one refl none-left)))))))))))))))))))))))))))))))))))))))))))))))))))))))))))))))))))))))))))))
+    (one refl (one refl (one refl (one refl (one refl (one refl none-left))))))))))))))))))))))))))))))))))))))))))))))))))))))))))))))))))))))))))))))

@@ -1,5 +1,5 @@
 -- Demand 2, whole: each of its claims holds. Assumes nothing.
-use Prim.Native.Nat.{ℕ, _/_, min, _≤_}
+use Prim.Native.Nat.{ℕ, _+_, _/_, min, _≤_}
 use mathlib.Core.Path.{_≡_, refl, sym, ap, _∙_}
 use mathlib.Core.List.{List}
 use mathlib.Core.Bool.{Bool, true, cond}
@@ -15,19 +15,19 @@ use Rattle.refusal.specs.declared.Cause.the-variants.{BadTable, OutputFull}
 use Rattle.tree_report.specs.Report.{Report}
 use Rattle.tree_report.specs.Encode.{rowsOf, wordsOf, textOf, fits as fitsAreas}
 use Rattle.tree_report.proofs.Encode.{encode-layout, encode-report}
-use Rattle.read_element.specs.Outcome.{_>>=_, roomsOf, unlimited}
+use Rattle.read_element.specs.Outcome.{_>>=_, Rooms, roomsOf, unlimited}
 use Rattle.read_element.proofs.Rooms.{short-refusal}
 use Rattle.read_machine.specs.Machine.{Machine, run, begin}
 use Rattle.read_machine.specs.Reading.{Read, readAs, reading}
 use Rattle.read_machine.specs.Reading as present
 use Rattle.read_machine.proofs.RoomsNumbers.{run-number, rules-not-short}
-use Rattle.read_machine.proofs.RoomsReading.{table-refuses, reading-refuses, deserialize-refuses, areas-suffice}
+use Rattle.read_machine.proofs.RoomsReading.{reportIn, table-refuses, reading-refuses, deserialize-refuses, areas-suffice}
 use Rattle.read_report.specs.Deserialize.{Reader, steps, deserialize, deserializeIn}
 use Rattle.read_report.specs.Deserialize as new
 use Rattle.read_report.specs.Answer.{Table, Areas, eventsOf, checked, answerTo, Holds}
 use Rattle.read_report.specs.Called.{called}
 use Rattle.read_report.proofs.Tables.{report-on-values, refused-on-values, refused-over-words, refusal-on-values, refusal-over-words}
-use Rattle.read_report.proofs.Tables.{accepted-over-words, accepted-on-values, accepts-only, run-behind}
+use Rattle.read_report.proofs.Tables.{accepted-over-words, accepted-on-values, accepts-only, run-behind, refused-there, same-in}
 use Rattle.write_report.specs.Written.{written}
 use Rattle.write_table.specs.Laid.{laidOut, fits}
 use Rattle.write_answer.specs.Answer.{Sizes, outcomeOf}
@@ -36,8 +36,11 @@ use Rattle.list_text.specs.Listing.{render}
 use Rattle.public_claims.specs.Demand3.{listedIn, printed, listing, IsReport, RefusesTable, RefusesEvents, LacksRoom}
 use Rattle.round_elements.specs.Plain.{plain, sound}
 use Rattle.round_sound.proofs.Sound.{layout-sound, layout-rows, layout-room}
-use Rattle.round_rooms.proofs.Sufficing.{reading-roomy}
-use Rattle.round_rooms.proofs.Sparing.{reading-spared}
+use Rattle.round_rooms.specs.inside.Sums.{pieces}
+use Rattle.round_rooms.proofs.Sufficing.{run-suffices}
+use Rattle.round_rooms.proofs.Sparing.{run-spared}
+use Rattle.scratch_claims.specs.Scratch.{longest}
+use Rattle.scratch_claims.proofs.Scratch.{enough}
 use Rattle.round_report.proofs.PlainParts.{conditions}
 use Rattle.round_report.proofs.Reports.{read-back}
 use Rattle.round_trip.proofs.OwnTable.{own-bytes, Roomy, own-accepted}
@@ -64,6 +67,11 @@ short-number : (why : Refused) → LacksRoom why → 12 ≤ number (why .cause)
 short-number why (inl e) = let z : number (why .cause) ≡ 12 = ap number e in omega arith
 short-number why (inr (inl e)) = let z : number (why .cause) ≡ 13 = ap number e in omega arith
 short-number why (inr (inr e)) = let z : number (why .cause) ≡ 14 = ap number e in omega arith
+
+-- what the rules of reading refuse has one of their numbers
+events-number : (t : Table) (why : Refused) → RefusesEvents t why → OfRules (number (why .cause))
+unfolding present.deserialize
+events-number t why e = run-number (eventsOf t) begin why (refused-there reportIn (run unlimited (eventsOf t) begin) why (refused-over-words t why e))
 
 module _ (t : Table) (a : Areas) where
   refuses-table : (why : Refused) → RefusesTable t why → answerTo t a ≡ refused why
@@ -124,39 +132,43 @@ module _ (t : Table) (a : Areas) where
   unfolding deserialize deserializeIn _>>=_
   ends-with y e = ap (λ (o : Outcome Reader). o >>= λ s. accepted (s .draft .report)) e
 
+  -- scratch that holds the longest text is as good as more: what more scratch doesn't cut off, this one doesn't
+  abbrev roomy : ℕ → Rooms
+  roomy k = record { records = some (min (a .words / 32) mostRecords); text = some (min (a .text) mostBytes); scratch = some k }
+
+  free-of : (k : ℕ) → longest (eventsOf t) ≤ min (a .scratch) mostBytes → min (a .scratch) mostBytes ≤ k
+      → run (roomy k) (eventsOf t) begin ≡ run unlimited (eventsOf t) begin → answerTo t a ≡ checked t >>= λ _. deserialize (eventsOf t)
+  unfolding answerTo deserialize
+  free-of k l m e =
+      let here = enough (roomy k) (min (a .scratch) mostBytes) (eventsOf t) l in
+      let there = enough (roomy k) k (eventsOf t) (omega (arith, l, m)) in
+      ap (λ (o : Outcome Report). checked t >>= λ _. o) (here ∙ sym there ∙ same-in t (roomy k) unlimited e)
+
   areas-enough : Passes t → (s : Suffice t a) → answerTo t a ≡ accepted (s .last .draft .report)
-  unfolding readAs
+  unfolding _>>=_
   areas-enough p h =
       let b = run-behind t (h .last) (h .ends) in
       let x : length (b .machine .content .records) ≤ min (a .words / 32) mostRecords = let e = b .final .records in let l = h .records in omega (arith, e, l) in
       let y : length (b .machine .content .texts) ≤ min (a .text) mostBytes = let e = b .final .text in let l = h .texts in omega (arith, e, l) in
-      answers-with (h .last .draft .report)
-      (ap (λ (r : Read). r .outcome) (reading-roomy (t .events) (t .attributes) (t .source) (a .words) (a .text) (a .scratch) (b .machine) p (b .ran) x y (h .scratch)))
-      (ends-with (h .last) (h .ends))
-
-  run-refuses : (o : Outcome Machine) (why : Refused) → readAs (a .words) (a .text) (a .scratch) o .outcome ≡ refused why → o ≡ refused why
-  unfolding readAs
-  run-refuses (accepted s) why e = both-answers refl e
-  run-refuses (refused q) why e = let z : q ≡ why = same-refusal refl e in ap refused z
+      let k : ℕ = min (a .scratch) mostBytes + pieces (eventsOf t) in
+      free-of k (h .scratch) (omega arith)
+      (run-suffices (eventsOf t) (b .machine) (min (a .words / 32) mostRecords) (min (a .text) mostBytes) k (b .ran) x y (omega arith) ∙ sym (b .ran))
+      ∙ ap (λ (o : Outcome (Unit {0})). o >>= λ _. deserialize (eventsOf t)) p
+      ∙ ends-with (h .last) (h .ends)
 
   never-short : Ample t a → ¬ Short t a
   unfolding _>>=_
   never-short h s = go (either (checked t))
     where
-      free : Outcome Machine
-      free = run unlimited (eventsOf t) begin
-
-      refuses : called t a .outcome ≡ refused (s .why)
-      refuses = refusal-over-words t a (s .why) (s .refuses)
-
-      spared : called t a .outcome ≡ readAs (a .words) (a .text) (a .scratch) (checked t >>= λ _. free) .outcome
-      spared = ap (λ (r : Read). r .outcome) (reading-spared (t .events) (t .attributes) (t .source) (a .words) (a .text) (a .scratch) (h .records) (h .texts) (h .scratch))
+      free : answerTo t a ≡ checked t >>= λ _. deserialize (eventsOf t)
+      free =
+          let k : ℕ = min (a .scratch) mostBytes + pieces (eventsOf t) in
+          free-of k (h .scratch) (omega arith) (run-spared (min (a .words / 32) mostRecords) (min (a .text) mostBytes) k (eventsOf t) (h .records) (h .texts) (omega arith))
 
       go : ((u : Unit {0}) × (checked t ≡ accepted u)) ⊎ ((why : Refused) × RefusesTable t why) → ⊥
       go (inl p) =
-          let e : called t a .outcome ≡ readAs (a .words) (a .text) (a .scratch) free .outcome =
-          spared ∙ ap (λ (o : Outcome (Unit {0})). readAs (a .words) (a .text) (a .scratch) (o >>= λ _. free) .outcome) (p .1) in
-          rules-not-short (s .why .cause) (run-number (eventsOf t) begin (s .why) (run-refuses free (s .why) (sym e ∙ refuses))) (s .lacks)
+          let e : deserialize (eventsOf t) ≡ refused (s .why) = sym (ap (λ (o : Outcome (Unit {0})). o >>= λ _. deserialize (eventsOf t)) (p .1)) ∙ sym free ∙ s .refuses in
+          rules-not-short (s .why .cause) (events-number t (s .why) e) (s .lacks)
       go (inr q) =
           let z : q .0 ≡ s .why = same-refusal (refuses-table (q .0) (q .1)) (s .refuses) in
           let e : number (s .why .cause) ≡ 11 = ap (λ (w : Refused). number (w .cause)) (sym z) ∙ ap number (table-refuses (t .events) (t .attributes) (t .source) (q .0) (q .1)) in

@@ -6,7 +6,7 @@
 --   deserialize, deserializeIn (crate read_report: Deserialize)  the report that the rules of reading give for events, with no areas; and in areas
 --   steps, begin (crate read_report: Deserialize)                the same event by event, with the room that is taken
 --   answerTo, Holds (crate read_report: Answer)                  what reading a table answers; when two areas hold a report
---   pieces (crate round_rooms: Pieces)                           the bytes of the texts that go through scratch
+--   longest (crate scratch_claims: Scratch)                      the length of the longest single text that is gathered in scratch
 --   mostRecordsOf, mostTextOf (crate round_rooms: Needs)         the records and bytes of text that a table's events take at most
 --   layout, reportOf (crate tree_report: Layout, ReportOf)       docs/TREE.md: whether two areas are a layout; the report that they hold
 --   rowsOf, fits (crate tree_report: Encode)                     a report's records; whether records and texts fit two areas, and values are a layout's
@@ -43,8 +43,8 @@ use Rattle.list_text.specs.Listing.{render}
 use Rattle.public_claims.specs.Demand3.{listing, IsReport, RefusesTable, RefusesEvents, LacksRoom}
 use Rattle.round_elements.specs.Plain.{plain, sound}
 use Rattle.round_sound.specs.Words.{areWords}
-use Rattle.round_rooms.specs.Pieces.{pieces}
 use Rattle.round_rooms.specs.Needs.{mostRecordsOf, mostTextOf}
+use Rattle.scratch_claims.specs.Scratch.{longest}
 
 -- ---- what the claims speak of
 -- 11 lets the table pass
@@ -58,19 +58,19 @@ pub record Short (t : Table) (a : Areas) : Type 0 where
   pub lacks : LacksRoom why
 
 -- areas that suffice for an accepted table: for the records and the bytes of text that are taken where areas have no limit, and for the
--- pieces of all texts
+-- longest gathered text
 pub record Suffice (t : Table) (a : Areas) : Type 0 where
   pub last : Reader
   pub ends : steps unlimited (eventsOf t) begin ≡ accepted last
   pub records : last .draft .used .records ≤ min (a .words / 32) mostRecords
   pub texts : last .draft .used .text ≤ min (a .text) mostBytes
-  pub scratch : pieces (eventsOf t) ≤ min (a .scratch) mostBytes
+  pub scratch : longest (eventsOf t) ≤ min (a .scratch) mostBytes
 
 -- areas that suffice for any table of these events, whatever becomes of it
 pub record Ample (t : Table) (a : Areas) : Type 0 where
   pub records : mostRecordsOf (eventsOf t) ≤ min (a .words / 32) mostRecords
   pub texts : mostTextOf (eventsOf t) ≤ min (a .text) mostBytes
-  pub scratch : pieces (eventsOf t) ≤ min (a .scratch) mostBytes
+  pub scratch : longest (eventsOf t) ≤ min (a .scratch) mostBytes
 
 -- each of these areas is at least as long as its counterpart
 pub record Longer (a b : Areas) : Type 0 where

@@ -32,7 +32,7 @@ use Rattle.round_elements.specs.inside.Opened.{Lasting, ReportShown, Opened}
 use Rattle.round_elements.specs.inside.Read.{Leads, settled, Stands}
 use Rattle.round_elements.proofs.Places.{report-later}
 use Rattle.round_elements.proofs.Elements.{report-opened}
-use Rattle.round_rooms.specs.Pieces.{pieces}
+use Rattle.round_rooms.specs.inside.Sums.{pieces}
 use Rattle.round_rooms.specs.Needs.{mostRecordsOf, mostTextOf}
 use Rattle.round_rooms.proofs.AlikeSteps.{Within}
 use Rattle.round_rooms.proofs.Sparing.{run-takes}

@@ -12,7 +12,8 @@ use Rattle.table.specs.Table.{word, countOf}
 use Rattle.tree_report.proofs.EncodeLists.{Each, done, more}
 use Rattle.write_table.specs.Laid.{Item, entry, pair, itemsOfEvent, itemsOf, laidBytes}
 use Rattle.write_table.proofs.Writing.{items-append}
-use Rattle.round_rooms.specs.Pieces.{eventSize, pieces}
+use Rattle.round_rooms.specs.Pieces.{eventSize}
+use Rattle.round_rooms.specs.inside.Sums.{pieces}
 use Rattle.round_rooms.specs.Needs.{eventBytes, mostTextOf}
 
 pub laid-append : (is js : List Item) → length (laidBytes (is ++ js)) ≡ length (laidBytes is) + length (laidBytes js)

@@ -1,4 +1,4 @@
--- A description and the text behind it are never longer than the pieces that were read. Assumes nothing.
+-- A description and a child's text together are never longer than the pieces that were read. Assumes nothing.
 use Prim.Native.Nat.{ℕ, _+_, _≤_}
 use mathlib.Core.Path.{_≡_, refl, ap, subst}
 use mathlib.Core.List.{List, []}

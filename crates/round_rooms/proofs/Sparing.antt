@@ -1,18 +1,14 @@
 -- Areas that hold as much as the events of a table can take never fall short, whether the table is accepted or refused. Assumes nothing.
-use Prim.Native.Nat.{ℕ, _+_, _/_, min, _≤_}
-use mathlib.Core.Path.{_≡_, ap}
+use Prim.Native.Nat.{ℕ, _+_, _≤_}
+use mathlib.Core.Path.{_≡_}
 use mathlib.Core.List.{List, [], _∷_}
 use native.Mathlib.Omega.{arith}
 use lib.ListN.{length}
-use Rattle.area.specs.Limits.{mostRecords, mostBytes}
-use Rattle.refusal.specs.Refusal.{Outcome}
-use Rattle.table.specs.Event.{Event, Eof, resolve}
-use Rattle.table.specs.Table.{tableOf}
-use Rattle.read_element.specs.Outcome.{_>>=_, unlimited}
+use Rattle.table.specs.Event.{Event, Eof}
+use Rattle.read_element.specs.Outcome.{unlimited}
 use Rattle.read_element.proofs.TreeOutcome.{Holds}
 use Rattle.read_machine.specs.Machine.{Machine, run, begin}
-use Rattle.read_machine.specs.Reading.{reading, readAs}
-use Rattle.round_rooms.specs.Pieces.{pieces}
+use Rattle.round_rooms.specs.inside.Sums.{pieces}
 use Rattle.round_rooms.specs.Needs.{mostRecordsOf, mostTextOf}
 use Rattle.round_rooms.proofs.Elements.{rooms}
 use Rattle.round_rooms.proofs.Scratch.{taken}
@@ -36,14 +32,3 @@ module _ (n m k : ℕ) where
 -- what reading leaves takes no more than that
 pub run-takes : (es : List Event) → Holds (λ (t : Machine). Within (0 + mostRecordsOf es) (0 + (0 + 0) + mostTextOf es) (0 + 0 + pieces es) (t .content)) (run unlimited es begin)
 run-takes es = alike-holds (run-alike (mostRecordsOf es) (mostTextOf es) (pieces es) es begin (omega arith) (omega arith) (omega arith))
-
--- the same for areas of any length
-pub reading-spared : (events attributes source : List ℕ) (words text scratch : ℕ) →
-    mostRecordsOf (resolve events attributes source) ≤ min (words / 32) mostRecords →
-    mostTextOf (resolve events attributes source) ≤ min text mostBytes →
-    pieces (resolve events attributes source) ≤ min scratch mostBytes →
-    reading events attributes source words text scratch ≡ readAs words text scratch (tableOf events attributes source >>= λ _. run unlimited (resolve events attributes source) begin)
-unfolding reading
-reading-spared events attributes source words text scratch h l o =
-    ap (λ (r : Outcome Machine). readAs words text scratch (tableOf events attributes source >>= λ _. r))
-    (run-spared (min (words / 32) mostRecords) (min text mostBytes) (min scratch mostBytes) (resolve events attributes source) h l o)

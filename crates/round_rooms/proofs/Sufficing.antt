@@ -12,7 +12,7 @@ use Rattle.table.specs.Table.{tableOf}
 use Rattle.read_element.specs.Outcome.{_>>=_, unlimited, roomsOf}
 use Rattle.read_machine.specs.Machine.{Machine, run, begin}
 use Rattle.read_machine.specs.Reading.{reading, readAs}
-use Rattle.round_rooms.specs.Pieces.{pieces}
+use Rattle.round_rooms.specs.inside.Sums.{pieces}
 use Rattle.round_rooms.proofs.Suiting.{Suits, suited, bind-held}
 use Rattle.round_rooms.proofs.Elements.{rooms}
 use Rattle.round_rooms.proofs.Scratch.{taken, step-reaches}

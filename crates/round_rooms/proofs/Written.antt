@@ -16,7 +16,8 @@ use Rattle.write_report.specs.Written.{stamped, timed, statusAttributes, caseAt
 use Rattle.write_report.specs.Written.{serializeOutput, serializeProperty, serializeProperties, serializeOutputs, serializeStatus}
 use Rattle.write_report.specs.Written.{serializeRerun, serializeElements, serializeTestCase, serializeTestSuite, serializeReport}
 use Rattle.write_table.specs.Laid.{Item, itemsOfEvent, itemsOf, pairsOf, laidBytes, laidOut}
-use Rattle.round_rooms.specs.Pieces.{eventSize, pieces}
+use Rattle.round_rooms.specs.Pieces.{eventSize}
+use Rattle.round_rooms.specs.inside.Sums.{pieces}
 use Rattle.round_rooms.specs.Needs.{attributeBytes, mostTextOf}
 use Rattle.round_rooms.proofs.Covering.{laidSize, laid-first, laid-events, text-append, pieces-stored}
 

@@ -1,6 +1,6 @@
--- How many bytes of scratch the texts of a table take at most. Definitions only.
-use Prim.Native.Nat.{ℕ, _+_}
-use mathlib.Core.List.{List, [], _∷_}
+-- How many bytes a piece gives at most. Definitions only.
+use Prim.Native.Nat.{ℕ}
+use mathlib.Core.List.{List}
 use lib.ListN.{length}
 use Rattle.table.specs.Event.{PieceKind, Text, CData, Ref, Other, Indent, Event, Tag, Piece, Eof, Fault}
 
@@ -17,7 +17,3 @@ eventSize (Tag kind name first attributes) = 0
 eventSize (Piece kind s) = pieceSize kind s
 eventSize Eof = 0
 eventSize Fault = 0
-
-unfoldable pub pieces : List Event → ℕ
-pieces [] = 0
-pieces (e ∷ es) = eventSize e + pieces es

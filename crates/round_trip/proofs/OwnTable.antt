@@ -25,7 +25,7 @@ use Rattle.write_report.specs.Written.{written}
 use Rattle.write_table.specs.Laid.{laidOut}
 use Rattle.write_resolved.proofs.Resolved.{resolve-written, table-written}
 use Rattle.round_elements.specs.Plain.{plain, sound}
-use Rattle.round_rooms.specs.Pieces.{pieces}
+use Rattle.round_rooms.specs.inside.Sums.{pieces}
 use Rattle.round_rooms.proofs.Sufficing.{run-suffices, reading-roomy}
 use Rattle.round_rooms.proofs.Written.{pieces-written}
 use Rattle.round_report.proofs.PlainParts.{conditions}

@@ -26,7 +26,7 @@ use Rattle.read_rules.specs.Rules.{planAt, planEof, planFault}
 use Rattle.read_place.specs.Marks.{onward}
 use Rattle.read_path.specs.Paths.{modePath, actPlace}
 use Rattle.read_content.specs.Content.{pieceOf, isEmpty}
-use Rattle.read_report.specs.Deserialize.{Draft, Reader, own, joinPiece, gather, perform, act, step, steps, begin, deserializeIn}
+use Rattle.read_report.specs.Deserialize.{onProperties, Draft, draft, Reader, own, joinPiece, gather, perform, act, step, steps, begin, deserializeIn}
 use Rattle.read_report.specs.Answer.{Table, Areas, eventsOf, checked, answerTo}
 use Rattle.scratch_claims.specs.Scratch.{bound, unbound, openLength, behindStep, longestFrom, longest, fullAt, passing, orElse, Scratch}
 use Rattle.scratch_claims.proofs.Related.{performs}
@@ -75,7 +75,7 @@ perform-opens rooms p closeCase j xs k d = needed (ruled (k .tally)) p cause.Sta
 perform-opens rooms p closeStatus j xs k d = either (isEmpty (trimmed (d .description))) (λ e. accept (omega arith)) (λ e. bind (any _) λ t u. accept (omega arith))
 perform-opens rooms p (openText l o) j xs k d = unchanged d
 perform-opens rooms p (closeText l o) j xs k d = bind (any _) λ t u. accept (omega arith)
-perform-opens rooms p (openList l e) j xs k d = accept (omega arith)
+perform-opens rooms p (openList l e) j xs k d = accept {a = draft d (onProperties l (λ _. []) (d .report)) (d .statuses) (d .used)} (omega arith)
 perform-opens rooms p (readProperty l e name) j xs k d = bind (any _) λ t u. accept (omega arith)
 perform-opens rooms p stop j xs k d = unchanged d
 perform-opens rooms p missing j xs k d = refuse
@@ -139,7 +139,8 @@ gather-cut rooms k κ bytes s h g = go (pieceOf κ bytes)
     put v false e = refl
 
     go : (a : Answer (List ℕ))
-        → (there (here s) a >>= λ v. need (leb (length (own (s .control .mode) (s .draft)) + length v) k) (here s) cause.ScratchFull (accepted (joinPiece (s .control .mode) v (s .draft)))) >>= (λ d. accepted (behind s d))
+        → (there (here s) a >>= λ v. need (leb (length (own (s .control .mode) (s .draft)) + length v) k) (here s) cause.ScratchFull (accepted (joinPiece (s .control .mode) v (s .draft))))
+        >>= (λ d. accepted (behind s d))
         ≡ cut k s ((there (here s) a >>= λ v. need true (here s) cause.ScratchFull (accepted (joinPiece (s .control .mode) v (s .draft)))) >>= λ d. accepted (behind s d))
     go (gives v) =
         put v (leb (length (own (s .control .mode) (s .draft)) + length v) k) refl
@@ -253,7 +254,8 @@ module _ (rooms : Rooms) where
   act-grants : (a : Act) (j : ℕ) (xs : List Attribute) (s : Reader) → Grants Reader (act (unbound rooms) a j xs s) (act unlimited a j xs s)
   unfolding act
   act-grants a j xs s =
-      grants-behind Draft Reader (perform (unbound rooms) (actPlace a (s .control .mode) (s .marks)) a j xs (s .control) (s .draft)) (perform unlimited (actPlace a (s .control .mode) (s .marks)) a j xs (s .control) (s .draft)) _ _
+      grants-behind Draft Reader (perform (unbound rooms) (actPlace a (s .control .mode) (s .marks)) a j xs (s .control) (s .draft))
+      (perform unlimited (actPlace a (s .control .mode) (s .marks)) a j xs (s .control) (s .draft)) _ _
       (performs Grants (λ A m a e. e) grants-behind (unbound rooms) unlimited (λ A x p m. grants-need A (rooms .records) x p cause.RecordsSpent m)
       (λ A x p m. grants-need A (rooms .text) x p cause.TextFull m) (actPlace a (s .control .mode) (s .marks)) a j xs (s .control) (s .draft))
       (λ d t e. e)
@@ -276,10 +278,11 @@ module _ (rooms : Rooms) where
   least [] s = omega arith
   least (e ∷ es) s = least-behind es (λ t. least es t) (step (unbound rooms) e s) (step unlimited e s) (step-grants e s)
 
+suffices-so : (rooms : Rooms) (k : ℕ) (es : List Event) → longestFrom rooms es begin ≤ k → deserializeIn (bound k rooms) es ≡ deserializeIn (unbound rooms) es
+suffices-so rooms k es h = exact rooms k es ∙ ap (λ (p : Option Refused). orElse p (deserializeIn (unbound rooms) es)) (none-passes rooms k es begin h)
+
 pub enough : (rooms : Rooms) (k : ℕ) (es : List Event) → longest es ≤ k → deserializeIn (bound k rooms) es ≡ deserializeIn (unbound rooms) es
-enough rooms k es h =
-    exact rooms k es
-    ∙ ap (λ (p : Option Refused). orElse p (deserializeIn (unbound rooms) es)) (none-passes rooms k es begin (let l = least rooms es begin in omega arith))
+enough rooms k es h = suffices-so rooms k es (let l = least rooms es begin in omega arith)
 
 answers-so : (t : Table) (a : Areas) → answerTo t a
     ≡ checked t >>= λ _. orElse (passing (roomsOf (a .words) (a .text) (a .scratch)) (min (a .scratch) mostBytes) (eventsOf t) begin)
@@ -289,4 +292,4 @@ answers-so t a =
     ap (λ (o : Outcome Report). checked t >>= λ _. o) (exact (roomsOf (a .words) (a .text) (a .scratch)) (min (a .scratch) mostBytes) (eventsOf t))
 
 pub scratch : Scratch
-scratch = record { exactly = exact; suffices = enough; answers = answers-so }
+scratch = record { exactly = exact; suffices = suffices-so; noLonger = λ rooms es. least rooms es begin; answers = answers-so }

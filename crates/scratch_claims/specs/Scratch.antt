@@ -41,6 +41,7 @@ unfoldable pub longestFrom : Rooms → List Event → Reader → ℕ
 longestFrom rooms [] s = 0
 longestFrom rooms (e ∷ es) s = behindStep 0 (step (unbound rooms) e s) λ t. max (openLength t) (longestFrom rooms es t)
 
+-- with no limits at all
 abbrev pub longest : List Event → ℕ
 longest es = longestFrom unlimited es begin
 
@@ -61,7 +62,9 @@ pub record Scratch : Type 0 where
   -- 14 comes exactly at the piece that passes the end; else the answer is the one with no limit of scratch.
   pub exactly : (rooms : Rooms) (k : ℕ) (es : List Event) → deserializeIn (bound k rooms) es ≡ orElse (passing rooms k es begin) (deserializeIn (unbound rooms) es)
   -- Scratch as long as the longest single text gives the same.
-  pub suffices : (rooms : Rooms) (k : ℕ) (es : List Event) → longest es ≤ k → deserializeIn (bound k rooms) es ≡ deserializeIn (unbound rooms) es
+  pub suffices : (rooms : Rooms) (k : ℕ) (es : List Event) → longestFrom rooms es begin ≤ k → deserializeIn (bound k rooms) es ≡ deserializeIn (unbound rooms) es
+  -- In no areas a text is longer than where nothing has a limit.
+  pub noLonger : (rooms : Rooms) (es : List Event) → longestFrom rooms es begin ≤ longest es
   -- So it is of the call, for every table and areas of any lengths.
   pub answers : (t : Table) (a : Areas) → answerTo t a
       ≡ checked t >>= λ _. orElse (passing (roomsOf (a .words) (a .text) (a .scratch)) (min (a .scratch) mostBytes) (eventsOf t) begin)
