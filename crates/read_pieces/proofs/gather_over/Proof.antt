@@ -45,7 +45,8 @@ told-requires c κs =
     let h = piece-fits l (c .before .before .before .before .before .before .before .before .before .before .before .args .content .gathered)
     (c .before .before .before .gather-piece .result)
     (pieceKind (c .before .before .before .before .before .before .before .before .before .before .before .args .kind))
-    (pieceBytes (c .before .before .before .before .before .before .before .before .before .before .before .args .kind) (now (c .before .before .before .before .before .before .before .before .before .before .before .args .bytes)))
+    (pieceBytes (c .before .before .before .before .before .before .before .before .before .before .before .args .kind)
+    (now (c .before .before .before .before .before .before .before .before .before .before .before .args .bytes)))
     (omega arith) (c .before .before .before .gather-piece .ensures .0) in
     omega arith
 
