@@ -1,0 +1,4 @@
+pub mod Laws
+pub mod TextLaws
+pub mod StoreLaws
+pub mod Examples

@@ -1,0 +1,5 @@
+pub mod Schema
+pub mod Records
+pub mod Texts
+pub mod Stores
+pub mod Elements
