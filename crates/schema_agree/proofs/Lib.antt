@@ -1,0 +1,11 @@
+pub mod Keys
+pub mod Written
+pub mod Shown
+pub mod Layouts
+pub mod Others
+pub mod ByKind
+pub mod Cells
+pub mod Encoded
+pub mod Placed
+pub mod Puts
+pub mod Lookups

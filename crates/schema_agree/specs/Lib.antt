@@ -1,0 +1,4 @@
+pub mod Roles
+pub mod Attributes
+pub mod Lookups
+pub mod inside
