@@ -19,7 +19,8 @@ use Rattle.tree_report.proofs.EncodeCells.{bit-flag}
 use Rattle.tree_report.proofs.EncodeLists.{and-left, and-right}
 use Rattle.tree_report.proofs.EncodeText.{zero-zeros}
 use Rattle.schema.specs.Schema.{Form, text, number, time, timestamp, uuid, flag, Presence, always, must, may, unkept, Row, width, widthIf, behind, bitOf, after, fineBit, fineFrom, fine}
-use Rattle.schema.specs.Records.{Span, Of, Held, Fields, isSet, valueAt, slotAt, fieldsAt, goodValue, goodSlot, goodFrom, bitValue, bitsIn, good, wordsOf, slotWords, wordsFrom, present, unset, marksUpTo, marksFrom, encode, fitsSlot, fits}
+use Rattle.schema.specs.Records.{Span, Of, Held, Fields, isSet, valueAt, slotAt, fieldsAt, goodValue, goodSlot, goodFrom, bitValue, bitsIn, good}
+use Rattle.schema.specs.Records.{wordsOf, slotWords, wordsFrom, present, unset, marksUpTo, marksFrom, encode, fitsSlot, fits}
 
 -- ---- lists
 pub length-zeros : (n : ℕ) → length (zeros n) ≡ n

@@ -139,7 +139,8 @@ flag-set (true ∷ bs) zero h = refl
 flag-set (false ∷ bs) zero h = omega arith
 flag-set (b ∷ bs) (suc k) h = go (getD bs k false) (flag-set bs k (omega arith))
   where
-    go : (t : Bool) → flagsOf (set bs k true) ≡ cond t (flagsOf bs) (flagsOf bs + 2 ^ k) → cond b 1 0 + 2 * flagsOf (set bs k true) ≡ cond t (cond b 1 0 + 2 * flagsOf bs) (cond b 1 0 + 2 * flagsOf bs + 2 ^ suc k)
+    go : (t : Bool) → flagsOf (set bs k true) ≡ cond t (flagsOf bs) (flagsOf bs + 2 ^ k)
+        → cond b 1 0 + 2 * flagsOf (set bs k true) ≡ cond t (cond b 1 0 + 2 * flagsOf bs) (cond b 1 0 + 2 * flagsOf bs + 2 ^ suc k)
     go true e = ap (λ (m : ℕ). cond b 1 0 + 2 * m) e
     go false e = let p : 2 ^ suc k ≡ 2 * 2 ^ k = pow-succ' 2 k in omega arith
 

@@ -10,7 +10,8 @@ use lib.Dec.{leb}
 use lib.ListN.{length}
 use Rattle.area.specs.Area.{zeros}
 use Rattle.tree_report.specs.Report.{Text}
-use Rattle.tree_report.specs.Encode.{Cell, absent, written, valued, constant, cellWords, ofText, ofNumber, ofCount, lowWord, highWord, uuidFront, uuidBack, momentCells, momentOrZero, timeCells, timeOrZero}
+use Rattle.tree_report.specs.Encode.{Cell, absent, written, valued, constant, cellWords, ofText, ofNumber, ofCount, lowWord, highWord}
+use Rattle.tree_report.specs.Encode.{uuidFront, uuidBack, momentCells, momentOrZero, timeCells, timeOrZero}
 use Rattle.tree_report.specs.Encode as tree
 use Rattle.tree_report.proofs.EncodeLists.{and-left, and-right}
 use Rattle.schema.specs.Schema.{Form, text, number, time, timestamp, uuid, flag, Presence, always, must, may, unkept, Row, behind, bitOf, after}

@@ -1,16 +1,17 @@
 -- The role of each key is the table's. Assumes nothing.
-use Prim.Native.Nat.{ℕ}
+use Prim.Native.Nat.{ℕ, _≤_}
 use mathlib.Core.Bool.{Bool, true, false, cond}
-use mathlib.Core.Path.{_≡_, refl}
+use mathlib.Core.Path.{_≡_, refl, sym}
 use native.Mathlib.Omega.{arith}
-use borrow.Author.Tests.{eqb-true}
-use lib.Dec.{eqb}
+use borrow.Author.Tests.{eqb-true, leb-true, leb-false, le-leb, lt-leb}
+use lib.Dec.{leb, eqb}
 use Rattle.names.specs.Keys as key
-use Rattle.read_keys.specs.Roles.{roleIn, reportRole, suiteRole, caseRole, propertyRole, statusRole}
+use Rattle.tree_record.specs.Kinds as kind
+use Rattle.read_keys.specs.Roles.{roleIn, reportRole, suiteRole, caseRole, propertyRole, statusRole, roleOf}
 use Rattle.read_keys.specs.declared.Role.{Role}
 use Rattle.read_keys.specs.declared.Role.the-variants as role
-use Rattle.schema.specs.Schema.{report, suite, case, main, skipped, run, property}
-use Rattle.schema_agree.specs.Roles.{roleBy}
+use Rattle.schema.specs.Schema.{report, suite, case, main, skipped, run, property, extra, tableOf}
+use Rattle.schema_agree.specs.Roles.{roleBy, otherRole}
 
 pub report-role : (k : ℕ) → roleBy report role.Ignored k ≡ reportRole k
 unfolding reportRole roleIn
@@ -59,3 +60,21 @@ skipped-role k = status k false
 
 pub run-role : (k : ℕ) → roleBy run role.Ignored k ≡ statusRole true k
 run-role k = status k true
+
+-- every kind of record that is read from a tag (rule A1)
+pub kind-role : (k c : ℕ) → k ≤ kind.rerunError → roleOf k c ≡ roleBy (tableOf k) (otherRole k) c
+unfolding roleOf
+kind-role k c h = go (eqb k 1) (eqb k 2) (eqb k 3) (leb k 5) (leb k 7) (leb k 8) refl refl
+  where
+    go : (r s t p m u : Bool) → leb k 7 ≡ m → leb k 8 ≡ u
+        → cond r (reportRole c) (cond s (suiteRole c) (cond t (caseRole c) (cond p (propertyRole c) (statusRole (leb 9 k) c))))
+        ≡ roleBy (cond r report (cond s suite (cond t case (cond p property (cond m main (cond u skipped (cond (leb k 12) run extra)))))))
+        (cond r role.Ignored (cond s role.Extra (cond t role.Extra role.Ignored))) c
+    go true s t p m u e d = sym (report-role c)
+    go false true t p m u e d = sym (suite-role c)
+    go false false true p m u e d = sym (case-role c)
+    go false false false true m u e d = sym (property-role c)
+    go false false false false true u e d = rw (lt-leb 9 k (let l = leb-true k 7 e in omega arith)) (sym (main-role c))
+    go false false false false false true e d = rw (lt-leb 9 k (let l = leb-true k 8 d in omega arith)) (sym (skipped-role c))
+    go false false false false false false e d =
+        rw (le-leb 9 k (let l = leb-false k 8 d in omega arith), le-leb k 12 h) (sym (run-role c))

@@ -9,3 +9,5 @@ pub mod Encoded
 pub mod Placed
 pub mod Puts
 pub mod Lookups
+pub mod Fitting
+pub mod Required

@@ -15,7 +15,8 @@ use Rattle.tree_report.specs.Encode.{Cell, flagsOf, presence, cellsOf, kindOfRu
 use Rattle.tree_report.specs.Encode as tree
 use Rattle.tree_report.proofs.EncodeLists.{and-left, and-right}
 use Rattle.tree_placed.specs.inside.Placed.{Places, recordOf}
-use Rattle.schema.specs.Schema.{Form, text, number, time, timestamp, uuid, flag, Presence, always, must, may, unkept, Row, width, widthIf, behind, bitOf, after, report, suite, case, main, skipped, run, property}
+use Rattle.schema.specs.Schema.{Form, text, number, time, timestamp, uuid, flag, Presence, always, must, may, unkept, Row, width, widthIf, behind, bitOf, after}
+use Rattle.schema.specs.Schema.{report, suite, case, main, skipped, run, property}
 use Rattle.schema.specs.Records.{Span, Of, Held, Fields, slotWords, wordsFrom, marksUpTo, marksFrom, encode}
 use Rattle.schema.specs.Texts.{placeSlot}
 use Rattle.schema.specs.Elements.{reportFields, suiteFields, caseFields, mainFields, skippedFields, runFields, pairFields}

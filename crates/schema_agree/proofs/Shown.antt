@@ -22,12 +22,14 @@ module _ (texts : List ℕ) where
 
   pub suite-shown : (b : tree.Branch)
       → tree.suiteOf texts b
-      ≡ named.suiteOf (fieldsOf suite texts (b .head)) (map (tree.caseOf texts) (tree.branches isCase (b .below))) (tree.pairsOf texts isSuiteProperty (b .below)) (tree.pairsOf texts isSuiteExtra (b .below))
+      ≡ named.suiteOf (fieldsOf suite texts (b .head)) (map (tree.caseOf texts) (tree.branches isCase (b .below)))
+      (tree.pairsOf texts isSuiteProperty (b .below)) (tree.pairsOf texts isSuiteExtra (b .below))
   suite-shown b = refl
 
   pub case-shown : (b : tree.Branch)
       → tree.caseOf texts b
-      ≡ named.caseOf (fieldsOf case texts (b .head)) (tree.statusOf texts (tree.only isMain (b .below)) (tree.only isRun (b .below))) (tree.pairsOf texts isCaseExtra (b .below)) (tree.pairsOf texts isCaseProperty (b .below))
+      ≡ named.caseOf (fieldsOf case texts (b .head)) (tree.statusOf texts (tree.only isMain (b .below)) (tree.only isRun (b .below)))
+      (tree.pairsOf texts isCaseExtra (b .below)) (tree.pairsOf texts isCaseProperty (b .below))
   case-shown b = refl
 
   pub main-shown : (r : List ℕ) → tree.reasonOf texts r ≡ named.mainOf (fieldsOf main texts r)

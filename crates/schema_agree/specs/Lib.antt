@@ -1,4 +1,5 @@
 pub mod Roles
 pub mod Attributes
 pub mod Lookups
+pub mod Required
 pub mod inside

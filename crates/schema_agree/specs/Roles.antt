@@ -3,6 +3,7 @@ use Prim.Native.Nat.{ℕ}
 use mathlib.Core.List.{List, [], _∷_}
 use mathlib.Core.Bool.{Bool, true, false, cond}
 use lib.Dec.{eqb}
+use Rattle.tree_record.specs.Kinds as kind
 use Rattle.read_keys.specs.declared.Role.{Role}
 use Rattle.read_keys.specs.declared.Role.the-variants as role
 use Rattle.schema.specs.Schema.{Form, text, number, time, timestamp, uuid, flag, Presence, always, must, may, unkept, Row}
@@ -34,3 +35,7 @@ abbrev pub roleBy : List Row → Role → ℕ → Role
 roleBy [] other k = other
 roleBy (x ∷ xs) other k =
     cond (eqb (x .key) 0) (roleBy xs other k) (cond (eqb k (x .key)) (roleOfRow (x .form) (x .presence) (x .word)) (roleBy xs other k))
+
+-- what any other key is to an element by its record's kind: an extra of a suite or case, else passed over (rule A7)
+abbrev pub otherRole : ℕ → Role
+otherRole k = cond (eqb k kind.report) role.Ignored (cond (eqb k kind.suite) role.Extra (cond (eqb k kind.case) role.Extra role.Ignored))
