@@ -68,8 +68,7 @@ module _ (texts r : List ℕ) where
       go false false false p q s = ap (λ (t : Bool). leb k 14 && t) (sym other-good)
 
   -- a dead record keeps its kind with 16 more, and nothing else of it is looked at (rule M8)
-  pub table-good
-      : goodRecord texts r
+  pub table-good : goodRecord texts r
       ≡ cond (live r) (leb (kindOf r) kind.caseExtra && good (tableOf (kindOf r)) texts r) (leb 17 (kindOf r) && leb (kindOf r) 30)
   unfolding goodRecord
   table-good = ap (λ (t : Bool). cond (live r) t (leb 17 (kindOf r) && leb (kindOf r) 30)) kind-good
