@@ -391,6 +391,22 @@ static bool lists(const uint32_t *r, size_t n, const uint8_t *t, size_t m)
     return same;
 }
 
+/* The document ends in `</testsuites>` and a newline; of an area one byte shorter all is zero. */
+static bool spells(const uint32_t *r, size_t n, const uint8_t *t, size_t m)
+{
+    static const char end[] = "    </testsuite>\n</testsuites>\n";
+    size_t size = 4096;
+    uint8_t *out = room(size);
+    kerzhoma_document d = kerzhoma_write_xml(r, n, t, m, out, size);
+    size_t length = d.length, tail = sizeof end - 1;
+    bool same = d.refusal.number == 0 && length > tail && memcmp(out, "<?xml version=\"1.0\" encoding=\"UTF-8\"?>\n<testsuites ", 51) == 0
+        && memcmp(out + length - tail, end, tail) == 0 && zero(out + length, size - length);
+    d = kerzhoma_write_xml(r, n, t, m, out, length - 1);
+    same = same && d.refusal.number == KERZHOMA_REFUSED_OUTPUT && d.length == 0 && zero(out, length - 1);
+    free(out);
+    return same;
+}
+
 static bool holds(const uint8_t *area, size_t size, const char *part)
 {
     size_t n = strlen(part);
@@ -417,6 +433,7 @@ static void built(void)
     expect(good() && b.builder.records == 10 && b.builder.suite == KERZHOMA_NONE, "a report built");
     expect(kerzhoma_is_layout(IN), "what is built is a layout");
     expect(lists(IN), "the listing of what is built");
+    expect(spells(IN), "the document of what is built");
 
     t.events = room(4 * 500), t.attributes = room(4 * 500), t.source = room(2000);
     w = kerzhoma_write(IN, t.events, 500, t.attributes, 500, t.source, 2000);
@@ -555,6 +572,7 @@ static void areas(void)
     expect(!kerzhoma_is_layout(NULL, 0, NULL, 0), "no layout");
     expect(kerzhoma_list(NULL, 0, NULL, 0, NULL, 0).refusal.number == KERZHOMA_REFUSED_LAYOUT, "no report to list");
     expect(kerzhoma_write(NULL, 0, NULL, 0, NULL, 0, NULL, 0, NULL, 0).refusal.number == KERZHOMA_REFUSED_LAYOUT, "no report to write");
+    expect(kerzhoma_write_xml(NULL, 0, NULL, 0, NULL, 0).refusal.number == KERZHOMA_REFUSED_LAYOUT, "no report to spell");
     expect(kerzhoma_public_listing(OF(none), NULL, 0, NULL, 0, NULL, 0, NULL, 0) == 0, "no public listing");
     expect(kerzhoma_explain(r, 0, OF(none), NULL, 0).refusal.number == KERZHOMA_REFUSED_OUTPUT, "no line");
     out = room(10);

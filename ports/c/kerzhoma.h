@@ -281,6 +281,18 @@ kerzhoma_writing kerzhoma_write(
     uint32_t *attributes, size_t attributes_length,
     uint8_t *bytes, size_t bytes_length);
 
+/* `length` is how many bytes of `out` the document takes, 0 where the call refuses (15, 16). */
+typedef struct kerzhoma_document {
+    size_t length;
+    kerzhoma_refusal refusal;
+} kerzhoma_document;
+
+/* Puts the report as an XML document at the front of `out`, of which at most 16777216 bytes are used, and zeros behind it. */
+kerzhoma_document kerzhoma_write_xml(
+    const uint32_t *records, size_t records_length,
+    const uint8_t *text, size_t text_length,
+    uint8_t *out, size_t out_length);
+
 /* A report to order: puts the table of a report with these numbers at the front of the three areas, and zeros behind it. Its one suite has `cases` cases
  * named case0, case1, ..: so many failures, errors and skipped ones, then those that passed with one flaky failure, then those that just passed. 23
  * where there are more than 4,096 cases, then 24 where the four kinds together exceed them, then 16. Room for 7 events and 4 more a case, 10 attributes

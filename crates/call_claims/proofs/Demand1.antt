@@ -26,7 +26,7 @@ use Rattle.call_claims.specs.Demand1.{Late, Ends, completes, WriteZero, 
 use Rattle.call_claims.proofs.TokenCall.{tokenize-ends}
 use Rattle.call_claims.proofs.ReadCall.{numbered, read-zero, read-placed}
 use Rattle.call_claims.proofs.LateCalls.{Within, ends, ends-leaving, within-late, within-cond, within-suite}
-use Rattle.call_claims.proofs.ListCalls.{list-ends, explain-ends, explain-xml-ends, time-text-ends, once-ends}
+use Rattle.call_claims.proofs.ListCalls.{list-ends, write-xml-ends, explain-ends, explain-xml-ends, time-text-ends, once-ends}
 use Rattle.call_claims.proofs.SheetCalls.{release-ends, print-ends}
 use Rattle.call_claims.proofs.XmlCall.{document-ends, table-ends}
 use Rattle.call_claims.proofs.BuilderCalls.{unnamed-ends, new-ends, builder-calls}
@@ -92,6 +92,7 @@ demand-1 =
       read = λ t a. ends (answerTo t a) (read-placed t a) (read-zero t a);
       list = list-ends;
       write = write-ends;
+      writeXml = write-xml-ends;
       rehearse = order-ends;
       readAndList = once-ends;
       listXml = document-ends;

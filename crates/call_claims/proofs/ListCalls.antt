@@ -1,5 +1,5 @@
 -- What listing, explaining, and reading and listing in one call refuse, and what they leave then. Assumes nothing.
-use Prim.Native.Nat.{ℕ}
+use Prim.Native.Nat.{ℕ, min}
 use mathlib.Core.Path.{_≡_, refl, sym, ap, subst, _∙_}
 use mathlib.Core.List.{List, [], _∷_}
 use mathlib.Core.Bool.{Bool, true, false, cond}
@@ -8,6 +8,7 @@ use native.Mathlib.Omega.{arith}
 use lib.Dec.{leb}
 use lib.ListN.{length}
 use Rattle.area.specs.Area.{zeros, placing, laid}
+use Rattle.area.specs.Limits.{mostBytes}
 use Rattle.area.specs.Answer.{Answer, gives, refuses as fails}
 use Rattle.refusal.specs.Refusal.{Refused, Outcome, accepted, refused}
 use Rattle.refusal.specs.declared.Cause.the-variants as cause
@@ -19,6 +20,7 @@ use Rattle.read_machine.specs.Reading.{Read, readAs}
 use Rattle.read_machine.proofs.RoomsReading.{reading-accepts}
 use Rattle.read_machine.proofs.TreeReading.{reading-layout, resolve-fair}
 use Rattle.list_text.specs.Listing.{listingOf, listingAnswer, outcomeOf, listed, outputFor, outputOf}
+use Rattle.xml_answer.specs.Answer.{documentOf, documentAnswer, wroteXml, documentLeft}
 use Rattle.explain_text.specs.Explanation.{lineOf, lineAnswer, explained, explanationIn}
 use Rattle.explain_xml.specs.XmlExplanation.{xmlLine, xmlLineAnswer, xmlExplanationIn}
 use Rattle.public_claims.specs.Once.{printedFor}
@@ -52,6 +54,12 @@ unfolding outputOf listingAnswer
 list-ends words text output =
     ends-leaving (within-layout (layout words text) (placing cause.OutputFull output (listingOf words text)) refl (within-placing refl output (listingOf words text)))
     (out-zero (listingAnswer words text output) output (listingOf words text))
+
+pub write-xml-ends : (words text : List ℕ) (output : ℕ) → Ends (Late (15 ∷ 16 ∷ [])) (documentLeft words text output ≡ zeros output) (wroteXml words text output)
+unfolding documentLeft documentAnswer
+write-xml-ends words text output =
+    ends-leaving (within-layout (layout words text) (placing cause.OutputFull (min output mostBytes) (documentOf words text)) refl (within-placing refl (min output mostBytes) (documentOf words text)))
+    (out-zero (documentAnswer words text output) output (documentOf words text))
 
 pub explain-ends : (t : Table) (r : Refusal) (lent output : ℕ)
     → Ends (Late (16 ∷ [])) (explanationIn (t .events) (t .attributes) (t .source) r lent output ≡ zeros output) (explained (t .events) (t .attributes) (t .source) r lent output)

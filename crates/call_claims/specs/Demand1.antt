@@ -14,6 +14,8 @@
 --       listed, outputOf (crate list_text: Listing); 15, 16
 --   kerzhoma_write: writer::write
 --       wrote, eventsLeft, attributesLeft, bytesLeft (crate write_answer: Answer); 15, 16
+--   kerzhoma_write_xml: xml_writer::write_xml
+--       wroteXml, documentLeft (crate xml_answer: Answer); 15, 16
 --   kerzhoma_rehearse: rehearsal::rehearse
 --       ordered, eventsOrdered, attributesOrdered, bytesOrdered (crate order_report: Answer); 16, 23, 24
 --   kerzhoma_read_and_list: public_call::read_and_list
@@ -73,12 +75,12 @@
 --   kerzhoma_finish_report: builder::finish_report
 --       finish; 15, 17
 -- The answer is the outcome as a struct, with `refusalFrom` (crate refusal: Refusal) of what a refusal carries: answerOf (crate reader: Answer),
--- listingFrom (lister), writingFrom (writer, and of rehearsal), explainedFrom (explain), countedFrom (tree_counts: Counts), releasedFrom (sheet_sums:
--- Sheet), printedFrom (sheet_text: Printed), startedFrom (starts: Answer), builtFrom (build_draft: Draft); and for C a struct of numbers (crates
--- port_refusal, port_values, port_c: portOutcome, builtPort and their like). Tokenizing alone has no such struct: its refusal is a number, 18 and 19
--- among them, and a byte (result, crate xml_state: Answer). `explain_xml` and `write_time` say only that a text doesn't fit; behind `write_time` the call from C clears the area. All areas
--- but the output area are zero behind `read_and_list`, `public_listing` and `list_xml`, whatever they come to.
--- The programs (crates list_printing, write_printing: Printed) print what these calls come to, or `(refused)`.
+-- listingFrom (lister), writingFrom (writer, and of rehearsal), documentFrom (xml_writer), explainedFrom (explain), countedFrom (tree_counts: Counts),
+-- releasedFrom (sheet_sums: Sheet), printedFrom (sheet_text: Printed), startedFrom (starts: Answer), builtFrom (build_draft: Draft); and for C a struct of
+-- numbers (crates port_refusal, port_values, port_c: portOutcome, builtPort and their like). Tokenizing alone has no such struct: its refusal is a number,
+-- 18 and 19 among them, and a byte (result, crate xml_state: Answer). `explain_xml` and `write_time` say only that a text doesn't fit; behind `write_time`
+-- the call from C clears the area. All areas but the output area are zero behind `read_and_list`, `public_listing` and `list_xml`, whatever they come to.
+-- The programs (crates list_printing, write_printing, document_printing: Printed) print what these calls come to, or `(refused)`.
 --
 -- Inputs are unchanged: they are lent as `&`, through which nothing can be stored, or go in by value.
 --
@@ -116,6 +118,7 @@ use Rattle.explain_text.specs.Explanation.{explained, explanationIn}
 use Rattle.write_answer.specs.Answer.{wrote, eventsLeft, attributesLeft, bytesLeft}
 use Rattle.order_report.specs.declared.Order.{Order}
 use Rattle.order_report.specs.Answer.{ordered, eventsOrdered, attributesOrdered, bytesOrdered}
+use Rattle.xml_answer.specs.Answer.{wroteXml, documentLeft}
 use Rattle.public_claims.specs.PublicListing as public
 use Rattle.public_claims.specs.PublicListing.{refusedText}
 use Rattle.public_claims.specs.Once.{Once, once}
@@ -324,6 +327,8 @@ pub record Demand1 : Type 0 where
   -- Writing: 15 and 16; its three areas are zero then.
   pub write : (words text : List ℕ) (events attributes bytes : ℕ)
       → Ends (Late (15 ∷ 16 ∷ [])) (WriteZero words text events attributes bytes) (wrote words text events attributes bytes)
+  -- Writing a document: 15 and 16; its area is zero then.
+  pub writeXml : (words text : List ℕ) (output : ℕ) → Ends (Late (15 ∷ 16 ∷ [])) (documentLeft words text output ≡ zeros output) (wroteXml words text output)
   -- A report to order: 16, 23 and 24; its three areas are zero then.
   pub rehearse : (o : Order) (events attributes bytes : ℕ)
       → Ends (Late (16 ∷ 23 ∷ 24 ∷ [])) (OrderZero o events attributes bytes) (ordered o events attributes bytes)

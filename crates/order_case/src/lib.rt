@@ -8,6 +8,7 @@ use table::kind::START;
 use write_entries::put_tag;
 use write_marks::Marks;
 use write_marks::store_attribute;
+use write_tags::put_quote;
 use write_values::put_key;
 ghost use mathlib.Core.List.{List, _∷_, []};
 ghost use Prim.Native.Nat.{ℕ};
@@ -25,9 +26,10 @@ fn put_name(attributes: &mut [u32], bytes: &mut [u8], k: Marks, i: u64) -> Marks
         (pair (keyName key.name) (caseName i) ∷ []) (kept m ev (now (attributes .exit)) (now (bytes .exit)))) ⌝ }
 {
     let from = k.bytes;
-    let middle = put_key(bytes, from, key::NAME as u8);
+    let middle = put_key(bytes, from, k.form, key::NAME as u8);
     let front = list_text::put(bytes, middle, b"case");
-    let to = list_text::put_decimal(bytes, front, i);
+    let value = list_text::put_decimal(bytes, front, i);
+    let to = put_quote(bytes, value, k.form);
     store_attribute(attributes, k, middle, to)
 }
 

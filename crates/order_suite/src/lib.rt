@@ -12,6 +12,7 @@ use write_entries::put_declaration;
 use write_entries::put_tag;
 use write_marks::Marks;
 use write_marks::store_attribute;
+use write_tags::put_quote;
 use write_values::put_key;
 ghost use mathlib.Core.List.{List, _∷_, [], _++_};
 ghost use Prim.Native.Nat.{ℕ, _-_, _≤_};
@@ -74,8 +75,9 @@ fn put_name(attributes: &mut [u32], bytes: &mut [u8], k: Marks) -> Marks
         (pair (keyName key.name) rehearsalName ∷ []) (kept m ev (now (attributes .exit)) (now (bytes .exit)))) ⌝ }
 {
     let from = k.bytes;
-    let middle = put_key(bytes, from, key::NAME as u8);
-    let to = list_text::put(bytes, middle, b"rehearsal");
+    let middle = put_key(bytes, from, k.form, key::NAME as u8);
+    let value = list_text::put(bytes, middle, b"rehearsal");
+    let to = put_quote(bytes, value, k.form);
     store_attribute(attributes, k, middle, to)
 }
 
@@ -85,8 +87,9 @@ fn put_count(attributes: &mut [u32], bytes: &mut [u8], k: Marks, code: u8, n: u6
         (countItems code n) (kept m ev (now (attributes .exit)) (now (bytes .exit)))) ⌝ }
 {
     let from = k.bytes;
-    let middle = put_key(bytes, from, code);
-    let to = list_text::put_decimal(bytes, middle, n);
+    let middle = put_key(bytes, from, k.form, code);
+    let value = list_text::put_decimal(bytes, middle, n);
+    let to = put_quote(bytes, value, k.form);
     store_attribute(attributes, k, middle, to)
 }
 

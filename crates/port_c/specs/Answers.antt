@@ -6,11 +6,14 @@ use Rattle.lister.specs.Answer.{listingFrom}
 use Rattle.write_answer.specs.Answer.{Sizes}
 use Rattle.writer.specs.declared.Writing.{Writing}
 use Rattle.writer.specs.Answer.{writingFrom}
+use Rattle.xml_writer.specs.declared.Document.{Document}
+use Rattle.xml_writer.specs.Answer.{documentFrom}
 use Rattle.explain.specs.declared.Explained.{Explained}
 use Rattle.explain.specs.Answer.{explainedFrom}
 use Rattle.port_refusal.specs.Port.{portRefusal}
 use Rattle.port_c.specs.declared.tables.KListing.{KListing}
 use Rattle.port_c.specs.declared.tables.KWriting.{KWriting}
+use Rattle.port_c.specs.declared.tables.KDocument.{KDocument}
 use Rattle.port_c.specs.declared.tables.KExplained.{KExplained}
 
 abbrev pub portListing : Listing → KListing
@@ -24,6 +27,12 @@ portWriting a = record { events = a .events; attributes = a .attributes; bytes =
 
 abbrev pub writingPort : Outcome Sizes → KWriting
 writingPort o = portWriting (writingFrom o)
+
+abbrev pub portDocument : Document → KDocument
+portDocument a = record { length = a .length; refusal = portRefusal (a .verdict) (a .refusal) }
+
+abbrev pub documentPort : Outcome ℕ → KDocument
+documentPort o = portDocument (documentFrom o)
 
 abbrev pub portExplained : Explained → KExplained
 portExplained a = record { length = a .length; refusal = portRefusal (a .verdict) (a .refusal) }

@@ -14,11 +14,12 @@ ghost use Rattle.list_text.specs.Listing.{listed, outputOf};
 ghost use Rattle.write_answer.specs.Answer.{wrote, eventsLeft, attributesLeft, bytesLeft};
 ghost use Rattle.order_report.specs.Rehearsal.{orderOf};
 ghost use Rattle.order_report.specs.Answer.{ordered, eventsOrdered, attributesOrdered, bytesOrdered};
+ghost use Rattle.xml_answer.specs.Answer.{wroteXml, documentLeft};
 ghost use Rattle.public_call.specs.Called.{readInto, onceInto, listingInto};
 ghost use Rattle.explain_text.specs.Explanation.{explained, explanationIn};
 ghost use Rattle.port_refusal.specs.Port.{portOutcome};
 ghost use Rattle.port_refusal.specs.Back.{plainRefusal};
-ghost use Rattle.port_c.specs.Answers.{listingPort, writingPort, explainedPort};
+ghost use Rattle.port_c.specs.Answers.{listingPort, writingPort, documentPort, explainedPort};
 
 // The length is 0 where the call refuses.
 #[repr(C)]
@@ -33,6 +34,13 @@ pub struct KWriting {
     pub events: usize,
     pub attributes: usize,
     pub bytes: usize,
+    pub refusal: KRefusal,
+}
+
+// The length is 0 where the call refuses.
+#[repr(C)]
+pub struct KDocument {
+    pub length: usize,
     pub refusal: KRefusal,
 }
 
@@ -205,6 +213,20 @@ pub extern "C" fn kerzhoma_rehearse(
         events: answer.events,
         attributes: answer.attributes,
         bytes: answer.bytes,
+        refusal: from_refusal(verdict, refusal),
+    }
+}
+
+#[no_mangle]
+pub extern "C" fn kerzhoma_write_xml(records: &[u32], text: &[u8], out: &mut [u8]) -> KDocument
+    ensures { λ r. ⌜ r ≡ documentPort (wroteXml (now (records .entry)) (now (text .entry)) (length (now (out .entry)))) ⌝ }
+    ensures { λ _. ⌜ now (out .exit) ≡ documentLeft (now (records .entry)) (now (text .entry)) (length (now (out .entry))) ⌝ }
+{
+    let answer = xml_writer::write_xml(records, text, out);
+    let verdict = answer.verdict;
+    let refusal = answer.refusal;
+    KDocument {
+        length: answer.length,
         refusal: from_refusal(verdict, refusal),
     }
 }

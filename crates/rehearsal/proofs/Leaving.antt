@@ -2,9 +2,8 @@
 use Prim.Native.Nat.{ℕ}
 use mathlib.Core.Path.{_≡_, refl, sym, ap, _∙_}
 use mathlib.Core.List.{List}
-use mathlib.Core.Bool.{true, false}
-use mathlib.Core.Option.{none, some}
-use lib.Dec.{ltb}
+use mathlib.Core.Bool.{Bool, true, false}
+use lib.Dec.{eqb, ltb}
 use Rattle.refusal.specs.Refusal.{refused, late, noRefusal}
 use Rattle.refusal.specs.declared.Cause.the-variants as cause
 use Rattle.refusal.specs.declared.Refusal.{Refusal}
@@ -16,7 +15,8 @@ use Rattle.area.specs.declared.Stored.the-variants.{Put, Full}
 use Rattle.table.specs.Event.{Event}
 use Rattle.write_report.specs.Written.{written}
 use Rattle.write_table.specs.Laid.{itemsOf, fits}
-use Rattle.write_table.specs.inside.Putting.{Held, Kept, Areas, heldBy, held, fresh, Wrote, putAll}
+use Rattle.write_table.specs.inside.Putting.{Held, Spelling, Kept, none, some, Areas, heldBy, held, fresh, Wrote, putAll}
+use Rattle.write_table.proofs.Rooms.{never-xml}
 use Rattle.write_table.proofs.Laying.{holding, put-some, none-fits}
 use Rattle.write_marks.specs.inside.Kept.{empty, kept}
 use Rattle.write_answer.specs.Answer.{Sizes, outcomeOf, leftFor}
@@ -84,13 +84,27 @@ module _ (o : Order) (e a b : ℕ) where
           pub whole-put : {f : Refusal} (n : ℕ) → f ≡ noRefusal → s .mark ≡ Put n
               → Whole (record { verdict = Accepted; events = s .events; attributes = s .attributes; bytes = n; refusal = f }) (s .eventArea) (s .attributeArea) (s .byteArea)
           unfolding orderedTable
-          whole-put {f} n r q = whole _ (ap (λ (m : Stored). heldBy m s) q)
+          whole-put {f} n r q = go (eqb (s .form) 0) refl
             where
+              table : Held
+              table = record { events = s .events; attributes = s .attributes; bytes = n; eventArea = s .eventArea; attributeArea = s .attributeArea; byteArea = s .byteArea }
+
+              text : Spelling
+              text = record { form = s .form; level = s .level; bytes = n; byteArea = s .byteArea }
+
+              held-by : held s ≡ heldBy (Put n) s
+              held-by = ap (λ (m : Stored). heldBy m s) q
+
               whole : (h : Held) → held s ≡ some h
                   → Whole (record { verdict = Accepted; events = h .events; attributes = h .attributes; bytes = h .bytes; refusal = f }) (h .eventArea) (h .attributeArea) (h .byteArea)
               whole h q =
                   let g = put-some es e a b h (sym all-put ∙ q) in
                   rw (g .1, r) (whole-from refl (fitting (g .0)) refl refl refl)
+
+              go : (x : Bool) → eqb (s .form) 0 ≡ x
+                  → Whole (record { verdict = Accepted; events = s .events; attributes = s .attributes; bytes = n; refusal = f }) (s .eventArea) (s .attributeArea) (s .byteArea)
+              go true y = whole table (held-by ∙ rw y refl)
+              go false y = absurd (never-xml (fresh e a b) (itemsOf es) text (sym all-put ∙ held-by ∙ rw y refl))
 
           -- 16
           pub short-put : {r : Writing} {ev′ at′ by′ : List ℕ} → s .mark ≡ Full → r ≡ writingFrom (refused (late cause.OutputFull)) → ev′ ≡ zeros e → at′ ≡ zeros a → by′ ≡ zeros b

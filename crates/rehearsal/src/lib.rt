@@ -7,6 +7,7 @@ use order_suite::put_order;
 use refusal::Cause;
 use refusal::Verdict;
 use refusal::no_refusal;
+use write_form::form;
 use write_marks::Marks;
 use writer::Writing;
 use writer::refuse;
@@ -36,6 +37,8 @@ fn put_rehearsal(events: &mut [u32], attributes: &mut [u32], bytes: &mut [u8], o
     let start = Marks {
         events: 0,
         attributes: 0,
+        form: form::TABLE,
+        level: 0,
         bytes: Stored::Put(0),
     };
     put_order(events, attributes, bytes, start, o)
@@ -96,8 +99,8 @@ pub fn rehearse(
     };
     Writing {
         verdict: Verdict::Accepted,
-        events: k.events,
-        attributes: k.attributes,
+        events: k.events as usize,
+        attributes: k.attributes as usize,
         bytes: n,
         refusal: no_refusal(),
     }

@@ -53,8 +53,8 @@ pub fn put_tail(events: &mut [u32], bytes: &mut [u8], k: Marks) -> Marks
     ensures { λ m. ⌜ ((at : List ℕ) → Wrote (kept k (now (events .entry)) at (now (bytes .entry))) tailItems (kept m (now (events .exit)) at (now (bytes .exit)))) ⌝ }
 {
     let closed = put_tag(events, bytes, k, END, tag::TESTSUITES as u8, 0);
-    let ended = put_bare(events, closed, EOF);
-    put_bare(events, ended, INDENT)
+    let ended = put_bare(events, bytes, closed, EOF);
+    put_bare(events, bytes, ended, INDENT)
 }
 
 fn put_whole(

@@ -1,11 +1,19 @@
-// Entries of the written table, from codes and records.
+// Entries of what is written, from codes and records, in the form that the marks say.
 use list_values::part_of;
 use table::kind;
 use tree_record::field;
 use tree_record::word;
+use write_form::form;
 use write_marks::Marks;
-use write_marks::store_attribute;
+use write_marks::entry_more;
+use write_marks::store_entry;
 use write_marks::store_event;
+use write_marks::store_pair;
+use write_marks::text_more;
+use write_tags::put_before;
+use write_tags::put_behind;
+use write_tags::put_quote;
+use write_tags::put_raw_key;
 use write_values::put_key;
 use write_values::put_tag_name;
 use write_values::put_text_at;
@@ -33,9 +41,15 @@ pub fn put_tag(
 ) -> Marks
     ensures { λ m. ⌜ ((at : List ℕ) → Wrote (kept k (now (events .entry)) at (now (bytes .entry))) (entry kind (tagName code) count ∷ []) (kept m (now (events .exit)) at (now (bytes .exit)))) ⌝ }
 {
-    let from = k.bytes;
-    let to = put_tag_name(bytes, from, code);
-    store_event(events, k, to, kind, count)
+    let mark = k.bytes;
+    if k.form == form::TABLE {
+        let end = put_tag_name(bytes, mark, code);
+        return store_entry(events, k, end, kind, count);
+    }
+    let from = put_before(bytes, mark, k.form, k.level, kind);
+    let named = put_tag_name(bytes, from, code);
+    let to = put_behind(bytes, named, k.form, kind);
+    entry_more(k, to, kind)
 }
 
 // A Text: the text at the words o and o + 1.
@@ -51,17 +65,24 @@ pub fn put_text(
     ensures { λ m. ⌜ ((at : List ℕ) → Wrote (kept k (now (events .entry)) at (now (bytes .entry)))
         (entry event.text (escaped (textAt (now (text .entry)) (now (r .entry)) o)) 0 ∷ []) (kept m (now (events .exit)) at (now (bytes .exit)))) ⌝ }
 {
-    let from = k.bytes;
+    let mark = k.bytes;
+    if k.form == form::TABLE {
+        let end = put_text_at(bytes, mark, text, r, o);
+        return store_entry(events, k, end, kind::TEXT, 0);
+    }
+    let from = put_before(bytes, mark, k.form, k.level, kind::TEXT);
     let to = put_text_at(bytes, from, text, r, o);
-    store_event(events, k, to, kind::TEXT, 0)
+    entry_more(k, to, kind::TEXT)
 }
 
 // An Eof or Indent.
-pub fn put_bare(events: &mut [u32], k: Marks, kind: u32) -> Marks
-    ensures { λ m. ⌜ ((at by : List ℕ) → Wrote (kept k (now (events .entry)) at by) (entry kind [] 0 ∷ []) (kept m (now (events .exit)) at by)) ⌝ }
+pub fn put_bare(events: &mut [u32], bytes: &mut [u8], k: Marks, kind: u32) -> Marks
+    ensures { λ m. ⌜ ((at : List ℕ) → Wrote (kept k (now (events .entry)) at (now (bytes .entry))) (entry kind [] 0 ∷ []) (kept m (now (events .exit)) at (now (bytes .exit)))) ⌝ }
 {
-    let from = k.bytes;
-    store_event(events, k, from, kind, 0)
+    let mark = k.bytes;
+    let from = put_before(bytes, mark, k.form, k.level, kind);
+    let to = put_behind(bytes, from, k.form, kind);
+    store_event(events, k, to, kind, 0)
 }
 
 // An Other (rule W1).
@@ -69,8 +90,10 @@ pub fn put_declaration(events: &mut [u32], bytes: &mut [u8], k: Marks) -> Marks
     ensures { λ m. ⌜ ((at : List ℕ) → Wrote (kept k (now (events .entry)) at (now (bytes .entry)))
         (entry event.other (names.bytes "xml version=\"1.0\" encoding=\"UTF-8\"") 0 ∷ []) (kept m (now (events .exit)) at (now (bytes .exit)))) ⌝ }
 {
-    let from = k.bytes;
-    let to = list_text::put(bytes, from, b"xml version=\"1.0\" encoding=\"UTF-8\"");
+    let mark = k.bytes;
+    let from = put_before(bytes, mark, k.form, k.level, kind::OTHER);
+    let said = list_text::put(bytes, from, b"xml version=\"1.0\" encoding=\"UTF-8\"");
+    let to = put_behind(bytes, said, k.form, kind::OTHER);
     store_event(events, k, to, kind::OTHER, 0)
 }
 
@@ -87,9 +110,13 @@ pub fn put_attribute(
         (pair (keyName code) (valueOf (now (text .entry)) (now (r .entry)) code) ∷ []) (kept m ev (now (attributes .exit)) (now (bytes .exit)))) ⌝ }
 {
     let from = k.bytes;
-    let middle = put_key(bytes, from, code);
-    let to = put_value(bytes, middle, text, r, code);
-    store_attribute(attributes, k, middle, to)
+    let middle = put_key(bytes, from, k.form, code);
+    let value = put_value(bytes, middle, text, r, code);
+    if k.form == form::TABLE {
+        return store_pair(attributes, k, middle, value);
+    }
+    let to = put_quote(bytes, value, k.form);
+    text_more(k, to)
 }
 
 // An extra (rule W8): its key isn't escaped (serialize.rs pushes it as it is).
@@ -105,7 +132,11 @@ pub fn put_extra(
 {
     let key = part_of(text, field(r, word::KEY), field(r, word::KEY + 1));
     let from = k.bytes;
-    let middle = list_text::put(bytes, from, key);
-    let to = put_text_at(bytes, middle, text, r, word::VALUE);
-    store_attribute(attributes, k, middle, to)
+    let middle = put_raw_key(bytes, from, k.form, key);
+    let value = put_text_at(bytes, middle, text, r, word::VALUE);
+    if k.form == form::TABLE {
+        return store_pair(attributes, k, middle, value);
+    }
+    let to = put_quote(bytes, value, k.form);
+    text_more(k, to)
 }

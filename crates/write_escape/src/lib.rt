@@ -1,10 +1,13 @@
 // Text and values as they are written, put into an area that the caller lends.
 use area::Stored;
 use area::copy_into;
+use area::least;
 ghost use mathlib.Core.Path.{_≡_};
+ghost use Prim.Native.Nat.{_≤_};
 ghost use lib.ListN.{length};
 ghost use Rattle.area.specs.Area.{storedAnswer, placing, laid};
 ghost use Rattle.write_escape.specs.Escape.{written, escaped};
+ghost use Rattle.write_escape.specs.inside.Plain.{plain};
 ghost use Rattle.refusal.specs.declared.Cause.the-variants as cause;
 
 // Puts what stands for b at the front of out.
@@ -28,8 +31,8 @@ fn put_byte(out: &mut [u8], b: u8) -> Stored
     }
 }
 
-// Puts s, escaped, at the front of out (rule W8).
-pub fn escape_into(out: &mut [u8], s: &[u8]) -> Stored
+// Puts s, escaped, at the front of out, byte by byte.
+fn escape_bytes(out: &mut [u8], s: &[u8]) -> Stored
     ensures { λ r. ⌜ storedAnswer cause.OutputFull r ≡ placing cause.OutputFull (length (now (out .entry))) (escaped (now (s .entry))) ⌝ }
     ensures { λ r. ⌜ now (out .exit) ≡ laid (now (out .entry)) (escaped (now (s .entry))) ⌝ }
 {
@@ -42,6 +45,82 @@ pub fn escape_into(out: &mut [u8], s: &[u8]) -> Stored
         };
         k += n;
         i += 1;
+    }
+    Stored::Put(k)
+}
+
+// Whether each byte stands for itself. No exit before the end and one mark for each of the five: so the compiler takes many bytes at a time.
+fn is_plain(s: &[u8]) -> bool
+    ensures { λ r. ⌜ r ≡ plain (now (s .entry)) ⌝ }
+{
+    let mut amp = false;
+    let mut lt = false;
+    let mut gt = false;
+    let mut apos = false;
+    let mut quot = false;
+    let mut i = 0;
+    while i < s.len() {
+        let b = s[i];
+        amp = amp | (b == b'&');
+        lt = lt | (b == b'<');
+        gt = gt | (b == b'>');
+        apos = apos | (b == b'\'');
+        quot = quot | (b == b'"');
+        i += 1;
+    }
+    !(amp | (lt | (gt | (apos | quot))))
+}
+
+// Puts s at the front of an area that has room for it.
+fn copy_whole(out: &mut [u8], s: &[u8]) -> Stored
+    requires { ⌜ length (now s) ≤ length (now out) ⌝ }
+    ensures { λ r. ⌜ storedAnswer cause.OutputFull r ≡ placing cause.OutputFull (length (now (out .entry))) (now (s .entry)) ⌝ }
+    ensures { λ r. ⌜ now (out .exit) ≡ laid (now (out .entry)) (now (s .entry)) ⌝ }
+{
+    let mut i = 0;
+    while i < s.len() {
+        out[i] = s[i];
+        i += 1;
+    }
+    Stored::Put(i)
+}
+
+// As `copy_into`; where there is room for all, none is asked for byte by byte.
+fn copy_run(out: &mut [u8], s: &[u8]) -> Stored
+    ensures { λ r. ⌜ storedAnswer cause.OutputFull r ≡ placing cause.OutputFull (length (now (out .entry))) (now (s .entry)) ⌝ }
+    ensures { λ r. ⌜ now (out .exit) ≡ laid (now (out .entry)) (now (s .entry)) ⌝ }
+{
+    if s.len() <= out.len() {
+        return copy_whole(out, s);
+    }
+    copy_into(out, s)
+}
+
+fn put_block(out: &mut [u8], s: &[u8]) -> Stored
+    ensures { λ r. ⌜ storedAnswer cause.OutputFull r ≡ placing cause.OutputFull (length (now (out .entry))) (escaped (now (s .entry))) ⌝ }
+    ensures { λ r. ⌜ now (out .exit) ≡ laid (now (out .entry)) (escaped (now (s .entry))) ⌝ }
+{
+    if is_plain(s) {
+        return copy_run(out, s);
+    }
+    escape_bytes(out, s)
+}
+
+// Puts s, escaped, at the front of out (rule W8), block by block, so that only a block with one of the five goes byte by byte.
+pub fn escape_into(out: &mut [u8], s: &[u8]) -> Stored
+    ensures { λ r. ⌜ storedAnswer cause.OutputFull r ≡ placing cause.OutputFull (length (now (out .entry))) (escaped (now (s .entry))) ⌝ }
+    ensures { λ r. ⌜ now (out .exit) ≡ laid (now (out .entry)) (escaped (now (s .entry))) ⌝ }
+{
+    let mut i = 0;
+    let mut k = 0;
+    while i < s.len() {
+        let end = i + least(s.len() - i, 64);
+        let put = put_block(&mut out[k..], &s[i..end]);
+        let Stored::Put(n) = put else {
+            return Stored::Full;
+        };
+        k += n;
+        i = end;
     }
     Stored::Put(k)
 }

@@ -3,7 +3,6 @@ use Prim.Native.Nat.{ℕ, _+_, _-_, _*_, _≤_, _<_}
 use mathlib.Core.Path.{_≡_, refl, sym, ap, _∙_}
 use mathlib.Core.List.{List, [], _∷_, _++_}
 use mathlib.Core.Bool.{Bool, true, false, cond, _&&_, and-eq-true-iff}
-use mathlib.Core.Option.{none, some}
 use native.Mathlib.Omega.{arith}
 use borrow.Author.Tests.{leb-true, leb-false, ltb-true, le-leb, lt-leb}
 use lib.Dec.{leb, ltb}
@@ -14,7 +13,7 @@ use Rattle.area.specs.declared.Stored.the-variants.{Put, Full}
 use Rattle.list_text.specs.inside.Behind.{Filled, filled, behind, Puts}
 use Rattle.list_text.proofs.Putting.{more}
 use Rattle.write_table.specs.Laid.{entry, pair, entryWords, pairWords, place}
-use Rattle.write_table.specs.inside.Putting.{Held, over, tableRoom, byteRoom, entryLimits, pairLimits, withEntry, withPair, put, Areas, held, Wrote}
+use Rattle.write_table.specs.inside.Putting.{Held, none, some, over, tableRoom, byteRoom, entryLimits, pairLimits, withEntry, withPair, put, Areas, held, Wrote}
 use Rattle.write_table.proofs.Writing.{wrote-one}
 use Rattle.refusal.specs.declared.Cause.the-variants as cause
 
@@ -72,15 +71,16 @@ cond-third x y true true c p = rw p refl
 cond-third x y true false c p = refl
 cond-third x y false b c p = refl
 
-abbrev areas : Stored → ℕ → ℕ → List ℕ → List ℕ → List ℕ → Areas
-areas m e a ev at by = record { mark = m; events = e; attributes = a; eventArea = ev; attributeArea = at; byteArea = by }
+-- the areas of a table
+abbrev areas : ℕ → Stored → ℕ → ℕ → List ℕ → List ℕ → List ℕ → Areas
+areas lv m e a ev at by = record { mark = m; form = 0; level = lv; events = e; attributes = a; eventArea = ev; attributeArea = at; byteArea = by }
 
-module _ (m to : Stored) (from e a kind n : ℕ) (ev at by by′ s : List ℕ) (p : m ≡ Put from) (w : Puts (filled m by) s (filled to by′)) where
+module _ (lv : ℕ) (m to : Stored) (from e a kind n : ℕ) (ev at by by′ s : List ℕ) (p : m ≡ Put from) (w : Puts (filled m by) s (filled to by′)) where
   abbrev h : Held
   h = record { events = e; attributes = a; bytes = from; eventArea = ev; attributeArea = at; byteArea = by }
 
-  begun : (t : Areas) → held t ≡ put h (entry kind s n) → Wrote (areas m e a ev at by) (entry kind s n ∷ []) t
-  begun t q = wrote-one (areas m e a ev at by) t (entry kind s n) (rw p refl) q
+  begun : (t : Areas) → held t ≡ put h (entry kind s n) → Wrote (areas lv m e a ev at by) (entry kind s n ∷ []) t
+  begun t q = wrote-one (areas lv m e a ev at by) t (entry kind s n) (rw p refl) q
 
   was : Puts (filled (Put from) by) s (filled to by′)
   was = rw p at w
@@ -89,7 +89,7 @@ module _ (m to : Stored) (from e a kind n : ℕ) (ev at by by′ s : List ℕ) (
   limits = entryLimits e (from + length s) a n
 
   -- its bytes didn't fit
-  pub no-bytes : (t : Areas) → to ≡ Full → t .mark ≡ Full → Wrote (areas m e a ev at by) (entry kind s n ∷ []) t
+  pub no-bytes : (t : Areas) → to ≡ Full → t .mark ≡ Full → Wrote (areas lv m e a ev at by) (entry kind s n ∷ []) t
   unfolding put limits
   no-bytes t q f = begun t (rw f (sym (cond-third (some (withEntry h kind s n)) none limits (tableRoom e ev) (byteRoom from (length s) by) (full-says from by s (rw q at was)))))
 
@@ -98,7 +98,7 @@ module _ (m to : Stored) (from e a kind n : ℕ) (ev at by by′ s : List ℕ) (
     says = put-says from by s (rw q at was)
 
     -- it isn't within the limits
-    pub no-limits : (t : Areas) → entryLimits e end a n ≡ false → t .mark ≡ Full → Wrote (areas m e a ev at by) (entry kind s n ∷ []) t
+    pub no-limits : (t : Areas) → entryLimits e end a n ≡ false → t .mark ≡ Full → Wrote (areas lv m e a ev at by) (entry kind s n ∷ []) t
     unfolding put limits
     no-limits t l f =
         begun t (rw f (sym (cond-first (some (withEntry h kind s n)) none limits (tableRoom e ev && byteRoom from (length s) by) (ap (λ (x : ℕ). entryLimits e x a n) (sym (says .1)) ∙ l))))
@@ -123,12 +123,12 @@ module _ (m to : Stored) (from e a kind n : ℕ) (ev at by by′ s : List ℕ) (
         rw (x (omega arith), y (omega arith), z (omega arith), c (omega arith), u) refl
 
     -- its words didn't fit
-    pub no-entry : (t : Areas) (ev′ : List ℕ) → Puts (filled (Put (e * 5)) ev) words (filled Full ev′) → t .mark ≡ Full → Wrote (areas m e a ev at by) (entry kind s n ∷ []) t
+    pub no-entry : (t : Areas) (ev′ : List ℕ) → Puts (filled (Put (e * 5)) ev) words (filled Full ev′) → t .mark ≡ Full → Wrote (areas lv m e a ev at by) (entry kind s n ∷ []) t
     unfolding put limits
     no-entry t ev′ v f = begun t (rw f (sym (cond-second (some (withEntry h kind s n)) none limits (tableRoom e ev) (byteRoom from (length s) by) (full-says (e * 5) ev words v))))
 
     pub entry-stored : (ev′ : List ℕ) (u : ℕ) → entryLimits e end a n ≡ true → Puts (filled (Put (e * 5)) ev) words (filled (Put u) ev′)
-        → Wrote (areas m e a ev at by) (entry kind s n ∷ []) (areas (Put end) (e + 1) a ev′ at by′)
+        → Wrote (areas lv m e a ev at by) (entry kind s n ∷ []) (areas lv (Put end) (e + 1) a ev′ at by′)
     unfolding put limits
     entry-stored ev′ u l v =
         let k = put-says (e * 5) ev words v in
@@ -137,7 +137,7 @@ module _ (m to : Stored) (from e a kind n : ℕ) (ev at by by′ s : List ℕ) (
         let z = says .2 in
         let f : put h (entry kind s n) ≡ some (withEntry h kind s n) =
         cond-all (some (withEntry h kind s n)) none limits (tableRoom e ev) (byteRoom from (length s) by) (ap (λ (x : ℕ). entryLimits e x a n) (sym (says .1)) ∙ l) (k .0) (says .0) in
-        begun (areas (Put end) (e + 1) a ev′ at by′) (rw (y, z, o) (sym f))
+        begun (areas lv (Put end) (e + 1) a ev′ at by′) (rw (y, z, o) (sym f))
 
 -- ---- the limits, as they are tested
 leb-back : (a n r : ℕ) → n ≤ r → leb a (r - n) ≡ leb (a + n) r
@@ -159,13 +159,13 @@ limits-over e b a n h = rw (lt-leb (a + n) 65536 (omega arith)) (go (ltb e 65536
     go false y = refl
 
 -- ---- an attribute: its key was put up to mid, its value from there on
-module _ (m mid to : Stored) (from e a : ℕ) (ev at by by′ by″ key value : List ℕ) (p : m ≡ Put from)
+module _ (lv : ℕ) (m mid to : Stored) (from e a : ℕ) (ev at by by′ by″ key value : List ℕ) (p : m ≡ Put from)
     (w : Puts (filled m by) key (filled mid by′)) (v : Puts (filled mid by′) value (filled to by″)) where
   abbrev h₂ : Held
   h₂ = record { events = e; attributes = a; bytes = from; eventArea = ev; attributeArea = at; byteArea = by }
 
-  begun₂ : (t : Areas) → held t ≡ put h₂ (pair key value) → Wrote (areas m e a ev at by) (pair key value ∷ []) t
-  begun₂ t q = wrote-one (areas m e a ev at by) t (pair key value) (rw p refl) q
+  begun₂ : (t : Areas) → held t ≡ put h₂ (pair key value) → Wrote (areas lv m e a ev at by) (pair key value ∷ []) t
+  begun₂ t q = wrote-one (areas lv m e a ev at by) t (pair key value) (rw p refl) q
 
   unfoldable limits₂ : Bool
   limits₂ = pairLimits a (from + length (key ++ value))
@@ -175,15 +175,15 @@ module _ (m mid to : Stored) (from e a : ℕ) (ev at by by′ by″ key value : 
   both = rw p at (more w v)
 
   -- they didn't fit
-  pub no-pair : (t : Areas) → to ≡ Full → t .mark ≡ Full → Wrote (areas m e a ev at by) (pair key value ∷ []) t
+  pub no-pair : (t : Areas) → to ≡ Full → t .mark ≡ Full → Wrote (areas lv m e a ev at by) (pair key value ∷ []) t
   unfolding put limits₂
   no-pair t q f =
       begun₂ t (rw f (sym (cond-third (some (withPair h₂ key value)) none limits₂ (tableRoom a at) (byteRoom from (length (key ++ value)) by) (full-says from by (key ++ value) (rw q at both)))))
 
-  pub no-key : (t : Areas) → mid ≡ Full → t .mark ≡ Full → Wrote (areas m e a ev at by) (pair key value ∷ []) t
+  pub no-key : (t : Areas) → mid ≡ Full → t .mark ≡ Full → Wrote (areas lv m e a ev at by) (pair key value ∷ []) t
   no-key t q f = go to refl
     where
-      go : (x : Stored) → to ≡ x → Wrote (areas m e a ev at by) (pair key value ∷ []) t
+      go : (x : Stored) → to ≡ x → Wrote (areas lv m e a ev at by) (pair key value ∷ []) t
       go (Put n) r = absurd (never-put by′ value n (rw (q, r) at v))
       go Full r = no-pair t r f
 
@@ -194,7 +194,7 @@ module _ (m mid to : Stored) (from e a : ℕ) (ev at by by′ by″ key value : 
     says₂ : (leb (length (key ++ value)) (length by - from) ≡ true) × (end ≡ from + length (key ++ value)) × (by″ ≡ over by from (key ++ value))
     says₂ = put-says from by (key ++ value) (rw q at both)
 
-    pub no-pair-limits : (t : Areas) → pairLimits a end ≡ false → t .mark ≡ Full → Wrote (areas m e a ev at by) (pair key value ∷ []) t
+    pub no-pair-limits : (t : Areas) → pairLimits a end ≡ false → t .mark ≡ Full → Wrote (areas lv m e a ev at by) (pair key value ∷ []) t
     unfolding put limits₂
     no-pair-limits t l f = begun₂ t
         (rw f (sym (cond-first (some (withPair h₂ key value)) none limits₂ (tableRoom a at && byteRoom from (length (key ++ value)) by) (ap (λ (x : ℕ). pairLimits a x) (sym (says₂ .1)) ∙ l))))
@@ -220,13 +220,13 @@ module _ (m mid to : Stored) (from e a : ℕ) (ev at by by′ by″ key value : 
         let g = length-append key value in
         rw (x (omega arith), y (omega arith), x′ (omega arith), y′ (omega arith), u, u′) refl
 
-    pub no-pair-words : (t : Areas) (at′ : List ℕ) → Puts (filled (Put (a * 5)) at) words₂ (filled Full at′) → t .mark ≡ Full → Wrote (areas m e a ev at by) (pair key value ∷ []) t
+    pub no-pair-words : (t : Areas) (at′ : List ℕ) → Puts (filled (Put (a * 5)) at) words₂ (filled Full at′) → t .mark ≡ Full → Wrote (areas lv m e a ev at by) (pair key value ∷ []) t
     unfolding put limits₂
     no-pair-words t at′ x f =
         begun₂ t (rw f (sym (cond-second (some (withPair h₂ key value)) none limits₂ (tableRoom a at) (byteRoom from (length (key ++ value)) by) (full-says (a * 5) at words₂ x))))
 
     pub pair-stored : (at′ : List ℕ) (u : ℕ) → pairLimits a end ≡ true → Puts (filled (Put (a * 5)) at) words₂ (filled (Put u) at′)
-        → Wrote (areas m e a ev at by) (pair key value ∷ []) (areas (Put end) e (a + 1) ev at′ by″)
+        → Wrote (areas lv m e a ev at by) (pair key value ∷ []) (areas lv (Put end) e (a + 1) ev at′ by″)
     unfolding put limits₂
     pair-stored at′ u l x =
         let k = put-says (a * 5) at words₂ x in
@@ -235,4 +235,4 @@ module _ (m mid to : Stored) (from e a : ℕ) (ev at by by′ by″ key value : 
         let z = says₂ .2 in
         let f : put h₂ (pair key value) ≡ some (withPair h₂ key value) =
         cond-all (some (withPair h₂ key value)) none limits₂ (tableRoom a at) (byteRoom from (length (key ++ value)) by) (ap (λ (n : ℕ). pairLimits a n) (sym (says₂ .1)) ∙ l) (k .0) (says₂ .0) in
-        begun₂ (areas (Put end) e (a + 1) ev at′ by″) (rw (y, z, o) (sym f))
+        begun₂ (areas lv (Put end) e (a + 1) ev at′ by″) (rw (y, z, o) (sym f))

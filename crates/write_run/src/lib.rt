@@ -35,7 +35,7 @@ fn put_description(events: &mut [u32], bytes: &mut [u8], k: Marks, text: &[u8], 
     }
     let inner = put_text(events, bytes, k, text, r, word::DESCRIPTION);
     if has_bit(r, bit::STACK_TRACE) | (has_bit(r, bit::OUT) | has_bit(r, bit::ERR)) {
-        return put_bare(events, inner, kind::INDENT);
+        return put_bare(events, bytes, inner, kind::INDENT);
     }
     inner
 }

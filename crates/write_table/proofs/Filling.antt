@@ -18,7 +18,8 @@ module _ (area : List ℕ) (k : ℕ) where
       ∙ sym (length-append (take k area) (drop k area))
       ∙ ap length (take-append-drop k area)
 
-  over-none : over area k [] ≡ area
+  -- nothing over an area leaves it as it was
+  pub over-none : over area k [] ≡ area
   over-none =
       ap (λ (x : List ℕ). take k area ++ (x ++ drop k area)) (take-nil {A = ℕ} (length (drop k area)))
       ∙ take-append-drop k area
@@ -37,7 +38,7 @@ module _ (area : List ℕ) (k : ℕ) where
     front = length-append (take k area) f ∙ ap (λ (n : ℕ). n + length f) (length-take-le k area (omega arith))
 
     -- one text behind another
-    over-over : over (over area k f) (k + length f) g ≡ over area k (f ++ g)
+    pub over-over : over (over area k f) (k + length f) g ≡ over area k (f ++ g)
     over-over =
         let t : take (k + length f) (over area k f) ≡ take k area ++ f = ap (take (k + length f)) parted ∙ take-at (take k area ++ f) rest (k + length f) front in
         let u : drop (k + length f) (over area k f) ≡ rest = ap (drop (k + length f)) parted ∙ drop-at (take k area ++ f) rest (k + length f) front in

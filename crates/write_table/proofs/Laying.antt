@@ -3,7 +3,6 @@ use Prim.Native.Nat.{ℕ, _*_, _/_, min}
 use mathlib.Core.Path.{_≡_, refl, sym, ap, _∙_}
 use mathlib.Core.List.{List, []}
 use mathlib.Core.Bool.{Bool, true, false, _&&_, true≢false}
-use mathlib.Core.Option.{none, some}
 use native.Mathlib.Omega.{arith}
 use borrow.Author.Tests.{le-leb, leb-true}
 use lib.Dec.{leb}
@@ -12,9 +11,9 @@ use Rattle.area.specs.Area.{zeros, laid}
 use Rattle.area.specs.Limits.{mostEntries, mostBytes}
 use Rattle.table.specs.Event.{Event}
 use Rattle.write_table.specs.Laid.{itemsOf, laidBytes, Table, laidOut, fits}
-use Rattle.write_table.specs.inside.Putting.{Held, Kept, fresh, putAll}
+use Rattle.write_table.specs.inside.Putting.{Held, Kept, none, some, xml, fresh, putAll}
 use Rattle.write_table.proofs.Filling.{entries, pairs, length-events, length-attributes, after, same-held}
-use Rattle.write_table.proofs.Rooms.{Room, both, backed-items, room-kept, kept-room}
+use Rattle.write_table.proofs.Rooms.{Room, both, backed-items, room-kept, kept-room, never-xml}
 
 -- the table at the front of zeroed areas of so many words, words and bytes
 abbrev pub holding : Table → ℕ → ℕ → ℕ → Held
@@ -103,6 +102,7 @@ module _ (es : List Event) where
         go : (k : Kept) → putAll (some (fresh e a b)) (itemsOf es) ≡ k → putAll (some (fresh e a b)) (itemsOf es) ≡ none
         go none p = p
         go (some h) p = absurd (true≢false (sym (kept-fits h p) ∙ f))
+        go (xml h) p = absurd (never-xml (fresh e a b) (itemsOf es) h p)
 
     -- the same from the answer
     pub put-some : (h : Held) → putAll (some (fresh e a b)) (itemsOf es) ≡ some h → (fits (laidOut es) e a b ≡ true) × (h ≡ holding (laidOut es) e a b)

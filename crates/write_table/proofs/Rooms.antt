@@ -3,7 +3,6 @@ use Prim.Native.Nat.{ℕ, _+_, _*_, _-_, _≤_}
 use mathlib.Core.Path.{_≡_, refl, sym, ap, _∙_}
 use mathlib.Core.List.{List, [], _∷_, _++_}
 use mathlib.Core.Bool.{Bool, true, false, cond, _&&_, true≢false}
-use mathlib.Core.Option.{none, some}
 use native.Mathlib.Omega.{arith}
 use borrow.Author.Tests.{le-leb, lt-ltb, leb-true, ltb-true}
 use lib.Dec.{leb, ltb}
@@ -11,7 +10,7 @@ use lib.ListN.{length, length-append}
 use Rattle.area.specs.Limits.{mostEntries, mostBytes}
 use Rattle.table.specs.Event.{Attribute, Event, Tag, Piece, Eof, Fault}
 use Rattle.write_table.specs.Laid.{Item, entry, pair, entryWords, pairWords, laidBytes, pairsOf, itemsOf}
-use Rattle.write_table.specs.inside.Putting.{Held, Kept, tableRoom, byteRoom, entryLimits, pairLimits, withEntry, withPair, put, putAll}
+use Rattle.write_table.specs.inside.Putting.{Held, Spelling, Kept, none, some, xml, tableRoom, byteRoom, entryLimits, pairLimits, withEntry, withPair, put, putAll}
 use Rattle.write_table.proofs.Filling.{entries, pairs, after, length-over, after-none, after-entry, after-pair}
 
 -- ---- room for all items
@@ -183,6 +182,22 @@ never : (is : List Item) {k : Held} → putAll none is ≡ some k → ⊥
 unfolding putAll
 never [] p = let z : _≡_ {A = ℕ} 0 1 = cc in omega arith
 never (i ∷ is) p = let z : _≡_ {A = ℕ} 0 1 = cc in omega arith
+
+-- a table stays one
+none-xml : (is : List Item) (k : Spelling) → putAll none is ≡ xml k → ⊥
+unfolding putAll
+none-xml [] k p = let z : _≡_ {A = ℕ} 0 1 = cc in omega arith
+none-xml (i ∷ is) k p = let z : _≡_ {A = ℕ} 0 1 = cc in omega arith
+
+either-xml : (t : Bool) (w : Held) (is : List Item) (k : Spelling) → (putAll (some w) is ≡ xml k → ⊥) → putAll (cond t (some w) none) is ≡ xml k → ⊥
+either-xml true w is k f p = f p
+either-xml false w is k f p = none-xml is k p
+
+pub never-xml : (h : Held) (is : List Item) (k : Spelling) → putAll (some h) is ≡ xml k → ⊥
+unfolding putAll put
+never-xml h [] k p = let z : _≡_ {A = ℕ} 0 1 = cc in omega arith
+never-xml h (entry kind s n ∷ is) k p = either-xml (entryTest h (length s) n) (withEntry h kind s n) is k (never-xml (withEntry h kind s n) is k) p
+never-xml h (pair key value ∷ is) k p = either-xml (pairTest h (length (key ++ value))) (withPair h key value) is k (never-xml (withPair h key value) is k) p
 
 taken : (t : Bool) (w : Held) (is : List Item) {k : Held} → putAll (cond t (some w) none) is ≡ some k → (t ≡ true) × (putAll (some w) is ≡ some k)
 taken true w is e = (refl, e)

@@ -1,12 +1,11 @@
 -- Items one behind the other. Assumes nothing.
 use mathlib.Core.Path.{_≡_, refl, sym, ap, _∙_}
 use mathlib.Core.List.{List, [], _∷_, _++_, append-assoc}
-use mathlib.Core.Option.{none, some}
 use Rattle.area.specs.declared.Stored.{Stored}
 use Rattle.area.specs.declared.Stored.the-variants.{Full}
 use Rattle.table.specs.Event.{Event}
 use Rattle.write_table.specs.Laid.{Item, itemsOfEvent, itemsOf}
-use Rattle.write_table.specs.inside.Putting.{Held, Kept, put, putAll, Areas, heldBy, held, Wrote}
+use Rattle.write_table.specs.inside.Putting.{Held, Spelling, Kept, none, some, xml, put, spell, putAll, Areas, heldBy, held, Wrote}
 
 put-none : (is : List Item) → putAll none is ≡ none
 unfolding putAll
@@ -18,6 +17,7 @@ unfolding putAll
 put-append s [] js = refl
 put-append none (i ∷ is) js = put-none js ∙ sym (put-none ((i ∷ is) ++ js))
 put-append (some h) (i ∷ is) js = put-append (put h i) is js
+put-append (xml h) (i ∷ is) js = put-append (spell h i) is js
 
 -- nothing put
 pub wrote-nothing : (s : Areas) → Wrote s [] s
@@ -40,6 +40,11 @@ wrote-shut s t is p q = record { same = ap (λ (m : Stored). heldBy m t) q ∙ s
 pub wrote-one : (s t : Areas) {h : Held} (i : Item) → held s ≡ some h → held t ≡ put h i → Wrote s (i ∷ []) t
 unfolding putAll
 wrote-one s t {h} i p q = record { same = q ∙ ap (λ (x : Kept). putAll x (i ∷ [])) (sym p) }
+
+-- one item in the XML form
+pub wrote-text : (s t : Areas) {h : Spelling} (i : Item) → held s ≡ xml h → held t ≡ spell h i → Wrote s (i ∷ []) t
+unfolding putAll
+wrote-text s t {h} i p q = record { same = q ∙ ap (λ (x : Kept). putAll x (i ∷ [])) (sym p) }
 
 -- the items of events behind events
 pub items-append : (es fs : List Event) → itemsOf (es ++ fs) ≡ itemsOf es ++ itemsOf fs

@@ -3,10 +3,15 @@ use Prim.Native.Nat.{ℕ, zero, suc, _-_}
 use native.Mathlib.Numerals.{add-one}
 use mathlib.Core.Path.{_≡_, refl}
 use mathlib.Core.List.{List, [], _∷_}
+use mathlib.Core.Bool.{cond}
+use native.Mathlib.Omega.{arith}
+use borrow.Author.Tests.{le-ltb}
+use lib.Dec.{ltb}
 use lib.ListN.{getD, take, drop}
 use Rattle.names.specs.Bytes.{bytes}
 use Rattle.names.specs.Tags.{tags}
 use Rattle.names.specs.Keys.{keys}
+use Rattle.write_table.specs.inside.Forms.{keyText}
 use Rattle.write_items.specs.inside.Values.{tagName, keyName, cutAt}
 
 abbrev tag-starts : List ℕ
@@ -65,3 +70,31 @@ key-at (suc (suc (suc (suc (suc (suc (suc (suc (suc (suc (suc (suc (suc (suc (su
 
 pub key-cut : (c : ℕ) → cutAt (bytes "nameclassnameuuidtimestamptimetestsfailureserrorsskippeddisabledassertionsmessagetypevaluename") key-starts c ≡ keyName c
 key-cut c = rw (add-one c) (key-at c)
+
+-- ---- keys with what stands around them
+abbrev pub key-text-starts : List ℕ
+key-text-starts = 0 ∷ 3 ∷ 10 ∷ 22 ∷ 29 ∷ 41 ∷ 48 ∷ 56 ∷ 67 ∷ 76 ∷ 86 ∷ 97 ∷ 110 ∷ 120 ∷ 127 ∷ 135 ∷ 142 ∷ []
+
+abbrev pub key-texts : List ℕ
+key-texts = bytes " =\" name=\" classname=\" uuid=\" timestamp=\" time=\" tests=\" failures=\" errors=\" skipped=\" disabled=\" assertions=\" message=\" type=\" value=\" name=\""
+
+pub key-text-cut : (c : ℕ) → cutAt key-texts key-text-starts (cond (ltb c 16) c 0) ≡ keyText (keyName c)
+unfolding keyName keys
+key-text-cut zero = refl
+key-text-cut (suc zero) = refl
+key-text-cut (suc (suc zero)) = refl
+key-text-cut (suc (suc (suc zero))) = refl
+key-text-cut (suc (suc (suc (suc zero)))) = refl
+key-text-cut (suc (suc (suc (suc (suc zero))))) = refl
+key-text-cut (suc (suc (suc (suc (suc (suc zero)))))) = refl
+key-text-cut (suc (suc (suc (suc (suc (suc (suc zero))))))) = refl
+key-text-cut (suc (suc (suc (suc (suc (suc (suc (suc zero)))))))) = refl
+key-text-cut (suc (suc (suc (suc (suc (suc (suc (suc (suc zero))))))))) = refl
+key-text-cut (suc (suc (suc (suc (suc (suc (suc (suc (suc (suc zero)))))))))) = refl
+key-text-cut (suc (suc (suc (suc (suc (suc (suc (suc (suc (suc (suc zero))))))))))) = refl
+key-text-cut (suc (suc (suc (suc (suc (suc (suc (suc (suc (suc (suc (suc zero)))))))))))) = refl
+key-text-cut (suc (suc (suc (suc (suc (suc (suc (suc (suc (suc (suc (suc (suc zero))))))))))))) = refl
+key-text-cut (suc (suc (suc (suc (suc (suc (suc (suc (suc (suc (suc (suc (suc (suc zero)))))))))))))) = refl
+key-text-cut (suc (suc (suc (suc (suc (suc (suc (suc (suc (suc (suc (suc (suc (suc (suc zero))))))))))))))) = refl
+key-text-cut (suc (suc (suc (suc (suc (suc (suc (suc (suc (suc (suc (suc (suc (suc (suc (suc n)))))))))))))))) =
+    rw (le-ltb (suc (suc (suc (suc (suc (suc (suc (suc (suc (suc (suc (suc (suc (suc (suc (suc n)))))))))))))))) 16 (omega arith)) refl

@@ -10,13 +10,17 @@ use write_bytes::put_escaped;
 use write_bytes::put_timestamp;
 use write_bytes::put_uuid;
 use write_codes::offset_of_key;
+use write_form::form;
 ghost use mathlib.Core.Path.{_≡_};
 ghost use Prim.Native.Nat.{_+_, _-_, _*_, _≤_};
+ghost use mathlib.Core.Bool.{cond};
 ghost use lib.ListN.{getD};
+ghost use lib.Dec.{ltb};
 ghost use Rattle.digits.specs.Digits.{decimal};
 ghost use Rattle.write_escape.specs.Escape.{escaped};
 ghost use Rattle.tree_report.specs.Fields.{textAt, numberAt};
 ghost use Rattle.list_text.specs.inside.Behind.{filled, Puts};
+ghost use Rattle.write_table.specs.inside.Forms.{keyText, keyIn};
 ghost use Rattle.write_items.specs.inside.Values.{tagName, keyName, cutAt, wordsOf, valueOf};
 
 fn byte_at(s: &[u8], i: usize) -> u8
@@ -59,7 +63,7 @@ pub fn put_tag_name(bytes: &mut [u8], k: Stored, code: u8) -> Stored
     )
 }
 
-pub fn put_key(bytes: &mut [u8], k: Stored, code: u8) -> Stored
+fn put_key_name(bytes: &mut [u8], k: Stored, code: u8) -> Stored
     ensures { λ r. ⌜ Puts (filled k (now (bytes .entry))) (keyName code) (filled r (now (bytes .exit))) ⌝ }
 {
     put_named(
@@ -69,6 +73,35 @@ pub fn put_key(bytes: &mut [u8], k: Stored, code: u8) -> Stored
         b"\x00\x00\x04\x0d\x11\x1a\x1e\x23\x2b\x31\x38\x40\x4a\x51\x55\x5a\x5e",
         code,
     )
+}
+
+fn known(code: u8) -> u8
+    ensures { λ r. ⌜ r ≡ cond (ltb code 16) code 0 ⌝ }
+{
+    if code < 16 { code } else { 0 }
+}
+
+// A key with what stands around it in the XML form, ready made; no key has the code 0.
+fn put_key_text(bytes: &mut [u8], k: Stored, code: u8) -> Stored
+    ensures { λ r. ⌜ Puts (filled k (now (bytes .entry))) (keyText (keyName code)) (filled r (now (bytes .exit))) ⌝ }
+{
+    put_named(
+        bytes,
+        k,
+        b" =\" name=\" classname=\" uuid=\" timestamp=\" time=\" tests=\" failures=\" errors=\" skipped=\" disabled=\" assertions=\" message=\" type=\" value=\" name=\"",
+        b"\x00\x03\x0a\x16\x1d\x29\x30\x38\x43\x4c\x56\x61\x6e\x78\x7f\x87\x8e",
+        known(code),
+    )
+}
+
+// The key with that code, in either form.
+pub fn put_key(bytes: &mut [u8], k: Stored, form: u32, code: u8) -> Stored
+    ensures { λ r. ⌜ Puts (filled k (now (bytes .entry))) (keyIn form (keyName code)) (filled r (now (bytes .exit))) ⌝ }
+{
+    if form == form::TABLE {
+        return put_key_name(bytes, k, code);
+    }
+    put_key_text(bytes, k, code)
 }
 
 fn number_of(low: u32, high: u32) -> u64

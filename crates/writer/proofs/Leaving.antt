@@ -2,8 +2,8 @@
 use Prim.Native.Nat.{ℕ}
 use mathlib.Core.Path.{_≡_, refl, sym, ap, _∙_}
 use mathlib.Core.List.{List}
-use mathlib.Core.Bool.{true, false}
-use mathlib.Core.Option.{none, some}
+use mathlib.Core.Bool.{Bool, true, false}
+use lib.Dec.{eqb}
 use Rattle.refusal.specs.declared.Cause.the-variants as cause
 use Rattle.area.specs.Answer.{Answer, gives, refuses}
 use Rattle.area.specs.Area.{zeros}
@@ -11,7 +11,8 @@ use Rattle.area.specs.declared.Stored.{Stored}
 use Rattle.area.specs.declared.Stored.the-variants.{Put, Full}
 use Rattle.tree_report.specs.Layout.{layout}
 use Rattle.write_table.specs.Laid.{Table, itemsOf, fits}
-use Rattle.write_table.specs.inside.Putting.{Held, Kept, Areas, heldBy, held, fresh, Wrote, putAll}
+use Rattle.write_table.specs.inside.Putting.{Held, Spelling, Kept, none, some, Areas, heldBy, held, fresh, Wrote, putAll}
+use Rattle.write_table.proofs.Rooms.{never-xml}
 use Rattle.write_table.proofs.Laying.{holding, put-some, none-fits}
 use Rattle.write_marks.specs.inside.Kept.{empty, kept}
 use Rattle.write_answer.specs.Answer.{Sizes, eventsOf, tableOf, writingAnswer, leftFor, eventsLeft, attributesLeft, bytesLeft}
@@ -68,12 +69,22 @@ module _ (words text : List ℕ) (e a b : ℕ) where
         -- the table was put
         pub whole-writing : (n : ℕ) → s .mark ≡ Put n → Left (gives (record { events = s .events; attributes = s .attributes; bytes = n })) (s .eventArea) (s .attributeArea) (s .byteArea)
         unfolding tableOf
-        whole-writing n q = whole _ (ap (λ (m : Stored). heldBy m s) q)
+        whole-writing n q = go (eqb (s .form) 0) refl
           where
+            table : Held
+            table = record { events = s .events; attributes = s .attributes; bytes = n; eventArea = s .eventArea; attributeArea = s .attributeArea; byteArea = s .byteArea }
+
+            text′ : Spelling
+            text′ = record { form = s .form; level = s .level; bytes = n; byteArea = s .byteArea }
+
             whole : (h : Held) → held s ≡ some h → Left (gives (sizes h)) (h .eventArea) (h .attributeArea) (h .byteArea)
             whole h q =
                 let r = put-some (eventsOf words text) e a b h (sym all-put ∙ q) in
                 rw (r .1) (left-from (fitting (r .0)) refl refl refl)
+
+            go : (x : Bool) → eqb (s .form) 0 ≡ x → Left (gives (sizes table)) (s .eventArea) (s .attributeArea) (s .byteArea)
+            go true y = whole table (ap (λ (m : Stored). heldBy m s) q ∙ rw y refl)
+            go false y = absurd (never-xml (fresh e a b) (itemsOf (eventsOf words text)) text′ (sym all-put ∙ ap (λ (m : Stored). heldBy m s) q ∙ rw y refl))
 
         -- it didn't fit
         pub short-writing : {ev′ at′ by′ : List ℕ} → s .mark ≡ Full → ev′ ≡ zeros e → at′ ≡ zeros a → by′ ≡ zeros b → Left (refuses cause.OutputFull) ev′ at′ by′

@@ -9,6 +9,7 @@ use refusal::Verdict;
 use refusal::no_refusal;
 use refusal::refuse_late;
 use write_document::put_document;
+use write_form::form;
 use write_marks::Marks;
 ghost use mathlib.Core.Path.{_≡_};
 ghost use lib.ListN.{length};
@@ -56,6 +57,8 @@ fn put_tree(
     let start = Marks {
         events: 0,
         attributes: 0,
+        form: form::TABLE,
+        level: 0,
         bytes: Stored::Put(0),
     };
     put_document(
@@ -95,8 +98,8 @@ pub fn write(
     };
     Writing {
         verdict: Verdict::Accepted,
-        events: k.events,
-        attributes: k.attributes,
+        events: k.events as usize,
+        attributes: k.attributes as usize,
         bytes: n,
         refusal: no_refusal(),
     }

@@ -12,7 +12,7 @@ ghost use Rattle.xml_state.specs.Answer.{result};
 ghost use Rattle.xml_listing.specs.XmlListing.{lent, tableIn, listingFor};
 
 // The n records, five words each, at the front of an area.
-fn table_in(words: &[u32], n: u32) -> &[u32]
+pub fn table_in(words: &[u32], n: u32) -> &[u32]
     ensures { λ r. ⌜ now r ≡ tableIn n (now (words .entry)) ⌝ }
 {
     let m = (n as usize) * 5;

@@ -300,6 +300,47 @@ pub fn starts(tree: &Tree<'_>) -> Result<Option<Starts>, Refusal> {
     }))
 }
 
+/// The report as an XML document: what people keep as a file.
+///
+/// # Errors
+///
+/// 16 where it is longer than 16,777,216 bytes.
+///
+/// ```
+/// use kerzhoma::{list, read, to_xml, tokenize, Areas, TableBuilder};
+///
+/// let mut table = TableBuilder::new();
+/// table.empty("testsuites").attribute("name", "r").attribute("tests", "2");
+/// let mut areas = Areas::for_table(&table.table());
+/// let tree = read(&table.table(), &mut areas)?;
+/// let document = to_xml(&tree)?;
+/// assert!(document.ends_with("<testsuites name=\"r\" tests=\"2\" skipped=\"0\" failures=\"0\" errors=\"0\">\n</testsuites>\n"));
+///
+/// let again = tokenize(document.as_bytes()).unwrap();
+/// let mut others = Areas::for_table(&again.as_table());
+/// assert_eq!(list(&read(&again.as_table(), &mut others)?)?, list(&tree)?);
+/// # Ok::<(), kerzhoma::Refusal>(())
+/// ```
+pub fn to_xml(tree: &Tree<'_>) -> Result<String, Refusal> {
+    let bounds = tree.bounds();
+    // beside its own bytes an entry has at most a line's indent of five levels and a few marks
+    let bound = bounds.entries.saturating_mul(64).saturating_add(bounds.bytes);
+    let mut out = vec![0; usize::try_from(bound).unwrap_or(limits::BYTES).min(limits::BYTES)];
+    let length = write_xml(tree, &mut out)?;
+    Ok(text_of(out, length))
+}
+
+/// Puts the document at the front of an area, and zeros behind it: how many bytes it takes.
+///
+/// # Errors
+///
+/// 16 where the area, or the 16,777,216 bytes of it that are used, are too short; all of it is zero then.
+pub fn write_xml(tree: &Tree<'_>, out: &mut [u8]) -> Result<usize, Refusal> {
+    let document = sys::write_xml(tree.records(), tree.text().as_bytes(), out);
+    Refusal::result(document.refusal, Lent { out: out.len(), ..Lent::default() })?;
+    Ok(document.length)
+}
+
 /// A refusal in words, with the names of suite and case from the table that was refused: one line, ended by a newline.
 ///
 /// A name is private text: this line isn't for the public. What a [`Refusal`] displays has no names.

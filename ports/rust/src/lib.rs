@@ -45,8 +45,8 @@ mod values;
 pub use areas::Areas;
 pub use builder::{CaseBuilder, ReportBuilder, RunBuilder, SuiteBuilder};
 pub use calls::{
-    explain, list, list_into, public_listing, public_listing_into, read, read_and_list, read_and_list_into, rehearse, rehearse_into, starts, write,
-    write_into, Order,
+    explain, list, list_into, public_listing, public_listing_into, read, read_and_list, read_and_list_into, rehearse, rehearse_into, starts, to_xml, write,
+    write_into, write_xml, Order,
 };
 pub use document::{explain_xml, list_xml, read_and_list_xml, tokenize, tokenize_into, DocumentRefusal, XmlRefusal};
 pub use refusal::{Cause, PathElement, Refusal};

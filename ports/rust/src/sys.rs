@@ -25,6 +25,13 @@ pub struct Listing {
 
 #[repr(C)]
 #[derive(Clone, Copy)]
+pub struct Document {
+    pub length: usize,
+    pub refusal: Refusal,
+}
+
+#[repr(C)]
+#[derive(Clone, Copy)]
 pub struct Explained {
     pub length: usize,
     pub refusal: Refusal,
@@ -187,6 +194,9 @@ extern "C" {
         cases: u64, failures: u64, errors: u64, skipped: u64, flaky: u64, events: *mut u32, events_len: usize, attributes: *mut u32,
         attributes_len: usize, bytes: *mut u8, bytes_len: usize,
     ) -> Writing;
+    fn kerzhoma_write_xml(
+        records: *const u32, records_len: usize, text: *const u8, text_len: usize, out: *mut u8, out_len: usize,
+    ) -> Document;
     fn kerzhoma_explain(
         refusal: Refusal, lent: usize, events: *const u32, events_len: usize, attributes: *const u32, attributes_len: usize,
         source: *const u8, source_len: usize, out: *mut u8, out_len: usize,
@@ -397,6 +407,10 @@ pub fn rehearse(
             bytes.len(),
         )
     }
+}
+
+pub fn write_xml(records: &[u32], text: &[u8], out: &mut [u8]) -> Document {
+    unsafe { kerzhoma_write_xml(records.as_ptr(), records.len(), text.as_ptr(), text.len(), out.as_mut_ptr(), out.len()) }
 }
 
 pub fn explain(refusal: Refusal, lent: usize, events: &[u32], attributes: &[u32], source: &[u8], out: &mut [u8]) -> Explained {

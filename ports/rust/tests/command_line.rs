@@ -216,6 +216,54 @@ fn documents() {
     assert_eq!(text(&run(&["list", "-"], &written.out)), WORKED);
 }
 
+// The same report as a file that people keep.
+const FILE: &str = "<?xml version=\"1.0\" encoding=\"UTF-8\"?>
+<testsuites name=\"r\" tests=\"2\" skipped=\"0\" failures=\"0\" errors=\"0\">
+    <testsuite name=\"lab\" tests=\"2\" skipped=\"0\" errors=\"0\" failures=\"0\">
+        <testcase name=\"a\" time=\"0.500\"/>
+        <testcase name=\"b\">
+            <failure message=\"m\"/>
+            <rerunFailure>
+            </rerunFailure>
+        </testcase>
+    </testsuite>
+</testsuites>
+";
+
+#[test]
+fn documents_that_are_written() {
+    let written = run(&["write", "--xml-out", "-", "-o", "-"], &worked());
+    assert_eq!((written.status, text(&written), written.err.as_str()), (0, FILE, ""));
+    let again = run(&["write", "--xml", "--xml-out", "-", "-o", "-"], FILE.as_bytes());
+    assert_eq!((again.status, text(&again)), (0, FILE));
+    assert_eq!(text(&run(&["list", "--xml", "-"], FILE.as_bytes())), WORKED);
+    let to = room("kept.xml");
+    let file = to.to_str().unwrap();
+    let ran = run(&["write", "--xml", "-", "-o", file], DOCUMENT.as_bytes());
+    assert_eq!((ran.status, ran.out.len(), ran.err.as_str()), (0, 0, ""));
+    assert_eq!(fs::read_to_string(&to).unwrap(), FILE);
+    fs::remove_file(&to).unwrap();
+    assert_eq!(run(&["list", "--xml-out", "-"], &worked()).status, 2);
+}
+
+#[test]
+fn orders_as_documents() {
+    let order = ["rehearse", "5", "1", "1", "1", "1"];
+    let table = run(&[&order[..], &["-o", "-"]].concat(), b"");
+    let document = run(&["write", "--xml-out", "-", "-o", "-"], &table.out);
+    assert!(text(&document).ends_with("        <testcase name=\"case4\"/>\n    </testsuite>\n</testsuites>\n"));
+    let asked = run(&[&order[..], &["--xml-out", "-o", "-"]].concat(), b"");
+    assert_eq!((asked.status, text(&asked), asked.err.as_str()), (0, text(&document), ""));
+    let to = room("order.xml");
+    let file = to.to_str().unwrap();
+    let named = run(&[&order[..], &["-o", file]].concat(), b"");
+    assert_eq!((named.status, named.out.len(), named.err.as_str()), (0, 0, ""));
+    assert_eq!(fs::read_to_string(&to).unwrap(), text(&document));
+    assert_eq!(text(&run(&["list", file], b"")), text(&run(&["list", "-"], &table.out)));
+    fs::remove_file(&to).unwrap();
+    assert_eq!(run(&["rehearse", "5000", "0", "0", "0", "0", "--xml-out", "-o", "-"], b"").status, 1);
+}
+
 #[test]
 fn documents_that_are_refused() {
     for (document, line) in [
@@ -347,7 +395,6 @@ fn usage() {
         &["rehearse", "1", "0", "0", "0", "0", "0", "-o", "y"],
         &["rehearse", "1", "0", "0", "0", "x", "-o", "y"],
         &["rehearse", "1", "0", "0", "0", "18446744073709551616", "-o", "y"],
-        &["rehearse", "1", "0", "0", "0", "0", "-o", "y.xml"],
         &["rehearse", "--xml", "1", "0", "0", "0", "0", "-o", "y"],
         &[""],
     ] {

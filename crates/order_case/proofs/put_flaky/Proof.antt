@@ -34,7 +34,9 @@ same-length c =
     put-tag3 .kept .0 ∙ put-tag2 .kept .0 ∙ at-put-tag .put-tag .kept .0 ∙ put-opening .kept .0
 
 same-length-2 : tie.Need-same-length-2
-same-length-2 c = search needs
+same-length-2 c =
+    let at-put-tag = c .before .before .before .before .before .before .before .before .before .before .before .before .before .before .before .before .before .before in
+    at-put-tag .before .before .before .before .before .before .before .before .before .put-opening .kept .1 .0
 
 same-length-3 : tie.Need-same-length-3
 same-length-3 c = search needs

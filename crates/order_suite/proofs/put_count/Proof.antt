@@ -1,3 +1,6 @@
+use Rattle.list_text.proofs.Putting.{more}
+use Rattle.digits.specs.Digits.{decimal}
+use Rattle.write_items.specs.inside.Values.{keyName}
 use borrow.Author.Needs.{needs}
 use Rattle.order_suite.proofs.put_count.Statement.{statement}
 use Rattle.order_suite.proofs.put_count.Tie as tie
@@ -7,6 +10,9 @@ put-key-requires c κs = search needs
 
 put-decimal-requires : tie.Need-put-decimal-requires
 put-decimal-requires c κs = search needs
+
+put-quote-requires : tie.Need-put-quote-requires
+put-quote-requires c κs = search needs
 
 store-attribute-requires : tie.Need-store-attribute-requires
 store-attribute-requires c κs = search needs
@@ -19,9 +25,11 @@ same-length-2 c = search needs
 
 returns : tie.Need-returns
 returns c =
-    let put-key = c .before .before .before .before .before .before .before .before .before .before .put-key in
-    let put-decimal = c .before .before .before .before .before .before .put-decimal in
-    λ ev. c .before .before .store-attribute .ensures ev _ _ _ _ _ (put-key .ensures) (put-decimal .ensures)
+    let key-put = c .before .before .before .before .before .before .before .before .before .before .before .before .before .before in
+    let put-decimal = c .before .before .before .before .before .before .before .before .before .before .put-decimal in
+    let put-quote = c .before .before .before .before .before .before .put-quote in
+    let given = key-put .before .before .before .before .args in
+    λ ev. c .before .before .store-attribute .ensures ev _ _ _ (keyName (given .code)) (decimal (given .n)) (key-put .put-key .ensures) (more (put-decimal .ensures) (put-quote .ensures))
 
 pub put-count-spec : {M : Type 1} → statement M
 put-count-spec =
@@ -29,6 +37,7 @@ put-count-spec =
     (tie.spec
     put-key-requires
     put-decimal-requires
+    put-quote-requires
     store-attribute-requires
     same-length
     same-length-2

@@ -1,3 +1,7 @@
+use Rattle.list_text.proofs.Putting.{more}
+use Rattle.names.specs.Keys as key
+use Rattle.write_items.specs.inside.Values.{keyName}
+use Rattle.order_report.specs.Rehearsal.{rehearsalName}
 use borrow.Author.Needs.{needs}
 use Rattle.order_suite.proofs.put_name.Statement.{statement}
 use Rattle.order_suite.proofs.put_name.Tie as tie
@@ -14,6 +18,9 @@ slice-aggregate-put c = search needs
 put-requires : tie.Need-put-requires
 put-requires c κs = search needs
 
+put-quote-requires : tie.Need-put-quote-requires
+put-quote-requires c κs = search needs
+
 store-attribute-requires : tie.Need-store-attribute-requires
 store-attribute-requires c κs = search needs
 
@@ -25,9 +32,10 @@ same-length-2 c = search needs
 
 returns : tie.Need-returns
 returns c =
-    let put-key = c .before .before .before .before .before .before .before .before .before .before .before .put-key in
-    let put = c .before .before .before .before .before .before .put in
-    λ ev. c .before .before .store-attribute .ensures ev _ _ _ _ _ (put-key .ensures) (put .ensures)
+    let put-key = c .before .before .before .before .before .before .before .before .before .before .before .before .before .before .before .put-key in
+    let put = c .before .before .before .before .before .before .before .before .before .before .put in
+    let put-quote = c .before .before .before .before .before .before .put-quote in
+    λ ev. c .before .before .store-attribute .ensures ev _ _ _ (keyName key.name) rehearsalName (put-key .ensures) (more (put .ensures) (put-quote .ensures))
 
 pub put-name-spec : {M : Type 1} → statement M
 put-name-spec =
@@ -37,6 +45,7 @@ put-name-spec =
     put-key-requires
     slice-aggregate-put
     put-requires
+    put-quote-requires
     store-attribute-requires
     same-length
     same-length-2

@@ -25,7 +25,9 @@ put-count-requires-2 : tie.Need-put-count-requires-2
 put-count-requires-2 c κs = search needs
 
 same-length : tie.Need-same-length
-same-length c = search needs
+same-length c =
+    let at-put-common = c .before .before .before .before .before .before .before .before .before .before .before .before .before .before .before .before .before .before in
+    at-put-common .before .before .before .before .before .before .before .put-tag .kept .0
 
 same-length-2 : tie.Need-same-length-2
 same-length-2 c = search needs

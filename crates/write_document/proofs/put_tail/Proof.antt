@@ -23,9 +23,10 @@ same-length-2 c = search needs
 
 returns : tie.Need-returns
 returns c =
-    let put-tag = c .before .before .before .before .before .before .before .before .before .before .before .before .put-tag in
-    let put-bare = c .before .before .before .before .before .before .put-bare in
-    λ at. then (put-tag .ensures at) (then (put-bare .ensures at _) (c .before .before .put-bare2 .ensures at _))
+    let put-tag = c .before .before .before .before .before .before .before .before .before .before .before .before .before .before .before .before .before .before .put-tag in
+    let put-bare = c .before .before .before .before .before .before .before .before .before .before .before .put-bare in
+    let put-bare2 = c .before .before .before .before .put-bare2 in
+    λ at. then (put-tag .ensures at) (then (put-bare .ensures at) (put-bare2 .ensures at))
 
 pub put-tail-spec : {M : Type 1} → statement M
 put-tail-spec =

@@ -1,15 +1,15 @@
-use Prim.Native.Nat.{_-_, _≤_}
-use mathlib.Core.Path.{ap, _∙_}
-use native.Mathlib.Omega.{arith}
-use borrow.Author.Needs.{needs}
-use lib.ListN.{length, drop}
-use Rattle.write_escape.proofs.Putting.{byte-full, byte-put, byte-fits}
-use Rattle.write_escape.specs.Escape.{written, escaped}
-use Rattle.escape.proofs.Spelling.{spelled-end}
+use Rattle.refusal.specs.declared.Cause.the-variants as cause
 use Rattle.area.proofs.Laying.{Laying, laying-start, laying-on, laying-done, length-laid}
+use Rattle.escape.proofs.Spelling.{spelled-end}
+use Rattle.write_escape.specs.Escape.{written, escaped}
+use Rattle.write_escape.proofs.Blocks.{block-full, block-put, block-fits}
+use lib.ListN.{length, drop}
+use borrow.Author.Needs.{needs}
+use native.Mathlib.Omega.{arith}
+use mathlib.Core.Path.{ap, _∙_}
+use Prim.Native.Nat.{_+_, _-_, _≤_}
 use Rattle.write_escape.proofs.escape_into.Statement.{statement}
 use Rattle.write_escape.proofs.escape_into.Tie as tie
-use Rattle.refusal.specs.declared.Cause.the-variants as cause
 
 abbrev Inv-loop : tie.InvT-loop
 Inv-loop out₀ s i₀ k₀ out i k = (i ≤ length s) × Laying out₀ out k (escaped s) (escaped (drop i s))
@@ -20,20 +20,35 @@ abbrev μ-loop : tie.MeasureT-loop
 loop-holds : tie.Need-loop-holds Inv-loop μ-loop
 loop-holds c = (omega arith, laying-start _ _)
 
-sub-put-byte : tie.Need-sub-put-byte Inv-loop μ-loop
-sub-put-byte c = omega (arith, c .before .loop .inv .1 .fits)
+sub-least : tie.Need-sub-least Inv-loop μ-loop
+sub-least c = omega arith
 
-part-put-byte-start : tie.Need-part-put-byte-start Inv-loop μ-loop
-part-put-byte-start c = omega (arith, c .before .loop .inv .1 .fits)
+least-requires : tie.Need-least-requires Inv-loop μ-loop
+least-requires c κs = search needs
 
-part-put-byte-end : tie.Need-part-put-byte-end Inv-loop μ-loop
-part-put-byte-end c = omega arith
+add-end : tie.Need-add-end Inv-loop μ-loop
+add-end c = omega (arith, c .least .ensures)
 
-shared-slice-read-put-byte : tie.Need-shared-slice-read-put-byte Inv-loop μ-loop
-shared-slice-read-put-byte c = omega arith
+sub-put-block : tie.Need-sub-put-block Inv-loop μ-loop
+sub-put-block c = omega (arith, c .before .before .loop .inv .1 .fits)
 
-put-byte-requires : tie.Need-put-byte-requires Inv-loop μ-loop
-put-byte-requires c κs = search needs
+part-put-block-start : tie.Need-part-put-block-start Inv-loop μ-loop
+part-put-block-start c = omega (arith, c .before .before .loop .inv .1 .fits)
+
+part-put-block-end : tie.Need-part-put-block-end Inv-loop μ-loop
+part-put-block-end c = omega arith
+
+sub-put-block-2 : tie.Need-sub-put-block-2 Inv-loop μ-loop
+sub-put-block-2 c = omega arith
+
+part-put-block-start-2 : tie.Need-part-put-block-start-2 Inv-loop μ-loop
+part-put-block-start-2 c = omega arith
+
+part-put-block-end-2 : tie.Need-part-put-block-end-2 Inv-loop μ-loop
+part-put-block-end-2 c = omega (arith, c .before .least .ensures)
+
+put-block-requires : tie.Need-put-block-requires Inv-loop μ-loop
+put-block-requires c κs = search needs
 
 enum-known-put : tie.Need-enum-known-put Inv-loop μ-loop
 enum-known-put c = search needs
@@ -41,35 +56,45 @@ enum-known-put c = search needs
 enum-told : tie.Need-enum-told Inv-loop μ-loop
 enum-told c = search needs
 
+same-length : tie.Need-same-length Inv-loop μ-loop
+same-length c =
+    let args = c .before .before .before .before .before .before .before .before .before .before .before .before .args in
+    let loop = c .before .before .before .before .before .before .before .before .before .loop in
+    let least = c .before .before .before .before .before .before .before .least in
+    let put-block = c .before .before .before .before .put-block in
+    ap length (block-full _ (loop .i) (loop .i + least .result) (loop .inv .1) (omega arith) _ _ (put-block .ensures .0) (put-block .ensures .1)
+    (c .enum-told .given .1) .1) ∙ length-laid (args .out .now) (escaped (args .s .now))
+
 returns : tie.Need-returns Inv-loop μ-loop
 returns c =
-    let loop = c .before .before .before .before .before .before .before .before .loop in
-    let loop-test = c .before .before .before .before .before .before .before .loop-test in
-    let put-byte = c .before .before .before .before .put-byte in
-    byte-full _ _ (loop .inv .1) (loop-test .taken) _ _ (put-byte .ensures .0) (put-byte .ensures .1) (c .enum-told .given .1)
-
-same-length : tie.Need-same-length Inv-loop μ-loop
-same-length c = let a = c .before .before .before .before .before .before .before .before .before .before .before .args in ap length (returns c .1) ∙ length-laid (a .out .now) (escaped (a .s .now))
+    let loop = c .before .before .before .before .before .before .before .before .before .loop in
+    let least = c .before .before .before .before .before .before .before .least in
+    let put-block = c .before .before .before .before .put-block in
+    block-full _ (loop .i) (loop .i + least .result) (loop .inv .1) (omega arith) _ _ (put-block .ensures .0) (put-block .ensures .1)
+    (c .enum-told .given .1)
 
 add-k : tie.Need-add-k Inv-loop μ-loop
 add-k c =
-    let loop = c .before .before .before .before .before .before .before .before .before .loop in
-    let loop-test = c .before .before .before .before .before .before .before .before .loop-test in
-    let put-byte = c .before .before .before .before .before .put-byte in
-    let h = byte-fits _ _ (loop .inv .1) (loop-test .taken) _ _ (put-byte .ensures .0) (put-byte .ensures .1) _ (c .before .put .given .1) in omega arith
-
-add-i : tie.Need-add-i Inv-loop μ-loop
-add-i c = omega arith
+    let loop = c .before .before .before .before .before .before .before .before .before .before .loop in
+    let least = c .before .before .before .before .before .before .before .before .least in
+    let put-block = c .before .before .before .before .before .put-block in
+    let h = block-fits _ (loop .i) (loop .i + least .result) (loop .inv .1) (omega arith) _ _ (put-block .ensures .0) (put-block .ensures .1)
+    _ (c .before .put .given .1) in omega arith
 
 loop-less : tie.Need-loop-less Inv-loop μ-loop
-loop-less c = omega arith
+loop-less c =
+    let least = c .before .before .before .before .before .before .before .before .least in
+    omega (arith, least .ensures)
 
 loop-again : tie.Need-loop-again Inv-loop μ-loop
 loop-again c =
-    let loop = c .before .before .before .before .before .before .before .before .before .loop in
-    let loop-test = c .before .before .before .before .before .before .before .before .loop-test in
-    let put-byte = c .before .before .before .before .before .put-byte in
-    (omega arith, byte-put _ _ (loop .inv .1) (loop-test .taken) _ _ (put-byte .ensures .0) (put-byte .ensures .1) _ (c .before .put .given .1))
+    let loop = c .before .before .before .before .before .before .before .before .before .before .loop in
+    let least = c .before .before .before .before .before .before .before .before .least in
+    let put-block = c .before .before .before .before .before .put-block in (
+      omega (arith, least .ensures),
+      block-put _ (loop .i) (loop .i + least .result) (loop .inv .1) (omega arith) _ _ (put-block .ensures .0)
+          (put-block .ensures .1) _ (c .before .put .given .1),
+    )
 
 same-length-2 : tie.Need-same-length-2 Inv-loop μ-loop
 same-length-2 c = c .before .loop .inv .1 .same
@@ -84,17 +109,21 @@ escape-into-spec =
     Inv-loop
     μ-loop
     loop-holds
-    sub-put-byte
-    part-put-byte-start
-    part-put-byte-end
-    shared-slice-read-put-byte
-    put-byte-requires
+    sub-least
+    least-requires
+    add-end
+    sub-put-block
+    part-put-block-start
+    part-put-block-end
+    sub-put-block-2
+    part-put-block-start-2
+    part-put-block-end-2
+    put-block-requires
     enum-known-put
     enum-told
     same-length
     returns
     add-k
-    add-i
     loop-less
     loop-again
     same-length-2

@@ -37,15 +37,16 @@ same-length-2 c = search needs
 
 returns-2 : tie.Need-returns-2
 returns-2 c =
-    let at-has-bit = c .before .before .before .before .before .before .before .before .before .before .before .before .before .before .before .before in
+    let at-has-bit = c .before .before .before .before .before .before .before .before .before .before .before .before .before .before .before .before .before .before .before in
     let args = at-has-bit .before .before .before .before .before .args in
-    let if1 = c .before .before .before .before .before .before .before .before .before .before .before .before .before .before .before .if1 in
-    let put-text = c .before .before .before .before .before .before .before .before .before .before .before .before .put-text in
-    let has-bit2 = c .before .before .before .before .before .before .before .has-bit2 in
-    let has-bit3 = c .before .before .before .before .before .before .has-bit3 in
-    let has-bit4 = c .before .before .before .before .before .has-bit4 in
-    let if2 = c .before .before .before .before .if2 in
-    λ at. said (then (put-text .ensures at) (c .before .before .put-bare .ensures at _)) (described-indented (args .text .now) (args .r .now)
+    let if1 = c .before .before .before .before .before .before .before .before .before .before .before .before .before .before .before .before .before .before .if1 in
+    let put-text = c .before .before .before .before .before .before .before .before .before .before .before .before .before .before .before .put-text in
+    let has-bit2 = c .before .before .before .before .before .before .before .before .before .before .has-bit2 in
+    let has-bit3 = c .before .before .before .before .before .before .before .before .before .has-bit3 in
+    let has-bit4 = c .before .before .before .before .before .before .before .before .has-bit4 in
+    let if2 = c .before .before .before .before .before .before .before .if2 in
+    let put-bare = c .before .before .before .before .put-bare in
+    λ at. said (then (put-text .ensures at) (put-bare .ensures at)) (described-indented (args .text .now) (args .r .now)
     (sym (at-has-bit .has-bit .ensures) ∙ not-false _ (if1 .left)) (rw (has-bit2 .ensures, has-bit3 .ensures, has-bit4 .ensures) at (if2 .taken)))
 
 same-length-3 : tie.Need-same-length-3

@@ -1,16 +1,18 @@
--- Items put one behind the other into the three areas, as far as they have room. Definitions only.
+-- Items put one behind the other, as far as they have room: into the three areas of a table, or into one as XML. Definitions only.
 use Prim.Native.Nat.{ℕ, _+_, _-_, _*_}
 use mathlib.Core.Path.{_≡_}
 use mathlib.Core.List.{List, [], _∷_, _++_}
 use mathlib.Core.Bool.{Bool, cond, _&&_}
-use mathlib.Core.Option.{Option, none, some}
 use lib.ListN.{length, take, drop}
-use lib.Dec.{leb, ltb}
+use lib.Dec.{leb, ltb, eqb}
 use Rattle.area.specs.Area.{zeros, laid}
 use Rattle.area.specs.Limits.{mostEntries, mostBytes}
 use Rattle.area.specs.declared.Stored.{Stored}
 use Rattle.area.specs.declared.Stored.the-variants.{Put, Full}
+use Rattle.table.specs.Kinds as kind
 use Rattle.write_table.specs.Laid.{Item, entry, pair, entryWords, pairWords}
+use Rattle.write_table.specs.inside.Forms as form
+use Rattle.write_table.specs.inside.Forms.{entryText, keyText, valueText, formBehind, levelBehind}
 
 -- the areas with what is put into them: how many events, attributes and bytes are in use
 pub record Held : Type 0 where
@@ -25,9 +27,22 @@ pub record Held : Type 0 where
 abbrev pub fresh : ℕ → ℕ → ℕ → Held
 fresh e a b = record { events = 0; attributes = 0; bytes = 0; eventArea = zeros e; attributeArea = zeros a; byteArea = zeros b }
 
+-- in the XML form one area: how many bytes are in use, how many elements are open, and what stands before
+pub record Spelling : Type 0 where
+  pub form : ℕ
+  pub level : ℕ
+  pub bytes : ℕ
+  pub byteArea : List ℕ
+
+-- an area of so many bytes, with nothing in it
+abbrev pub blank : ℕ → Spelling
+blank n = record { form = form.free; level = 0; bytes = 0; byteArea = zeros n }
+
 -- nothing is held once something didn't fit
-abbrev pub Kept : Type 0
-Kept = Option Held
+pub data Kept : Type 0 where
+  none : Kept
+  some : Held → Kept
+  xml : Spelling → Kept
 
 abbrev pub over : List ℕ → ℕ → List ℕ → List ℕ
 over area k f = take k area ++ laid (drop k area) f
@@ -76,14 +91,31 @@ put h (pair key value) =
     cond (pairLimits (h .attributes) (h .bytes + length (key ++ value)) && (tableRoom (h .attributes) (h .attributeArea) && byteRoom (h .bytes) (length (key ++ value)) (h .byteArea)))
     (some (withPair h key value)) none
 
+-- a text more, with the form and the level behind it
+abbrev pub withText : Spelling → List ℕ → ℕ → ℕ → Spelling
+withText h f m n = record { form = m; level = n; bytes = h .bytes + length f; byteArea = over (h .byteArea) (h .bytes) f }
+
+abbrev pub putText : Spelling → List ℕ → ℕ → ℕ → Kept
+putText h f m n = cond (byteRoom (h .bytes) (length f) (h .byteArea)) (xml (withText h f m n)) none
+
+-- no more elements are open than there are bytes, so that what fits isn't refused for its level
+unfoldable pub spell : Spelling → Item → Kept
+spell h (entry k s n) =
+    cond (eqb k kind.start && leb mostBytes (h .level)) none (putText h (entryText (h .form) (h .level) k s) (formBehind (h .form) k) (levelBehind (h .level) k))
+spell h (pair key value) = putText h (keyText key ++ valueText value) (h .form) (h .level)
+
 unfoldable pub putAll : Kept → List Item → Kept
 putAll s [] = s
 putAll none (i ∷ is) = none
 putAll (some h) (i ∷ is) = putAll (put h i) is
+putAll (xml h) (i ∷ is) = putAll (spell h i) is
 
--- ---- the areas in the code's terms: how many events, attributes and bytes are in use, which is Full once something didn't fit
+-- ---- the areas in the code's terms: the form, how many elements are open, events, attributes and bytes in use, which is Full once
+-- something didn't fit
 pub record Areas : Type 0 where
   pub mark : Stored
+  pub form : ℕ
+  pub level : ℕ
   pub events : ℕ
   pub attributes : ℕ
   pub eventArea : List ℕ
@@ -92,7 +124,9 @@ pub record Areas : Type 0 where
 
 abbrev pub heldBy : Stored → Areas → Kept
 heldBy (Put b) t =
-    some (record { events = t .events; attributes = t .attributes; bytes = b; eventArea = t .eventArea; attributeArea = t .attributeArea; byteArea = t .byteArea })
+    cond (eqb (t .form) form.table)
+    (some (record { events = t .events; attributes = t .attributes; bytes = b; eventArea = t .eventArea; attributeArea = t .attributeArea; byteArea = t .byteArea }))
+    (xml (record { form = t .form; level = t .level; bytes = b; byteArea = t .byteArea }))
 heldBy Full t = none
 
 abbrev pub held : Areas → Kept

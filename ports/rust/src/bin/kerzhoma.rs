@@ -3,8 +3,8 @@
 #![forbid(unsafe_code)]
 
 use kerzhoma::input::{is_named_xml, load_document, load_table};
-use kerzhoma::{explain, explain_xml, print_sheet, read, read_and_list, read_and_list_xml, rehearse, starts, tokenize, write};
-use kerzhoma::{Areas, Counts, DocumentRefusal, NonSuccessKind, Order, Refusal, Status, TableBuf, Tree, XmlRefusal};
+use kerzhoma::{explain, explain_xml, print_sheet, read, read_and_list, read_and_list_xml, rehearse, starts, to_xml, tokenize, write};
+use kerzhoma::{Areas, Counts, DocumentRefusal, NonSuccessKind, Order, Refusal, Status, Table, TableBuf, Tree, XmlRefusal};
 use std::ffi::{OsStr, OsString};
 use std::io::{self, ErrorKind, Write};
 use std::path::{Path, PathBuf};
@@ -17,16 +17,17 @@ kerzhoma: JUnit test reports, read by a proved library
     kerzhoma list FILE             writes the public listing, or (refused)
     kerzhoma check FILE            only tells whether the report is accepted
     kerzhoma explain FILE          writes why the report is refused, or accepted
-    kerzhoma write FILE -o FILE    writes the report again, as a table
+    kerzhoma write FILE -o FILE    writes the report again
     kerzhoma span FILE             writes its first and last start, and the span
     kerzhoma sheet FILE..          sums the counts that reports state
     kerzhoma rehearse CASES FAILURES ERRORS SKIPPED FLAKY -o FILE
                                    writes a report with just these numbers
 
-FILE is an XML document if its name ends in .xml or --xml is given, else a table
-of XML events: three little-endian words, the numbers of events, attributes and
-source bytes (65536, 65536 and 16777216 at most), then the three; bytes behind
-it are ignored. - is standard input or output.
+FILE is an XML document if its name ends in .xml or --xml is given (--xml-out
+for what -o names), else a table of XML events: three little-endian words, the
+numbers of events, attributes and source bytes (65536, 65536 and 16777216 at
+most), then the three; bytes behind it are ignored. - is standard input or
+output.
 
 A listing has no private text. The line of explain may have some: it tells the
 names of the suite and case. What the others say on standard error has no names;
@@ -45,18 +46,23 @@ struct Input {
     xml: bool,
 }
 
+struct Output {
+    file: PathBuf,
+    xml: bool,
+}
+
 enum Task {
     List,
     Check,
     Explain,
-    Write(PathBuf),
+    Write(Output),
     Span,
 }
 
 enum Command {
     Help,
     Read(Task, Input),
-    Rehearse(Order, PathBuf),
+    Rehearse(Order, Output),
     Sheet(Vec<Input>),
 }
 
@@ -69,8 +75,8 @@ fn main() -> ExitCode {
         Ok(Command::Help) => put(HELP.as_bytes(), ACCEPTED),
         Err(what) => {
             say(&what);
-            say("usage: kerzhoma list|check|explain|span [--xml] FILE, write [--xml] FILE -o FILE, \
-                 rehearse CASES FAILURES ERRORS SKIPPED FLAKY -o FILE, sheet [--xml] FILE.., --help");
+            say("usage: kerzhoma list|check|explain|span [--xml] FILE, write [--xml] [--xml-out] FILE -o FILE, \
+                 rehearse [--xml-out] CASES FAILURES ERRORS SKIPPED FLAKY -o FILE, sheet [--xml] FILE.., --help");
             FAILED
         }
     };
@@ -82,9 +88,13 @@ fn parse(arguments: &[OsString]) -> Result<Command, String> {
         return Ok(Command::Help);
     }
     let (name, rest) = arguments.split_first().ok_or("there is no command")?;
-    let Given { words, output, xml } = given(rest)?;
+    let Given { words, output, xml, xml_out } = given(rest)?;
     let input = |file: &OsString| Input { file: PathBuf::from(file), xml: xml || is_named_xml(Path::new(file)) };
+    let output = output.map(|file| Output { xml: xml_out || is_named_xml(&file), file });
     let task = match (name.to_str(), output) {
+        (Some("list" | "check" | "explain" | "span" | "sheet"), None) if xml_out => {
+            return Err("--xml-out belongs to write and rehearse".to_owned());
+        }
         (Some("rehearse"), to) => return order(&words, to.ok_or("rehearse needs -o FILE")?, xml),
         (Some("sheet"), None) if !words.is_empty() => return Ok(Command::Sheet(words.into_iter().map(input).collect())),
         (Some("write"), Some(to)) => Task::Write(to),
@@ -108,17 +118,20 @@ struct Given<'a> {
     words: Vec<&'a OsString>,
     output: Option<PathBuf>,
     xml: bool,
+    xml_out: bool,
 }
 
 // What stands behind the command: options, and words that are none.
 fn given(arguments: &[OsString]) -> Result<Given<'_>, String> {
-    let mut given = Given { words: Vec::new(), output: None, xml: false };
+    let mut given = Given { words: Vec::new(), output: None, xml: false, xml_out: false };
     let (mut rest, mut options) = (arguments.iter(), true);
     while let Some(a) = rest.next() {
         if options && a == "--" {
             options = false;
         } else if options && a == "--xml" {
             given.xml = true;
+        } else if options && a == "--xml-out" {
+            given.xml_out = true;
         } else if options && a == "-o" {
             let to = rest.next().ok_or("-o needs a file")?;
             if given.output.replace(PathBuf::from(to)).is_some() {
@@ -133,10 +146,10 @@ fn given(arguments: &[OsString]) -> Result<Given<'_>, String> {
     Ok(given)
 }
 
-// The numbers of an order, and the file that its table goes to.
-fn order(given: &[&OsString], to: PathBuf, xml: bool) -> Result<Command, String> {
-    if xml || is_named_xml(&to) {
-        return Err("a report to order is written as a table: --xml and names that end in .xml are not taken".to_owned());
+// The numbers of an order, and the file that its report goes to.
+fn order(given: &[&OsString], to: Output, xml: bool) -> Result<Command, String> {
+    if xml {
+        return Err("rehearse reads no document: --xml-out writes one".to_owned());
     }
     let [cases, failures, errors, skipped, flaky] = given else {
         return Err("rehearse needs five numbers".to_owned());
@@ -230,14 +243,23 @@ fn shown(file: &Path) -> String {
     file.display().to_string()
 }
 
-fn rehearsed(order: &Order, to: &Path) -> u8 {
-    match rehearse(order) {
-        Ok(table) => written(&table.to_bytes(), to),
+// A report to order reads back, so its document is that of the tree.
+fn rehearsed(order: &Order, to: &Output) -> u8 {
+    let made = rehearse(order).and_then(|table| match to.xml {
+        true => document(&table.as_table(), &mut Areas::for_table(&table.as_table())),
+        false => Ok(table.to_bytes()),
+    });
+    match made {
+        Ok(bytes) => written(&bytes, &to.file),
         Err(refusal) => {
             say(&refusal.to_string());
             REFUSED
         }
     }
+}
+
+fn document(table: &Table<'_>, areas: &mut Areas) -> Result<Vec<u8>, Refusal> {
+    read(table, areas).and_then(|tree| to_xml(&tree)).map(String::into_bytes)
 }
 
 fn written(bytes: &[u8], to: &Path) -> u8 {
@@ -261,6 +283,7 @@ fn done(task: &Task, table: &TableBuf) -> u8 {
         Task::List => read_and_list(&table, &mut areas).map(String::into_bytes),
         Task::Check => read(&table, &mut areas).map(|_| Vec::new()),
         Task::Explain => read(&table, &mut areas).map(|_| b"accepted\n".to_vec()),
+        Task::Write(to) if to.xml => document(&table, &mut areas),
         Task::Write(_) => read(&table, &mut areas).and_then(|tree| write(&tree)).map(|written| written.to_bytes()),
         Task::Span => read(&table, &mut areas).and_then(|tree| span(&tree)).map(String::into_bytes),
     };
@@ -268,7 +291,7 @@ fn done(task: &Task, table: &TableBuf) -> u8 {
         (Err(refusal), Task::Explain) => put(explain(&refusal, &table).as_bytes(), REFUSED),
         (Err(refusal), _) => not_done(task, &refusal),
         (Ok(_), Task::Check) => ACCEPTED,
-        (Ok(bytes), Task::Write(to)) => written(&bytes, to),
+        (Ok(bytes), Task::Write(to)) => written(&bytes, &to.file),
         (Ok(bytes), _) => put(&bytes, ACCEPTED),
     }
 }

@@ -1,0 +1,42 @@
+use mathlib.Core.Path.{sym, _∙_}
+use Rattle.write_escape.proofs.Blocks.{plain-escaped}
+use borrow.Author.Needs.{needs}
+use Rattle.write_escape.proofs.put_block.Statement.{statement}
+use Rattle.write_escape.proofs.put_block.Tie as tie
+
+is-plain-requires : tie.Need-is-plain-requires
+is-plain-requires c κs = search needs
+
+copy-run-requires : tie.Need-copy-run-requires
+copy-run-requires c κs = search needs
+
+same-length : tie.Need-same-length
+same-length c = search needs
+
+returns : tie.Need-returns
+returns c =
+    let args = c .before .before .before .before .before .before .before .before .args in
+    let is-plain = c .before .before .before .before .before .is-plain in
+    let if1 = c .before .before .before .before .if1 in
+    rw (plain-escaped (args .s .now) (sym (is-plain .ensures) ∙ if1 .taken)) (c .before .before .copy-run .ensures)
+
+escape-bytes-requires : tie.Need-escape-bytes-requires
+escape-bytes-requires c κs = search needs
+
+same-length-2 : tie.Need-same-length-2
+same-length-2 c = search needs
+
+returns-2 : tie.Need-returns-2
+returns-2 c = search needs
+
+pub put-block-spec : {M : Type 1} → statement M
+put-block-spec =
+    tie.close
+    (tie.spec
+    is-plain-requires
+    copy-run-requires
+    same-length
+    returns
+    escape-bytes-requires
+    same-length-2
+    returns-2)

@@ -1,0 +1,1 @@
+// What writing a report's XML document answers and leaves: definitions.
