@@ -7,7 +7,7 @@ pub mod Children
 pub mod OverWords
 mod ValueElements
 mod ValueNumbers
-mod ValueBare
+pub mod ValueBare
 mod ValueChildren
 pub mod Spelled
 pub mod Examples
