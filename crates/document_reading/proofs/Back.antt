@@ -55,12 +55,15 @@ pub respelt-read : (r : Report) (fs : List Event) → sound r ≡ true → plain
     → (end : Reader) × (steps unlimited fs begin ≡ accepted end) × Read r end
 respelt-read r fs s p h =
     let w = written-read r s p in
-    let e = respelt-steps (written r) fs (w .0) (calm-written r) h (w .1) in
-    (e .0, e .1, record {
-      report = e .3 ∙ w .2 .report;
-      records = ap (λ (u : Used). u .records) (e .2) ∙ w .2 .records;
-      text = subst (λ (u : Used). u .text ≤ length (laidOut (written r) .bytes)) (sym (e .2)) (w .2 .text);
-    })
+    let e = respelt-steps (written r) fs (w .0) (calm-written r) h (w .1) in (
+      e .0,
+      e .1,
+      record {
+        report = e .3 ∙ w .2 .report;
+        records = ap (λ (u : Used). u .records) (e .2) ∙ w .2 .records;
+        text = subst (λ (u : Used). u .text ≤ length (laidOut (written r) .bytes)) (sym (e .2)) (w .2 .text);
+      },
+    )
 
 pub respelt-back : (r : Report) (fs : List Event) → sound r ≡ true → plain r ≡ true → Respelt false (written r) fs → deserialize fs ≡ accepted r
 unfolding deserialize deserializeIn _>>=_

@@ -54,8 +54,8 @@ report =
 abbrev pub suite : List Row
 suite =
     row key.name text 2 (must 0) 1
-    ∷ inner text 4 (may 1) -- system-out
-    ∷ inner text 6 (may 2) -- system-err
+    ∷ inner text 4 (may 1)  -- system-out
+    ∷ inner text 6 (may 2)  -- system-err
     ∷ row key.timestamp timestamp 8 (may 3) 7
     ∷ row key.time time 16 (may 4) 8
     ∷ row key.tests number 18 always 2
@@ -68,8 +68,8 @@ suite =
 abbrev pub case : List Row
 case =
     row key.name text 2 (must 0) 1
-    ∷ inner text 4 (may 1) -- system-out
-    ∷ inner text 6 (may 2) -- system-err
+    ∷ inner text 4 (may 1)  -- system-out
+    ∷ inner text 6 (may 2)  -- system-err
     ∷ row key.timestamp timestamp 8 (may 3) 4
     ∷ row key.time time 16 (may 4) 5
     ∷ row key.classname text 18 (may 5) 2
@@ -83,8 +83,8 @@ main =
     ∷ row key.timestamp timestamp 18 unkept 0
     ∷ row key.time time 18 unkept 0
     ∷ row key.type text 18 (may 5) 2
-    ∷ inner text 20 (may 6) -- description
-    ∷ inner flag 22 (may 9) -- flaky
+    ∷ inner text 20 (may 6)  -- description
+    ∷ inner flag 22 (may 9)  -- flaky
     ∷ []
 
 -- the same without the flaky bit (rule S11)
@@ -94,20 +94,20 @@ skipped =
     ∷ row key.timestamp timestamp 18 unkept 0
     ∷ row key.time time 18 unkept 0
     ∷ row key.type text 18 (may 5) 2
-    ∷ inner text 20 (may 6) -- description
+    ∷ inner text 20 (may 6)  -- description
     ∷ []
 
 -- rule W6
 abbrev pub run : List Row
 run =
     row key.message text 2 (may 0) 3
-    ∷ inner text 4 (may 1) -- system-out
-    ∷ inner text 6 (may 2) -- system-err
+    ∷ inner text 4 (may 1)  -- system-out
+    ∷ inner text 6 (may 2)  -- system-err
     ∷ row key.timestamp timestamp 8 (may 3) 1
     ∷ row key.time time 16 (may 4) 2
     ∷ row key.type text 18 (may 5) 4
-    ∷ inner text 20 (may 6) -- description
-    ∷ inner text 22 (may 7) -- stack trace
+    ∷ inner text 20 (may 6)  -- description
+    ∷ inner text 22 (may 7)  -- stack trace
     ∷ []
 
 -- a property of a suite or case (rule A6)
@@ -120,8 +120,8 @@ property =
 -- an attribute with any other key (rule A7)
 abbrev pub extra : List Row
 extra =
-    inner text 2 (must 0) -- key
-    ∷ inner text 4 (must 1) -- value
+    inner text 2 (must 0)  -- key
+    ∷ inner text 4 (must 1)  -- value
     ∷ []
 
 -- the table of a record's kind; behind the kinds of extras there is none
