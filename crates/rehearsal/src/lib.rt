@@ -97,10 +97,12 @@ pub fn rehearse(
     let Stored::Put(n) = mark else {
         return refuse_full(events, attributes, bytes);
     };
+    let m = k.events as usize;
+    let a = k.attributes as usize;
     Writing {
         verdict: Verdict::Accepted,
-        events: k.events as usize,
-        attributes: k.attributes as usize,
+        events: m,
+        attributes: a,
         bytes: n,
         refusal: no_refusal(),
     }

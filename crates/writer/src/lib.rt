@@ -96,10 +96,12 @@ pub fn write(
         clear_table(events, attributes, bytes);
         return refuse(Cause::OutputFull);
     };
+    let m = k.events as usize;
+    let a = k.attributes as usize;
     Writing {
         verdict: Verdict::Accepted,
-        events: k.events as usize,
-        attributes: k.attributes as usize,
+        events: m,
+        attributes: a,
         bytes: n,
         refusal: no_refusal(),
     }

@@ -15,9 +15,8 @@ same-length c = search needs
 
 returns : tie.Need-returns
 returns c =
-    let if1 = c .before .before .before .before .if1 in
-    let a = c .before .before .before .before .before .before .before .before .args in
-    same-text (length (a .out .now)) (too-long (length (a .out .now)) (a .source .now) (if1 .taken)) (c .before .before .refuse .ensures)
+    let a = c .before .before .before .before .before .before .before .args in
+    same-text (length (a .out .now)) (too-long (length (a .out .now)) (a .source .now) (c .before .before .before .before .if1 .taken)) (c .before .before .refuse .ensures)
 
 slice-aggregate-tokenize : tie.Need-slice-aggregate-tokenize
 slice-aggregate-tokenize c = sym (length-replicate {A = ℕ} 16384 0)
@@ -42,9 +41,9 @@ same-length-2 c = search needs
 
 returns-2 : tie.Need-returns-2
 returns-2 c =
-    let if1 = c .before .before .before .before .before .before .before .before .before .before .before .before .before .before .if1 in
-    let i = c .before .before .before .before .before .before .before .before .before .tokenize in
-    let a = c .before .before .before .before .before .before .before .before .before .before .before .before .before .before .before .before .args in
+    let i = c .before .before .before .before .before .before .before .before .tokenize in
+    let if1 = c .before .before .before .before .before .before .before .before .before .before .before .if1 in
+    let a = c .before .before .before .before .before .before .before .before .before .before .before .before .before .before .args in
     same-text (length (a .out .now))
     (tokenized (length (a .out .now)) (a .source .now) _ _ _ (length-replicate {A = ℕ} 16384 0) (length-replicate {A = ℕ} 16384 0) (i .ensures) (if1 .left))
     (c .before .before .print-tokens .ensures)

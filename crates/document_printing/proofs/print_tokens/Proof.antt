@@ -28,10 +28,10 @@ same-length c = search needs
 
 returns : tie.Need-returns
 returns c =
-    let told-step = c .before .before .before .before .before .before .before .before .before .before .told in
-    let events-step = c .before .before .before .before .before .before .before .before .table-in in
-    let attributes-step = c .before .before .before .before .before .before .before .table-in2 in
-    let a = c .before .before .before .before .before .before .before .before .before .before .before .before .before .before .before .args in
+    let told-step = c .before .before .before .before .before .before .before .told in
+    let events-step = c .before .before .before .before .before .table-in in
+    let attributes-step = c .before .before .before .before .table-in2 in
+    let a = c .before .before .before .before .before .before .before .before .before .before .before .before .before .args in
     same-text (length (a .out .now))
     (tokens-table (length (a .out .now)) (a .events .now) (a .attributes .now) (a .source .now) (a .told) _ _ (told-step .given .1)
     (events-step .result .now) (attributes-step .result .now) (events-step .ensures) (attributes-step .ensures))
@@ -42,8 +42,8 @@ same-length-2 c = search needs
 
 returns-2 : tie.Need-returns-2
 returns-2 c =
-    let told-step = c .before .before .before .before .before .before .before .enum-told in
-    let a = c .before .before .before .before .before .before .before .before .before .before .before .before .args in
+    let told-step = c .before .before .before .before .enum-told in
+    let a = c .before .before .before .before .before .before .before .before .before .before .args in
     same-text (length (a .out .now)) (tokens-refused (length (a .out .now)) (a .events .now) (a .attributes .now) (a .source .now) (a .told) _ _ (told-step .given .1))
     (c .before .before .refuse .ensures)
 

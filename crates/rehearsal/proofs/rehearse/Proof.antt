@@ -112,34 +112,45 @@ returns-3 c =
     short-put o e a b (at-if1 .if1 .left) (sym (exceeds-cases .ensures) ∙ at-if2 .if2 .left) (cleared .ensures .0) (cleared .ensures .1 .0) (cleared .ensures .1 .1)
     (put .ensures) (at-enum-told .enum-told .given .1) (again .ensures .0) (again .ensures .1 .0 ∙ ap zeros x) (again .ensures .1 .1 .0 ∙ ap zeros y) (again .ensures .1 .1 .1 ∙ ap zeros z)
 
+cast-m : tie.Need-cast-m
+cast-m c = search needs
+
+cast-a : tie.Need-cast-a
+cast-a c = search needs
+
 no-refusal-requires : tie.Need-no-refusal-requires
 no-refusal-requires c κs = search needs
 
 same-length-10 : tie.Need-same-length-10
-same-length-10 c = search needs
+same-length-10 c =
+    let at-put = c .before .before .before .before .before .before .before .before .before .before .before .before in
+    at-put .put-rehearsal .kept .0 ∙ at-put .before .before .before .before .before .before .before .before .before .before .before .before .before .clear-table .kept .0
 
 same-length-11 : tie.Need-same-length-11
-same-length-11 c = search needs
+same-length-11 c =
+    let at-put = c .before .before .before .before .before .before .before .before .before .before .before .before in
+    at-put .put-rehearsal .kept .1 .0 ∙ at-put .before .before .before .before .before .before .before .before .before .before .before .before .before .clear-table .kept .1 .0
 
 same-length-12 : tie.Need-same-length-12
-same-length-12 c = search needs
+same-length-12 c =
+    let at-put = c .before .before .before .before .before .before .before .before .before .before .before .before in
+    at-put .put-rehearsal .kept .1 .1 .0 ∙ at-put .before .before .before .before .before .before .before .before .before .before .before .before .before .clear-table .kept .1 .1 .0
 
 returns-4 : tie.Need-returns-4
 returns-4 c =
-    let exceeds-cases = c .before .before .before .before .before .before .before .before .before .before .before .before .before .before .before .before .exceeds-cases in
-    let if1 = c .before .before .before .before .before .before .before .before .before .before .before .before .before .before .before .if1 in
-    let if2 = c .before .before .before .before .before .before .before .before .before .before .before .before .before .before .if2 in
-    let put-rehearsal = c .before .before .before .before .before .before .before .before .before .before .put-rehearsal in
-    let args = c .before .before .before .before .before .before .before .before .before .before .before .before .before .before .before
-    .before .before .before .before .before .before .before .before .before .before .before .before .before .before .before .args in
+    let at-put = c .before .before .before .before .before .before .before .before .before .before .before .before in
+    let exceeds-cases = at-put .before .before .before .before .before .before .exceeds-cases in
+    let if1 = at-put .before .before .before .before .before .if1 in
+    let if2 = at-put .before .before .before .before .if2 in
+    let at-clear = at-put .before .before .before .before .before .before .before .before .before .before .before .before .before in
+    let args = at-clear .before .before .before .before .before .before .before .args in
     let o = orderOf (args .cases) (args .failures) (args .errors) (args .skipped) (args .flaky) in
     let e = length (args .events .now) in
     let a = length (args .attributes .now) in
     let b = length (args .bytes .now) in
-    let cleared = c .before .before .before .before .before .before .before .before .before .before .before .before
-    .before .before .before .before .before .before .before .before .before .before .before .clear-table in
+    let cleared = at-clear .clear-table in
     whole-put o e a b (if1 .left) (sym (exceeds-cases .ensures) ∙ if2 .left) (cleared .ensures .0) (cleared .ensures .1 .0) (cleared .ensures .1 .1)
-    (put-rehearsal .ensures) _ (c .no-refusal .ensures) (c .before .before .mark .given .1)
+    (at-put .put-rehearsal .ensures) _ (c .no-refusal .ensures) (c .before .before .before .before .mark .given .1)
 
 pub rehearse-spec : {M : Type 1} → statement M
 rehearse-spec =
@@ -165,6 +176,8 @@ rehearse-spec =
     same-length-8
     same-length-9
     returns-3
+    cast-m
+    cast-a
     no-refusal-requires
     same-length-10
     same-length-11

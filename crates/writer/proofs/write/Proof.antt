@@ -92,25 +92,37 @@ returns-2 c =
     (at-clear-table .clear-table .ensures .1 .1) (at-put-tree .put-tree .ensures)
     (at-enum-told .enum-told .given .1) (clear-table2 .ensures .0 ∙ ap zeros x) (clear-table2 .ensures .1 .0 ∙ ap zeros y) (clear-table2 .ensures .1 .1 ∙ ap zeros z))
 
+cast-m : tie.Need-cast-m
+cast-m c = search needs
+
+cast-a : tie.Need-cast-a
+cast-a c = search needs
+
 no-refusal-requires : tie.Need-no-refusal-requires
 no-refusal-requires c κs = search needs
 
 same-length-7 : tie.Need-same-length-7
-same-length-7 c = search needs
+same-length-7 c =
+    let at-put-tree = c .before .before .before .before .before .before .before .before .before .before .before .before in
+    at-put-tree .put-tree .kept .1 .1 .0 ∙ at-put-tree .before .before .before .before .before .before .before .before .before .before .before .before .clear-table .kept .0
 
 same-length-8 : tie.Need-same-length-8
-same-length-8 c = search needs
+same-length-8 c =
+    let at-put-tree = c .before .before .before .before .before .before .before .before .before .before .before .before in
+    at-put-tree .put-tree .kept .1 .1 .1 .0 ∙ at-put-tree .before .before .before .before .before .before .before .before .before .before .before .before .clear-table .kept .1 .0
 
 same-length-9 : tie.Need-same-length-9
-same-length-9 c = search needs
+same-length-9 c =
+    let at-put-tree = c .before .before .before .before .before .before .before .before .before .before .before .before in
+    at-put-tree .put-tree .kept .1 .1 .1 .1 .0 ∙ at-put-tree .before .before .before .before .before .before .before .before .before .before .before .before .clear-table .kept .1 .1 .0
 
 returns-3 : tie.Need-returns-3
 returns-3 c =
-    let at-is-layout = c .before .before .before .before .before .before .before .before .before .before .before .before .before .before .before in
+    let at-put-tree = c .before .before .before .before .before .before .before .before .before .before .before .before in
+    let at-is-layout = at-put-tree .before .before .before .before .before in
     let at-clear-table = at-is-layout .before .before .before .before .before .before .before in
     let args = at-clear-table .before .before .before .before .before .before .before .before .before .args in
-    let if1 = c .before .before .before .before .before .before .before .before .before .before .before .before .before .before .if1 in
-    let put-tree = c .before .before .before .before .before .before .before .before .before .before .put-tree in
+    let if1 = at-put-tree .before .before .before .before .if1 in
     let words = args .records .now in
     let text = args .text .now in
     let e = length (args .events .now) in
@@ -118,7 +130,7 @@ returns-3 c =
     let b = length (args .bytes .now) in
     let l = sym (at-is-layout .is-layout .ensures) ∙ not-false _ (if1 .left) in
     written-whole words text e a b (c .no-refusal .ensures) (whole-writing words text e a b l (at-clear-table .clear-table .ensures .0)
-    (at-clear-table .clear-table .ensures .1 .0) (at-clear-table .clear-table .ensures .1 .1) (put-tree .ensures) _ (c .before .before .mark .given .1))
+    (at-clear-table .clear-table .ensures .1 .0) (at-clear-table .clear-table .ensures .1 .1) (at-put-tree .put-tree .ensures) _ (c .before .before .before .before .mark .given .1))
 
 pub write-spec : {M : Type 1} → statement M
 write-spec =
@@ -140,6 +152,8 @@ write-spec =
     same-length-5
     same-length-6
     returns-2
+    cast-m
+    cast-a
     no-refusal-requires
     same-length-7
     same-length-8
