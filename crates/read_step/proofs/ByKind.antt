@@ -25,7 +25,7 @@ use Rattle.read_content.specs.Content.{perform}
 use Rattle.read_content.specs.inside.Holds.{isList, apt}
 use Rattle.read_machine.specs.Machine.{Machine, act, step}
 use Rattle.table_events.specs.inside.Pieces.{isPiece}
-use Rattle.read_step.specs.inside.Planned.{planned, nameIn, isSkip, isStop, hasContent}
+use Rattle.read_step.specs.inside.Planned.{planned, nameIn, isSkip, isStop, hasContent, plainOf}
 use Rattle.read_step.proofs.Acting.{act-none}
 use Rattle.refusal.specs.declared.Cause.the-variants as cause
 
@@ -296,3 +296,32 @@ module _ (c : CodedControl) (kind : ℕ) (name : List ℕ) (a : CodedAct) (q : a
 
   pub lists : hasContent a ≡ true → apt a (modeOf c) ≡ true → isList (modeOf c) ≡ true
   lists e h = subst (λ (x : CodedAct). apt x (modeOf c) ≡ true) (content-is a e) h
+
+-- ---- a Start `property`, read as an Empty one
+module _ (a : CodedAct) where
+  pub plain-read : hasContent a ≡ true → plainOf a ≡ ReadProperty true
+  plain-read e = ap (λ (b : Bool). cond b (ReadProperty true) a) e
+
+  pub plain-same : hasContent a ≡ false → plainOf a ≡ a
+  plain-same e = ap (λ (b : Bool). cond b (ReadProperty true) a) e
+
+  pub plain-apt : (m : Mode) → apt a m ≡ true → apt (plainOf a) m ≡ true
+  plain-apt m h = go (hasContent a) refl
+    where
+      go : (b : Bool) → hasContent a ≡ b → apt (plainOf a) m ≡ true
+      go true e = ap (λ (x : CodedAct). apt x m) (plain-read e) ∙ sym (ap (λ (x : CodedAct). apt x m) (content-is a e)) ∙ h
+      go false e = ap (λ (x : CodedAct). apt x m) (plain-same e) ∙ h
+
+  pub plain-step : isSkip a ≡ false → isStop a ≡ false → isStep (plainOf a) ≡ true
+  plain-step s t = go (hasContent a) refl
+    where
+      go : (b : Bool) → hasContent a ≡ b → isStep (plainOf a) ≡ true
+      go true e = ap isStep (plain-read e)
+      go false e = ap isStep (plain-same e) ∙ is-step a s t e
+
+  pub plain-close : plainOf a ≡ Close → a ≡ Close
+  plain-close q = go (hasContent a) refl
+    where
+      go : (b : Bool) → hasContent a ≡ b → a ≡ Close
+      go true e = let y : ReadProperty true ≡ Close = sym (plain-read e) ∙ q in let z : _≡_ {A = ℕ} 0 1 = cc in absurd (omega arith)
+      go false e = sym (plain-same e) ∙ q

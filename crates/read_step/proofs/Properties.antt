@@ -12,6 +12,7 @@ use Rattle.read_element.specs.Outcome.{_>>=_, Rooms}
 use Rattle.read_state.specs.Control.{Level, top, suite, case, status, Output, Mode, listing, skipping, Control, readProperty, turn}
 use Rattle.read_state.specs.inside.Coded.{levelOf, outputOf, levelIn, modeAt, modeOf}
 use Rattle.read_state.specs.declared.Mode.{Mode as CodedMode}
+use Rattle.read_state.specs.declared.Act.the-variants.{Close, ReadProperty}
 use Rattle.read_state.specs.declared.Mode.the-variants.{At, Text, List as Listing}
 use Rattle.read_place.specs.Marks.{Marks, marksAfter, onward}
 use Rattle.read_place.specs.inside.Coded.{marksOf}
@@ -23,8 +24,7 @@ use Rattle.read_content.specs.inside.Holds.{Lists, isList}
 use Rattle.read_machine.specs.Machine.{Machine, act, step}
 use Rattle.read_machine.proofs.Skipping.{moved, property-acts}
 use Rattle.read_step.specs.inside.Standing.{machineOf, runOn, runSkip, refusalAt, Refuses, Moved, Acted, Stepped}
-use Rattle.read_step.specs.inside.Promises.{StepsSkip}
-use Rattle.read_step.specs.declared.Halt.{Halt}
+use Rattle.read_step.specs.inside.Promises.{PassesContent}
 use Rattle.read_step.specs.declared.Step.{Step}
 use Rattle.read_step.specs.declared.Step.the-variants as way
 use Rattle.read_step.specs.declared.State.{State}
@@ -51,6 +51,10 @@ pub property-room : (st : State) (e : Bool) (name : List ℕ) (c : Content) → 
 property-room st e name c h li =
     room (levelIn (modeOf (st .control))) e name (marksOf (st .marks)) (st .content) c
     (subst (λ (m : Mode). Lists m (marksOf (st .marks)) (st .content) c) (in-list (st .control .mode) (levelOf (st .control .level)) (outputOf (st .control .output)) h) li)
+
+-- a property isn't closed by Close
+pub unclosed : ReadProperty true ≡ Close → ⊥
+unclosed e = let z : _≡_ {A = ℕ} 0 1 = cc in omega arith
 
 -- ---- what an Empty property leaves
 abbrev Of : (Machine → Type 0) → Outcome Machine → Type 0
@@ -132,25 +136,19 @@ module _ (rooms : Rooms) (events attributes source : List ℕ) (st : State) (c :
           run-goes rooms events attributes source s i refl h (moved (skipping (modeOf (u .control)) name 0) (i + 1) (machineOf u d)) (property-steps n)
 
     -- ---- what the code's answers come to
-    module _ (words text scratch : List ℕ) {r₀ : Step} where
-      pub property-went : {u : State} (r : Step) → isList (modeOf (st .control)) ≡ true → r₀ ≡ way.Go u
-          → Acted attributes source words text scratch st (act rooms (readProperty l true name) j xs s) r₀
-          → StepsSkip u i events source r → Stepped rooms events attributes source words text scratch st s (runOn rooms events attributes source s) r
-      property-went {u} r list q a f =
-          let m : Moved attributes source words text scratch i (act rooms (readProperty l true name) j xs s) u =
-          subst (λ (x : Step). Acted attributes source words text scratch st (act rooms (readProperty l true name) j xs s) x) q a in
-          let n = m .next in
-          subst (λ (o : Outcome Machine). Stepped rooms events attributes source words text scratch st s o r) (sym (property-goes list u (m .content) (m .same) (m .next)))
-          (f rooms attributes words text scratch (m .content) st s (omega arith) (omega arith) (property-path list u (m .content) (m .same))
-          (λ first x. since-steps events attributes source s first h rooms (moved (skipping (modeOf (u .control)) name 0) (i + 1) (machineOf u (m .content)))
-          (property-steps list u (m .content) (m .same) (m .next)) refl x) (m .stands))
-
-      pub property-stops : r₀ ≡ way.Stop → Acted attributes source words text scratch st (act rooms (readProperty l true name) j xs s) r₀ → ⊥
-      property-stops q a = subst (λ (x : Step). Acted attributes source words text scratch st (act rooms (readProperty l true name) j xs s) x) q a
-
-      pub property-halted : {x : Halt} → r₀ ≡ way.Halt x → Acted attributes source words text scratch st (act rooms (readProperty l true name) j xs s) r₀
-          → Refuses st x (runOn rooms events attributes source s)
-      property-halted {x} q a =
-          let f : Refuses st x (act rooms (readProperty l true name) j xs s) =
-          subst (λ (y : Step). Acted attributes source words text scratch st (act rooms (readProperty l true name) j xs s) y) q a in
-          record { placed = f .placed; same = property-halts (refusalAt st x (f .placed .name)) (f .same) }
+    pub property-passes : (words text scratch : List ℕ) (read r : Step) (o : Outcome Machine) → isList (modeOf (st .control)) ≡ true → o ≡ act rooms (readProperty l true name) j xs s
+        → Acted attributes source words text scratch st o read → PassesContent read i events source r
+        → Stepped rooms events attributes source words text scratch st s (runOn rooms events attributes source s) r
+    property-passes words text scratch (way.Go u) r o list q a f =
+        let m : Moved attributes source words text scratch i o u = a in
+        let n = m .next in
+        let e = sym q ∙ m .same in
+        subst (λ (x : Outcome Machine). Stepped rooms events attributes source words text scratch st s x r) (sym (property-goes list u (m .content) e (m .next)))
+        (f rooms attributes words text scratch (m .content) st s (omega arith) (omega arith) (property-path list u (m .content) e)
+        (λ first x. since-steps events attributes source s first h rooms (moved (skipping (modeOf (u .control)) name 0) (i + 1) (machineOf u (m .content)))
+        (property-steps list u (m .content) e (m .next)) refl x) (m .stands))
+    property-passes words text scratch way.Stop r o list q a e = absurd a
+    property-passes words text scratch (way.Halt x) r o list q a e =
+        let f : Refuses st x o = a in
+        subst (λ (y : Step). Stepped rooms events attributes source words text scratch st s (runOn rooms events attributes source s) y) (sym e)
+        (record { placed = f .placed; same = property-halts (refusalAt st x (f .placed .name)) (sym q ∙ f .same) })

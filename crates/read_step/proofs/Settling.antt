@@ -194,16 +194,16 @@ again-here t first st c a words text scratch name kind bytes kq bq known p q h s
   closed-since (t .events) (t .attributes) (t .source) (machineOf st c) kind bytes kq bq known p (close-planned (st .control) name a kind kind bytes bytes q refl refl e) first since,
 )
 
--- the state with the description in scratch
-pub again-stands : (t : Table) (first : ℕ) (st : State) (c : Content) (k : CodedContent) (words text before after : List ℕ) → isAt (modeOf (st .control)) ≡ true → k ≡ found (st .content)
-    → Restores (t .events) (t .source) first (st .content) before after
-    → (c .gathered ≡ []) × ((c .description ≡ []) ⊎ (told (at status) (rest (t .events) (t .attributes) (t .source) first) ≡ c .description))
-    → Stands (t .attributes) (t .source) words text before (st .content) (machineOf st c) → Stands (t .attributes) (t .source) words text after k (machineOf st c)
-again-stands t first st c k words text before after h e restores g x =
-    subst (λ (y : CodedContent). Stands (t .attributes) (t .source) words text after y (machineOf st c)) (sym e)
+-- the content with the description in scratch
+pub again-stands : (events source attributes : List ℕ) (first : ℕ) (s : Machine) (k₀ k : CodedContent) (words text before after : List ℕ) → isAt (s .control .mode) ≡ true → k ≡ found k₀
+    → Restores events source first k₀ before after
+    → (s .content .gathered ≡ []) × ((s .content .description ≡ []) ⊎ (told (at status) (rest events attributes source first) ≡ s .content .description))
+    → Stands attributes source words text before k₀ s → Stands attributes source words text after k s
+again-stands events source attributes first s k₀ k words text before after h e restores g x =
+    subst (λ (y : CodedContent). Stands attributes source words text after y s) (sym e)
     (record {
-      holds = restores words text (t .attributes) c (x .holds) (g .0) (g .1);
-      lists = lists-found (modeOf (st .control)) (marksOf (st .marks)) (st .content) c h (x .lists);
+      holds = restores words text attributes (s .content) (x .holds) (g .0) (g .1);
+      lists = lists-found (s .control .mode) (s .marks) k₀ (s .content) h (x .lists);
       low = x .low;
       few = x .few;
     })

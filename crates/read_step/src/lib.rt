@@ -43,13 +43,13 @@ ghost use Rattle.table.specs.Table.{countOf, tableOf};
 ghost use Rattle.read_state.specs.inside.Coded.{modeOf, controlOf, actOf, isStep};
 ghost use Rattle.tree_status.specs.Status.{Few};
 ghost use Rattle.read_place.specs.inside.Coded.{marksOf, Low};
-ghost use Rattle.read_state.specs.declared.Act.the-variants.{Close, ReadProperty};
+ghost use Rattle.read_state.specs.declared.Act.the-variants.{Close};
 ghost use Rattle.read_content.specs.Content as deed;
 ghost use Rattle.read_element.specs.inside.Refines.{tagged, areas};
 ghost use Rattle.read_content.specs.inside.Holds.{apt};
-ghost use Rattle.read_step.specs.inside.Planned.{planned, nameIn, isSkip, isStop, isClose, hasContent};
+ghost use Rattle.read_step.specs.inside.Planned.{planned, nameIn, isSkip, isStop, isClose, hasContent, plainOf};
 ghost use Rattle.read_step.specs.inside.Standing.{machineOf, Standing, Bounded, Lent, Spans, haltAt, beginning, after};
-ghost use Rattle.read_step.specs.inside.Promises.{given, lent, StandingAgain, StandingSince, StepsPiece, StepsSkip, StepsAct, StepsReady, StepsProperty, StepsEvent};
+ghost use Rattle.read_step.specs.inside.Promises.{given, lent, StandingAgain, StandingSince, StepsPiece, StepsSkip, StepsAct, Settles, StepsReady, PassesContent, StepsEvent};
 ghost use Rattle.read_again.specs.inside.Turns.{Known};
 ghost use Rattle.table_events.specs.inside.Ranges.{firstAt, endAt};
 
@@ -291,88 +291,6 @@ fn step_act(
     }
 }
 
-// A Start `property` of a list: its attributes are read, and its content is skipped (rule R16).
-fn step_property(
-    st: State,
-    range: Range,
-    events: &[u32],
-    attributes: &[u32],
-    source: &[u8],
-    records: &mut [u32],
-    text: &mut [u8],
-    scratch: &[u8],
-) -> Step
-    requires { ⌜ apt (ReadProperty true) (modeOf (st .control)) ≡ true ⌝ }
-    requires { ⌜ st .marks .event < countOf (now events) ⌝ }
-    requires { ⌜ countOf (now events) ≤ 65536 ⌝ }
-    requires { ⌜ Spans (length (now attributes)) (range .first) (range .end) ⌝ }
-    requires { ⌜ Lent (length (now records)) (length (now text)) (length (now scratch)) ⌝ }
-    requires { ⌜ Standing (now attributes) (now source) (now records) (now text) (now scratch) st ⌝ }
-    ensures { λ r. ⌜ StepsProperty st range (given (now (events .entry)) (now (attributes .entry)) (now (source .entry)))
-        (areas (now (records .entry)) (now (text .entry))) (areas (now (records .exit)) (now (text .exit))) (now (scratch .entry)) r ⌝ }
-{
-    let marks = st.marks;
-    let i = marks.event;
-    let read = step_act(
-        Act::ReadProperty(true),
-        st,
-        range,
-        attributes,
-        source,
-        records,
-        text,
-        scratch,
-    );
-    match read {
-        Step::Go(next) => step_skip(next, i, events, source),
-        Step::Stop => Step::Stop,
-        Step::Halt(halt) => Step::Halt(halt),
-    }
-}
-
-// The End that closes an element whose description a child's text was put over: first that is gathered again.
-fn step_again(
-    act: Act,
-    st: State,
-    first: usize,
-    range: Range,
-    events: &[u32],
-    attributes: &[u32],
-    source: &[u8],
-    records: &mut [u32],
-    text: &mut [u8],
-    scratch: &mut [u8],
-) -> Step
-    requires { ⌜ act ≡ Close ⌝ }
-    requires { ⌜ apt act (modeOf (st .control)) ≡ true ⌝ }
-    requires { ⌜ Known (now events) ⌝ }
-    requires { ⌜ first ≤ countOf (now events) ⌝ }
-    requires { ⌜ Spans (length (now attributes)) (range .first) (range .end) ⌝ }
-    requires { ⌜ Lent (length (now records)) (length (now text)) (length (now scratch)) ⌝ }
-    requires { ⌜ StandingAgain act (given (now events) (now attributes) (now source)) (lent (now records) (now text) (now scratch)) first st ⌝ }
-    ensures { λ r. ⌜ StepsReady act st first range (given (now (events .entry)) (now (attributes .entry)) (now (source .entry)))
-        (lent (now (records .entry)) (now (text .entry)) (now (scratch .entry))) (lent (now (records .exit)) (now (text .exit)) (now (scratch .exit))) r ⌝ }
-{
-    let control = st.control;
-    let marks = st.marks;
-    let content = restored(st.content, events, source, first, scratch);
-    let ready = State {
-        control,
-        marks,
-        content,
-    };
-    step_act(
-        act,
-        ready,
-        range,
-        attributes,
-        source,
-        records,
-        text,
-        scratch,
-    )
-}
-
 fn is_close(act: Act) -> bool
     ensures { λ r. ⌜ r ≡ isClose act ⌝ }
 {
@@ -390,6 +308,26 @@ fn is_close(act: Act) -> bool
         Act::Missing => false,
         Act::Broken(_) => false,
     }
+}
+
+// The content with its description in scratch, where an act closes the element: a child's text may have been put over it.
+fn settled(
+    act: Act,
+    content: Content,
+    first: usize,
+    events: &[u32],
+    source: &[u8],
+    scratch: &mut [u8],
+) -> Content
+    requires { ⌜ Known (now events) ⌝ }
+    requires { ⌜ first ≤ countOf (now events) ⌝ }
+    ensures { λ r. ⌜ (act ≡ Close → r .child ≡ r .description) ⌝ }
+    ensures { λ r. ⌜ Settles act first (now (events .entry)) (now (source .entry)) content (now (scratch .entry)) (now (scratch .exit)) r ⌝ }
+{
+    if is_close(act) & is_lost(content) {
+        return restored(content, events, source, first, scratch);
+    }
+    content
 }
 
 // An action, with the description in scratch where it is to be stored.
@@ -415,21 +353,47 @@ fn step_ready(
     ensures { λ r. ⌜ StepsReady act st first range (given (now (events .entry)) (now (attributes .entry)) (now (source .entry)))
         (lent (now (records .entry)) (now (text .entry)) (now (scratch .entry))) (lent (now (records .exit)) (now (text .exit)) (now (scratch .exit))) r ⌝ }
 {
-    if is_close(act) & is_lost(st.content) {
-        return step_again(
-            act,
-            st,
-            first,
-            range,
-            events,
-            attributes,
-            source,
-            records,
-            text,
-            scratch,
-        );
+    let control = st.control;
+    let marks = st.marks;
+    let content = settled(act, st.content, first, events, source, scratch);
+    let ready = State {
+        control,
+        marks,
+        content,
+    };
+    step_act(
+        act,
+        ready,
+        range,
+        attributes,
+        source,
+        records,
+        text,
+        scratch,
+    )
+}
+
+// A Start `property` is read as an Empty one (rule R16).
+fn plain(act: Act) -> Act
+    ensures { λ r. ⌜ r ≡ plainOf act ⌝ }
+{
+    if has_content(act) {
+        return Act::ReadProperty(true);
     }
-    step_act(act, st, range, attributes, source, records, text, scratch)
+    act
+}
+
+// Behind a Start `property` that was read so: its content is skipped.
+fn pass_content(read: Step, start: usize, events: &[u32], source: &[u8]) -> Step
+    requires { ⌜ start < countOf (now events) ⌝ }
+    requires { ⌜ countOf (now events) ≤ 65536 ⌝ }
+    ensures { λ r. ⌜ PassesContent read start (now (events .entry)) (now (source .entry)) r ⌝ }
+{
+    match read {
+        Step::Go(next) => step_skip(next, start, events, source),
+        Step::Stop => Step::Stop,
+        Step::Halt(halt) => Step::Halt(halt),
+    }
 }
 
 // The attributes of an event.
@@ -477,20 +441,8 @@ pub fn step_event(
         return Step::Stop;
     }
     let range = range_at(events, i);
-    if has_content(act) {
-        return step_property(
-            st,
-            range,
-            events,
-            attributes,
-            source,
-            records,
-            text,
-            scratch,
-        );
-    }
-    step_ready(
-        act,
+    let read = step_ready(
+        plain(act),
         st,
         first,
         range,
@@ -500,5 +452,9 @@ pub fn step_event(
         records,
         text,
         scratch,
-    )
+    );
+    if has_content(act) {
+        return pass_content(read, i, events, source);
+    }
+    read
 }

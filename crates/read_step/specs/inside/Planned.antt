@@ -94,3 +94,7 @@ hasContent (ReadProperty e) = not e
 hasContent Stop = false
 hasContent Missing = false
 hasContent (Broken why) = false
+
+-- it is read as an Empty one
+abbrev pub plainOf : CodedAct → CodedAct
+plainOf a = cond (hasContent a) (ReadProperty true) a

@@ -5,20 +5,21 @@ use mathlib.Core.List.{List, []}
 use mathlib.Core.Bool.{true, false}
 use mathlib.Core.Logic.{_⊎_}
 use lib.ListN.{length}
-use Rattle.table.specs.Event.{Piece, bytesAt, eventAt, pieceKind, pieceBytes}
+use Rattle.table.specs.Event.{Piece, bytesAt, pieceKind, pieceBytes}
 use Rattle.read_element.specs.Outcome.{Rooms}
 use Rattle.read_attribute.specs.declared.Range.{Range}
 use Rattle.read_each.specs.inside.Promises.{attributesIn}
 use Rattle.read_state.specs.Control.{status, at}
 use Rattle.read_state.specs.inside.Coded.{modeOf, actOf}
 use Rattle.read_state.specs.declared.Act.{Act as CodedAct}
-use Rattle.read_state.specs.declared.Act.the-variants.{Close, ReadProperty}
+use Rattle.read_state.specs.declared.Act.the-variants.{Close}
 use Rattle.read_place.specs.inside.Coded.{marksOf}
 use Rattle.read_path.specs.Paths.{modePath}
 use Rattle.read_path.specs.inside.Coded.{hasRoom}
 use Rattle.read_content.specs.Content.{Content}
 use Rattle.read_element.specs.inside.Refines.{Table, Areas}
-use Rattle.read_content.specs.inside.Holds.{Sized}
+use Rattle.read_content.specs.inside.Holds.{apt, Sized}
+use Rattle.read_content.specs.declared.Content.{Content as CodedContent}
 use Rattle.read_machine.specs.Machine as machine
 use Rattle.read_machine.specs.Machine.{Machine}
 use Rattle.read_again.specs.Told.{told}
@@ -26,6 +27,7 @@ use Rattle.read_again.specs.inside.Turns.{rest}
 use Rattle.read_again.specs.inside.Since.{Since, firstOf}
 use Rattle.read_step.specs.declared.State.{State}
 use Rattle.read_step.specs.declared.Step.{Step}
+use Rattle.read_step.specs.declared.Step.the-variants as way
 use Rattle.read_step.specs.inside.Standing.{machineOf, runOn, inSkip, runSkip, Stands, Acted, Stepped}
 
 -- a whole table, and the three areas
@@ -76,7 +78,13 @@ pub record StandingAgain (act : CodedAct) (t : Table) (a : Areas) (first : ℕ) 
   pub again : Again act t first content
   pub event : st .marks .event ≤ 65536
 
--- so is an action with a description that a child's text may have been put over
+-- what scratch and a content hold before an act they hold with the content that is settled
+abbrev pub Settles : CodedAct → (first : ℕ) (events source : List ℕ) → CodedContent → (before after : List ℕ) → CodedContent → Type 0
+Settles act first events source k before after r =
+    (attributes words text : List ℕ) (s : Machine) → apt act (s .control .mode) ≡ true → Again act (given events attributes source) first (s .content)
+    → Stands attributes source words text before k s → Stands attributes source words text after r s
+
+-- an action with a description that a child's text may have been put over is done so, too
 abbrev pub StepsReady : CodedAct → State → (first : ℕ) → Range → Table → (before after : Areas) → Step → Type 0
 StepsReady act st first range t before after r =
     (rooms : Rooms) (c : Content) (name : List ℕ) → hasRoom (actOf (st .control) name act) ≡ true
@@ -86,16 +94,11 @@ StepsReady act st first range t before after r =
     → Acted (t .attributes) (t .source) (after .records) (after .text) (after .scratch) st
     (machine.act rooms (actOf (st .control) name act) (range .first) (attributesIn t range) (machineOf st c)) r
 
--- a Start `property` is read with its content, and the run comes to the same
-abbrev pub StepsProperty : State → Range → Table → (before after : Areas) (scratch : List ℕ) → Step → Type 0
-StepsProperty st range t before after scratch r =
-    (rooms : Rooms) (c : Content)
-    → machine.step rooms (eventAt (t .events) (t .attributes) (t .source) (st .marks .event)) (machineOf st c)
-    ≡ machine.act rooms (actOf (st .control) (bytesAt (t .events) (t .source) (st .marks .event)) (ReadProperty false)) (range .first) (attributesIn t range) (machineOf st c)
-    → Sized rooms (length (before .records)) (length (before .text)) (length scratch)
-    → Stands (t .attributes) (t .source) (before .records) (before .text) scratch (st .content) (machineOf st c)
-    → Stepped rooms (t .events) (t .attributes) (t .source) (after .records) (after .text) scratch st (machineOf st c)
-    (runOn rooms (t .events) (t .attributes) (t .source) (machineOf st c)) r
+-- behind a Start `property` that was read as an Empty one its content is passed over; a refusal stays
+abbrev pub PassesContent : Step → (start : ℕ) (events source : List ℕ) → Step → Type 0
+PassesContent (way.Go st) start events source r = StepsSkip st start events source r
+PassesContent way.Stop start events source r = r ≡ way.Stop
+PassesContent (way.Halt h) start events source r = r ≡ way.Halt h
 
 -- with some content the areas hold that of a state, and its description is told from event `first` on
 pub record StandingSince (t : Table) (a : Areas) (first : ℕ) (st : State) : Type 0 where
