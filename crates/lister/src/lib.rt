@@ -13,9 +13,11 @@ use tree_record::field;
 use tree_record::kind;
 use tree_record::word;
 ghost use mathlib.Core.Path.{_≡_};
+ghost use mathlib.Core.Bool.{true};
 ghost use lib.ListN.{length};
 ghost use Rattle.refusal.specs.Refusal.{refused, late};
 ghost use Rattle.area.specs.declared.Stored.the-variants.{Put};
+ghost use Rattle.tree_report.specs.Layout.{layout};
 ghost use Rattle.list_text.specs.inside.Behind.{filled, Puts};
 ghost use Rattle.list_text.specs.Listing.{listed, outputOf};
 ghost use Rattle.list_sums.specs.inside.Rows.{recordsIn};
@@ -67,15 +69,14 @@ fn refuse(cause: Cause) -> Listing
     }
 }
 
-// Puts the listing (rule L5) at the front of out, and zeros behind it; at a refusal all of out becomes zero (rules L11 and L12).
-pub fn list(records: &[u32], text: &[u8], out: &mut [u8]) -> Listing
+// Puts the listing (rule L5) of a layout at the front of out, and zeros behind it; where it doesn't fit, all of out becomes zero (rules L11
+// and L12). That it is a layout isn't looked at.
+pub fn list_known(records: &[u32], text: &[u8], out: &mut [u8]) -> Listing
+    requires { ⌜ layout (now records) (now text) ≡ true ⌝ }
     ensures { λ r. ⌜ r ≡ listingFrom (listed (now (records .entry)) (now (text .entry)) (length (now (out .entry)))) ⌝ }
     ensures { λ r. ⌜ now (out .exit) ≡ outputOf (now (records .entry)) (now (text .entry)) (length (now (out .entry))) ⌝ }
 {
     area::clear(out);
-    if !tree_layout::is_layout(records, text) {
-        return refuse(Cause::NotLayout);
-    }
     let limit = least(records.len(), limit::WORDS);
     let bytes = least(text.len(), limit::BYTES);
     let put = put_report(out, &text[..bytes], &records[..limit]);
@@ -88,4 +89,16 @@ pub fn list(records: &[u32], text: &[u8], out: &mut [u8]) -> Listing
         length,
         refusal: no_refusal(),
     }
+}
+
+// The listing of any areas: what is no layout is refused, and all of out becomes zero (rule L11).
+pub fn list(records: &[u32], text: &[u8], out: &mut [u8]) -> Listing
+    ensures { λ r. ⌜ r ≡ listingFrom (listed (now (records .entry)) (now (text .entry)) (length (now (out .entry)))) ⌝ }
+    ensures { λ r. ⌜ now (out .exit) ≡ outputOf (now (records .entry)) (now (text .entry)) (length (now (out .entry))) ⌝ }
+{
+    if !tree_layout::is_layout(records, text) {
+        area::clear(out);
+        return refuse(Cause::NotLayout);
+    }
+    list_known(records, text, out)
 }

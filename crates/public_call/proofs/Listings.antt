@@ -1,6 +1,7 @@
 -- What is read, listed and printed, by the verdicts of the calls. Assumes nothing.
 use Prim.Native.Nat.{ℕ, min}
-use mathlib.Core.Path.{_≡_, refl, sym, ap, _∙_}
+use mathlib.Core.Path.{_≡_, refl, sym, ap, ap₂, _∙_}
+use mathlib.Core.Bool.{true}
 use mathlib.Core.List.{List}
 use native.Mathlib.Omega.{arith}
 use lib.ListN.{length}
@@ -9,7 +10,9 @@ use Rattle.refusal.specs.Refusal.{Refused, Outcome, accepted, refused, verdictO
 use Rattle.refusal.specs.declared.Verdict.the-variants.{Accepted, Refused as IsRefused}
 use Rattle.reader.specs.declared.Reading.{Reading}
 use Rattle.reader.specs.Answer.{answerOf}
+use Rattle.tree_report.specs.Layout.{layout}
 use Rattle.read_machine.specs.Reading.{reading}
+use Rattle.read_machine.proofs.TreeReading.{reading-tree}
 use Rattle.lister.specs.declared.Listing.{Listing}
 use Rattle.lister.specs.Answer.{listingFrom}
 use Rattle.public_claims.specs.PublicListing.{refusedText, publicListing}
@@ -43,6 +46,11 @@ module _ (x : Reading) (o : Outcome (Unit {0})) (e : x ≡ answerOf o) where
   passed r p l q =
       q ∙ ap (λ (y : Reading). record { verdict = IsRefused; length = 0; refusal = y .refusal }) e
       ∙ ap (λ (w : Outcome (Unit {0})). record { verdict = IsRefused; length = 0; refusal = refusalOf w }) (sym p)
+
+-- what reading leaves where it accepts is a layout
+pub left-layout : (events attributes source : List ℕ) (n m k : ℕ) (w t : List ℕ) → accepted tt ≡ reading events attributes source n m k .outcome
+    → w ≡ reading events attributes source n m k .words → t ≡ reading events attributes source n m k .text → layout w t ≡ true
+left-layout events attributes source n m k w t e p q = ap₂ layout p q ∙ reading-tree events attributes source n m k (sym e) .whole
 
 -- ---- by the verdict of a listing
 module _ (x : Listing) (o : Outcome ℕ) (e : x ≡ listingFrom o) where

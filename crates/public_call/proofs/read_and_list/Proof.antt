@@ -1,4 +1,4 @@
-use Rattle.public_call.proofs.Listings.{read-accepted, read-refused, passed}
+use Rattle.public_call.proofs.Listings.{read-accepted, read-refused, passed, left-layout}
 use Rattle.public_claims.proofs.Once.{reads-scratch, reads-refused, once-accepted, left-accepted, once-refused, left-refused}
 use Rattle.lister.specs.Answer.{listingFrom}
 use Rattle.area.specs.Area.{zeros}
@@ -15,7 +15,11 @@ enum-told : tie.Need-enum-told
 enum-told c = search needs
 
 list-and-clear-requires : tie.Need-list-and-clear-requires
-list-and-clear-requires c κs = search needs
+list-and-clear-requires c κs =
+    let a = c .before .before .before .before .before .before .before .before .before .before .before .before .before .before .before .before .before .before .before .before .before .before .before .args in
+    let r = c .before .before .before .before .before .before .before .before .before .before .before .before .read in
+    let e = read-accepted (r .result) _ (r .ensures .0) (c .before .before .before .enum-told .given .1) in
+    left-layout (a .events .now) (a .attributes .now) (a .source .now) (length (a .records .now)) (length (a .text .now)) (length (a .scratch .now)) _ _ e (r .ensures .1 .0) (r .ensures .1 .1 .0)
 
 enum-told-2 : tie.Need-enum-told-2
 enum-told-2 c = search needs
