@@ -1,4 +1,5 @@
-"""documents.py FOLDER: reports of 0.1, 1, 2 and 16 MB, and documents that are hard on a tokenizer, for bench/xml/tokenizing.c."""
+"""documents.py FOLDER [NAME..]: reports of 0.1, 1, 2 and 16 MB, of 2 and 16 MB with a third of the bytes beyond ASCII (u2, u16), and documents
+that are hard on a tokenizer, for bench/xml/tokenizing.c and bench/bars; all, or those of that name."""
 import os
 import random
 import sys
@@ -35,6 +36,34 @@ def report(size):
     return "".join(out).encode()
 
 
+def beyond(size):
+    """The same with some Cyrillic words: about a third of the bytes are beyond ASCII."""
+    rand, out, put, case = random.Random(5), [], 0, 0
+    text = 4000 if size > 2_500_000 else 300
+    out.append('<?xml version="1.0" encoding="UTF-8"?>\n<testsuites name="прогон" tests="9" failures="1" errors="0" time="5.001">\n')
+    while put < size:
+        s = '    <testsuite name="набор%d" tests="10" disabled="0" errors="0" failures="1">\n' % case
+        for i in range(10):
+            case += 1
+            s += ('        <testcase name="проверка::случай_%d" classname="crate::module" '
+                  'timestamp="2021-04-01T10:52:37.000-08:00" time="0.%03d">\n' % (case, rand.randrange(1000)))
+            if i == 0:
+                words = ["ожидалось ", " at line 12\n", "значение = 5, ", "expected ", "\n   stack backtrace: ", "found here "]
+                s += ('            <failure message="ожидалось: left == right" type="panic">thread main panicked at '
+                      'src/lib.rs:%d:5:\n%s&lt;x&gt;</failure>\n' % (case, "".join(rand.choice(words) for _ in range(text // 10))))
+            else:
+                words = ["running 1 test\n", "ok. ", "[INFO] соединение с базой; took 12 ms\n", "готово "]
+                if text == 4000:
+                    words = ["running 1 test\n", "ok, taken. ", "[INFO] соединение с базой; took 12 ms\n", "done in time "]
+                s += '            <system-out>%s</system-out>\n' % "".join(rand.choice(words) for _ in range(text // 40))
+            s += '        </testcase>\n'
+        s += '    </testsuite>\n'
+        out.append(s)
+        put += len(s.encode())
+    out.append('</testsuites>\n')
+    return "".join(out).encode()
+
+
 def filled(before, part, behind, size=LIMIT):
     """As many parts as the size has room for."""
     return before + part * ((size - len(before) - len(behind)) // len(part)) + behind
@@ -56,6 +85,8 @@ documents = {
     "r1": report(1_000_000),
     "r2": report(2_000_000),
     "r16": report(16_600_000),
+    "u2": beyond(2_000_000),
+    "u16": beyond(16_600_000),
     # one name; one name twice
     "name1": filled(b"<", b"n", b"/>", SIXTEENTH),
     "name": filled(b"<", b"n", b"/>"),
@@ -90,5 +121,7 @@ documents = {
     "over": b"<a>" + b"x" * (LIMIT - 6) + b"</a>",
 }
 for name, document in documents.items():
+    if len(sys.argv) > 2 and name not in sys.argv[2:]:
+        continue
     with open(os.path.join(folder, name + ".xml"), "wb") as f:
         f.write(document)
