@@ -17,6 +17,8 @@ use xml_ends::finish;
 use xml_ends::refused;
 use xml_moves::move_at;
 use xml_put::act_on;
+use xml_quick::is_quick;
+use xml_quick::quick;
 use xml_skip::ahead;
 use xml_skip::pass_name;
 use xml_state::Step;
@@ -46,6 +48,8 @@ fn run_with(
             at = i + 1;
             if m.act == b'.' {
                 st.mode = m.mode;
+            } else if is_quick(m.act) {
+                st = quick(st, m, i as u32);
             } else {
                 match act_on(st, m, b, i as u32, source, events, attributes) {
                     Step::Go(s) => {

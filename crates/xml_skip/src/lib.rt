@@ -6,6 +6,7 @@ ghost use Rattle.xml_state.specs.inside.Tables.{classTable, nextTable, actTable
 ghost use Rattle.xml_state.specs.inside.Rows.{moveOf};
 ghost use Rattle.xml_skip.specs.inside.Passes.{Passes, Keeps, loose, Wide, twoBytes, threeBytes, fourBytes};
 use area::wide;
+use xml_calm::calm_end;
 use xml_checks::byte_at;
 use xml_checks::less;
 use xml_moves::move_at;
@@ -96,7 +97,7 @@ fn skip(source: &[u8], from: usize, mode: u8, classes: &[u8], nexts: &[u8], acts
     requires { ⌜ (now classes ≡ classTable) × (now nexts ≡ nextTable) × (now acts ≡ actTable) ⌝ }
     ensures { λ r. ⌜ (from ≤ r) × Passes (now (source .entry)) mode from r ⌝ }
 {
-    let mut at = from;
+    let mut at = calm_end(source, from, mode);
     while at < source.len() {
         let m = move_at(mode, source[at], classes, nexts, acts);
         if m.mode != mode {

@@ -1,10 +1,11 @@
 use borrow.Author.Needs.{needs}
 use Prim.Native.Nat.{_-_}
-use mathlib.Core.Path.{_∙_}
+use mathlib.Core.Path.{refl, sym, _∙_}
 use native.Mathlib.Omega.{arith}
 use lib.ListN.{length}
 use Rattle.xml_skip.proofs.Passing.{passed}
 use Rattle.xml_skip.proofs.Naming.{kept}
+use Rattle.xml_quick.proofs.Quickly.{quick-go}
 use Rattle.xml_records.specs.inside.Loop.{At}
 use Rattle.xml_records.proofs.Loop.{at-start, mode-here, over, stay-on, go-on, full-out, bad-out, whole}
 use Rattle.xml_agree.proofs.Whole.{agrees}
@@ -55,6 +56,25 @@ loop-again c =
     let inv = c .before .before .before .before .before .before .before .loop .inv in
     stay-on inv (agrees (loop-test .taken) (inv .stands .rep)) (loop-test .taken) _ (move-at .ensures) (c .if2 .taken)
 
+is-quick-requires : tie.Need-is-quick-requires Inv-loop μ-loop
+is-quick-requires c κs = search needs
+
+cast-quick : tie.Need-cast-quick Inv-loop μ-loop
+cast-quick c = omega (arith, c .loop .inv .short)
+
+quick-requires : tie.Need-quick-requires Inv-loop μ-loop
+quick-requires c κs = omega (arith, c .loop .inv .short)
+
+loop-less-2 : tie.Need-loop-less-2 Inv-loop μ-loop
+loop-less-2 c = omega (arith, c .loop-test .taken)
+
+loop-again-2 : tie.Need-loop-again-2 Inv-loop μ-loop
+loop-again-2 c =
+    let inv = c .loop .inv in
+    let here = c .loop-test .taken in
+    go-on inv (agrees here (inv .stands .rep)) here _ (c .move-at .ensures) (c .if2 .left) _ _ _
+    (quick-go _ _ _ _ _ _ _ _ (c .quick .ensures) (sym (c .is-quick .ensures) ∙ c .if3 .taken)) refl refl _ refl
+
 cast-act-on : tie.Need-cast-act-on Inv-loop μ-loop
 cast-act-on c =
     let loop = c .before .before .before .before .before .before .before .loop in
@@ -73,13 +93,13 @@ pass-name-requires c κs =
     let loop = c .before .before .before .before .before .before .before .before .before .before .before .before .before .before .before .before .before .loop in
     loop .inv .short
 
-loop-less-2 : tie.Need-loop-less-2 Inv-loop μ-loop
-loop-less-2 c =
+loop-less-3 : tie.Need-loop-less-3 Inv-loop μ-loop
+loop-less-3 c =
     let loop-test = c .before .before .before .before .before .before .before .before .before .before .before .before .before .before .before .before .before .loop-test in
     omega (arith, loop-test .taken, c .pass-name .ensures .0)
 
-loop-again-2 : tie.Need-loop-again-2 Inv-loop μ-loop
-loop-again-2 c =
+loop-again-3 : tie.Need-loop-again-3 Inv-loop μ-loop
+loop-again-3 c =
     let loop-test = c .before .before .before .before .before .before .before .before .before .before .before .before .before .before .before .before .before .loop-test in
     let move-at = c .before .before .before .before .before .before .before .before .before .before .before .before .before .before .before .move-at in
     let if2 = c .before .before .before .before .before .before .before .before .before .before .before .if2 in
@@ -148,13 +168,13 @@ returns-2 c =
     whole _ _ _ _ (inv .short) (bad-out inv (agrees (loop-test .taken) (inv .stands .rep)) (loop-test .taken) _ (move-at .ensures) (if2 .left)
     _ _ _ (act-on .ensures) (act-on .kept .1 .1 .1 .1 .1 .0) (act-on .kept .1 .1 .1 .1 .1 .1 .0) (c .before .enum-told2 .given .1) _ (c .refused .ensures))
 
-loop-less-3 : tie.Need-loop-less-3 Inv-loop μ-loop
-loop-less-3 c =
+loop-less-4 : tie.Need-loop-less-4 Inv-loop μ-loop
+loop-less-4 c =
     let loop-test = c .before .before .before .before .loop-test in
     omega (arith, c .before .ahead .ensures .0, c .if1 .left, loop-test .taken)
 
-loop-again-3 : tie.Need-loop-again-3 Inv-loop μ-loop
-loop-again-3 c =
+loop-again-4 : tie.Need-loop-again-4 Inv-loop μ-loop
+loop-again-4 c =
     let loop = c .before .before .before .before .before .loop in
     passed (c .before .ahead .ensures .1) (loop .inv)
 
@@ -194,12 +214,17 @@ run-with-spec =
     add-at
     loop-less
     loop-again
+    is-quick-requires
+    cast-quick
+    quick-requires
+    loop-less-2
+    loop-again-2
     cast-act-on
     act-on-requires
     enum-known-s
     pass-name-requires
-    loop-less-2
-    loop-again-2
+    loop-less-3
+    loop-again-3
     enum-told
     same-length
     same-length-2
@@ -210,8 +235,8 @@ run-with-spec =
     same-length-3
     same-length-4
     returns-2
-    loop-less-3
-    loop-again-3
+    loop-less-4
+    loop-again-4
     cast-finish
     finish-requires
     same-length-5

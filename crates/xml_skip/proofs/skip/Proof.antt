@@ -1,4 +1,5 @@
-use Rattle.xml_skip.proofs.Passing.{pass-none, pass-byte, pass-then}
+use Rattle.xml_skip.proofs.Mild.{pass-run}
+use Rattle.xml_skip.proofs.Passing.{pass-byte, pass-then}
 use Rattle.xml_skip.specs.inside.Passes.{Passes}
 use lib.ListN.{length}
 use native.Mathlib.Omega.{arith}
@@ -13,15 +14,18 @@ Inv-loop source from mode classes nexts acts at₀ at = (from ≤ at) × Passes 
 abbrev μ-loop : tie.MeasureT-loop
 μ-loop source from mode classes nexts acts at₀ at = length source - at
 
+calm-end-requires : tie.Need-calm-end-requires Inv-loop μ-loop
+calm-end-requires c κs = search needs
+
 loop-holds : tie.Need-loop-holds Inv-loop μ-loop
-loop-holds c = (omega arith, pass-none _ _ _)
+loop-holds c = (c .calm-end .ensures .0, pass-run _ _ _ _ (c .calm-end .ensures .0) (c .calm-end .ensures .1))
 
 shared-slice-read-move-at : tie.Need-shared-slice-read-move-at Inv-loop μ-loop
 shared-slice-read-move-at c = search needs
 
 move-at-requires : tie.Need-move-at-requires Inv-loop μ-loop
 move-at-requires c κs =
-    let pre = c .before .before .before .before .before .before .before .pre in
+    let pre = c .before .before .before .before .before .before .before .before .pre in
     pre
 
 returns : tie.Need-returns Inv-loop μ-loop
@@ -70,6 +74,7 @@ skip-spec =
     (tie.spec
     Inv-loop
     μ-loop
+    calm-end-requires
     loop-holds
     shared-slice-read-move-at
     move-at-requires
