@@ -60,29 +60,29 @@ is-quick-requires : tie.Need-is-quick-requires Inv-loop μ-loop
 is-quick-requires c κs = search needs
 
 cast-quick : tie.Need-cast-quick Inv-loop μ-loop
-cast-quick c = omega (arith, c .loop .inv .short)
+cast-quick c = omega (arith, c .before .before .before .before .before .before .before .before .before .loop .inv .short)
 
 quick-requires : tie.Need-quick-requires Inv-loop μ-loop
-quick-requires c κs = omega (arith, c .loop .inv .short)
+quick-requires c κs = omega (arith, c .before .before .before .before .before .before .before .before .before .loop .inv .short)
 
 loop-less-2 : tie.Need-loop-less-2 Inv-loop μ-loop
-loop-less-2 c = omega (arith, c .loop-test .taken)
+loop-less-2 c = omega (arith, c .before .before .before .before .before .before .before .before .before .loop-test .taken)
 
 loop-again-2 : tie.Need-loop-again-2 Inv-loop μ-loop
 loop-again-2 c =
-    let inv = c .loop .inv in
-    let here = c .loop-test .taken in
-    go-on inv (agrees here (inv .stands .rep)) here _ (c .move-at .ensures) (c .if2 .left) _ _ _
-    (quick-go _ _ _ _ _ _ _ _ (c .quick .ensures) (sym (c .is-quick .ensures) ∙ c .if3 .taken)) refl refl _ refl
+    let inv = c .before .before .before .before .before .before .before .before .before .before .loop .inv in
+    let here = c .before .before .before .before .before .before .before .before .before .loop-test .taken in
+    go-on inv (agrees here (inv .stands .rep)) here _ (c .before .before .before .before .before .before .before .move-at .ensures) (c .before .before .before .if2 .left) _ _ _
+    (quick-go _ _ _ _ _ _ _ _ (c .quick .ensures) (sym (c .before .before .is-quick .ensures) ∙ c .before .if3 .taken)) refl refl _ refl
 
 cast-act-on : tie.Need-cast-act-on Inv-loop μ-loop
 cast-act-on c =
-    let loop = c .before .before .before .before .before .before .before .loop in
+    let loop = c .before .before .before .before .before .before .before .before .before .loop in
     omega (arith, loop .inv .short)
 
 act-on-requires : tie.Need-act-on-requires Inv-loop μ-loop
 act-on-requires c κs =
-    let loop = c .before .before .before .before .before .before .before .before .before .loop in
+    let loop = c .before .before .before .before .before .before .before .before .before .before .before .loop in
     omega (arith, loop .inv .short)
 
 enum-known-s : tie.Need-enum-known-s Inv-loop μ-loop
@@ -90,20 +90,20 @@ enum-known-s c = search needs
 
 pass-name-requires : tie.Need-pass-name-requires Inv-loop μ-loop
 pass-name-requires c κs =
-    let loop = c .before .before .before .before .before .before .before .before .before .before .before .before .before .before .before .before .before .loop in
+    let loop = c .before .before .before .before .before .before .before .before .before .before .before .before .before .before .before .before .before .before .before .loop in
     loop .inv .short
 
 loop-less-3 : tie.Need-loop-less-3 Inv-loop μ-loop
 loop-less-3 c =
-    let loop-test = c .before .before .before .before .before .before .before .before .before .before .before .before .before .before .before .before .before .loop-test in
+    let loop-test = c .before .before .before .before .before .before .before .before .before .before .before .before .before .before .before .before .before .before .before .loop-test in
     omega (arith, loop-test .taken, c .pass-name .ensures .0)
 
 loop-again-3 : tie.Need-loop-again-3 Inv-loop μ-loop
 loop-again-3 c =
-    let loop-test = c .before .before .before .before .before .before .before .before .before .before .before .before .before .before .before .before .before .loop-test in
-    let move-at = c .before .before .before .before .before .before .before .before .before .before .before .before .before .before .before .move-at in
-    let if2 = c .before .before .before .before .before .before .before .before .before .before .before .if2 in
-    let inv = c .before .before .before .before .before .before .before .before .before .before .before .before .before .before .before .before .before .before .loop .inv in
+    let loop-test = c .before .before .before .before .before .before .before .before .before .before .before .before .before .before .before .before .before .before .before .loop-test in
+    let move-at = c .before .before .before .before .before .before .before .before .before .before .before .before .before .before .before .before .before .move-at in
+    let if2 = c .before .before .before .before .before .before .before .before .before .before .before .before .before .if2 in
+    let inv = c .before .before .before .before .before .before .before .before .before .before .before .before .before .before .before .before .before .before .before .before .loop .inv in
     let act-on = c .before .before .before .before .before .before .before .before .act-on in
     kept (c .pass-name .ensures .1) (go-on inv (agrees (loop-test .taken) (inv .stands .rep)) (loop-test .taken) _ (move-at .ensures) (if2 .left)
     _ _ _ (act-on .ensures) (act-on .kept .1 .1 .1 .1 .1 .0) (act-on .kept .1 .1 .1 .1 .1 .1 .0) _ (c .before .before .s .given .1))
@@ -113,22 +113,22 @@ enum-told c = search needs
 
 same-length : tie.Need-same-length Inv-loop μ-loop
 same-length c =
-    let loop = c .before .before .before .before .before .before .before .before .before .before .before .before .before .before .before .before .loop in
+    let loop = c .before .before .before .before .before .before .before .before .before .before .before .before .before .before .before .before .before .before .loop in
     let act-on-step = c .before .before .before .before .before .before .act-on in
     act-on-step .kept .1 .1 .1 .1 .1 .0 ∙ loop .inv .long
 
 same-length-2 : tie.Need-same-length-2 Inv-loop μ-loop
 same-length-2 c =
-    let loop = c .before .before .before .before .before .before .before .before .before .before .before .before .before .before .before .before .loop in
+    let loop = c .before .before .before .before .before .before .before .before .before .before .before .before .before .before .before .before .before .before .loop in
     let act-on-step = c .before .before .before .before .before .before .act-on in
     act-on-step .kept .1 .1 .1 .1 .1 .1 .0 ∙ loop .inv .broad
 
 returns : tie.Need-returns Inv-loop μ-loop
 returns c =
-    let loop-test = c .before .before .before .before .before .before .before .before .before .before .before .before .before .before .before .loop-test in
-    let move-at = c .before .before .before .before .before .before .before .before .before .before .before .before .before .move-at in
-    let if2 = c .before .before .before .before .before .before .before .before .before .if2 in
-    let inv = c .before .before .before .before .before .before .before .before .before .before .before .before .before .before .before .before .loop .inv in
+    let loop-test = c .before .before .before .before .before .before .before .before .before .before .before .before .before .before .before .before .before .loop-test in
+    let move-at = c .before .before .before .before .before .before .before .before .before .before .before .before .before .before .before .move-at in
+    let if2 = c .before .before .before .before .before .before .before .before .before .before .before .if2 in
+    let inv = c .before .before .before .before .before .before .before .before .before .before .before .before .before .before .before .before .before .before .loop .inv in
     let act-on = c .before .before .before .before .before .before .act-on in
     whole _ _ _ _ (inv .short) (full-out inv (agrees (loop-test .taken) (inv .stands .rep)) (loop-test .taken) _ (move-at .ensures)
     (if2 .left) _ _ _ (act-on .ensures) (act-on .kept .1 .1 .1 .1 .1 .0) (act-on .kept .1 .1 .1 .1 .1 .1 .0) (c .enum-told .given .1))
@@ -138,32 +138,32 @@ enum-told-2 c = search needs
 
 cast-refused : tie.Need-cast-refused Inv-loop μ-loop
 cast-refused c =
-    let loop = c .before .before .before .before .before .before .before .before .before .before .before .before .before .before .before .before .loop in
+    let loop = c .before .before .before .before .before .before .before .before .before .before .before .before .before .before .before .before .before .before .loop in
     omega (arith, loop .inv .short)
 
 refused-requires : tie.Need-refused-requires Inv-loop μ-loop
 refused-requires c κs =
-    let loop = c .before .before .before .before .before .before .before .before .before .before .before .before .before .before .before .before .loop in
+    let loop = c .before .before .before .before .before .before .before .before .before .before .before .before .before .before .before .before .before .before .loop in
     omega (arith, loop .inv .short)
 
 same-length-3 : tie.Need-same-length-3 Inv-loop μ-loop
 same-length-3 c =
-    let loop = c .before .before .before .before .before .before .before .before .before .before .before .before .before .before .before .before .before .loop in
+    let loop = c .before .before .before .before .before .before .before .before .before .before .before .before .before .before .before .before .before .before .before .loop in
     let act-on-step = c .before .before .before .before .before .before .before .act-on in
     act-on-step .kept .1 .1 .1 .1 .1 .0 ∙ loop .inv .long
 
 same-length-4 : tie.Need-same-length-4 Inv-loop μ-loop
 same-length-4 c =
-    let loop = c .before .before .before .before .before .before .before .before .before .before .before .before .before .before .before .before .before .loop in
+    let loop = c .before .before .before .before .before .before .before .before .before .before .before .before .before .before .before .before .before .before .before .loop in
     let act-on-step = c .before .before .before .before .before .before .before .act-on in
     act-on-step .kept .1 .1 .1 .1 .1 .1 .0 ∙ loop .inv .broad
 
 returns-2 : tie.Need-returns-2 Inv-loop μ-loop
 returns-2 c =
-    let loop-test = c .before .before .before .before .before .before .before .before .before .before .before .before .before .before .before .before .loop-test in
-    let move-at = c .before .before .before .before .before .before .before .before .before .before .before .before .before .before .move-at in
-    let if2 = c .before .before .before .before .before .before .before .before .before .before .if2 in
-    let inv = c .before .before .before .before .before .before .before .before .before .before .before .before .before .before .before .before .before .loop .inv in
+    let loop-test = c .before .before .before .before .before .before .before .before .before .before .before .before .before .before .before .before .before .before .loop-test in
+    let move-at = c .before .before .before .before .before .before .before .before .before .before .before .before .before .before .before .before .move-at in
+    let if2 = c .before .before .before .before .before .before .before .before .before .before .before .before .if2 in
+    let inv = c .before .before .before .before .before .before .before .before .before .before .before .before .before .before .before .before .before .before .before .loop .inv in
     let act-on = c .before .before .before .before .before .before .before .act-on in
     whole _ _ _ _ (inv .short) (bad-out inv (agrees (loop-test .taken) (inv .stands .rep)) (loop-test .taken) _ (move-at .ensures) (if2 .left)
     _ _ _ (act-on .ensures) (act-on .kept .1 .1 .1 .1 .1 .0) (act-on .kept .1 .1 .1 .1 .1 .1 .0) (c .before .enum-told2 .given .1) _ (c .refused .ensures))
