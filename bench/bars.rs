@@ -58,7 +58,8 @@ fn tokenize(s: &[u8], a: &mut Areas) -> Tokenized {
 
 fn list_xml(s: &[u8], a: &mut Areas) -> usize {
     unsafe {
-        kerzhoma_list_xml(s.as_ptr(), s.len(), a.events.as_mut_ptr(), a.events.len(), a.attributes.as_mut_ptr(), a.attributes.len(), a.records.as_mut_ptr(), a.records.len(), a.text.as_mut_ptr(), a.text.len(), a.scratch.as_mut_ptr(), a.scratch.len(), a.out.as_mut_ptr(), a.out.len())
+        kerzhoma_list_xml(s.as_ptr(), s.len(), a.events.as_mut_ptr(), a.events.len(), a.attributes.as_mut_ptr(), a.attributes.len(),
+            a.records.as_mut_ptr(), a.records.len(), a.text.as_mut_ptr(), a.text.len(), a.scratch.as_mut_ptr(), a.scratch.len(), a.out.as_mut_ptr(), a.out.len())
     }
 }
 

@@ -1,6 +1,5 @@
 use Prim.Native.Nat.{_+_, _-_, _≤_}
 use mathlib.Core.Path.{_≡_, sym, ap, _∙_}
-use mathlib.Core.Bool.{Bool}
 use native.Mathlib.Omega.{arith}
 use borrow.Author.Needs.{needs}
 use lib.ListN.{length, take, drop}
@@ -56,11 +55,14 @@ loop-again c =
     let a = c .before .before .before .before .before .before .before .before .before .args in
     let source = a .source .now in
     let part = take (loop .at + 16 - loop .at) (drop (loop .at) source) in
-    (omega (arith, loop .inv .0),
-     loop .inv .1,
-     loop .inv .2,
-     calm-block source (a .mode) (a .from) (loop .at) (loop .inv .3) (loop .at + 16) (omega arith) (omega (arith, c .before .before .before .before .loop-test .taken, c .before .before .before .if2 .left)) (loop .inv .2)
-         (ap (λ stop. mildAll stop part) (sym (loop .inv .1)) ∙ sym (c .before .is-calm .ensures) ∙ c .if3 .taken))
+    let loop-test = c .before .before .before .before .loop-test in
+    let if2 = c .before .before .before .if2 in (
+      omega (arith, loop .inv .0),
+      loop .inv .1,
+      loop .inv .2,
+      calm-block source (a .mode) (a .from) (loop .at) (loop .inv .3) (loop .at + 16) (omega arith) (omega (arith, loop-test .taken, if2 .left)) (loop .inv .2)
+          (ap (λ stop. mildAll stop part) (sym (loop .inv .1)) ∙ sym (c .before .is-calm .ensures) ∙ c .if3 .taken),
+    )
 
 returns-3 : tie.Need-returns-3 Inv-loop μ-loop
 returns-3 c = let inv = c .before .before .before .before .before .loop .inv in (inv .0, inv .3)
