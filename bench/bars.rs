@@ -182,17 +182,19 @@ fn tabled(x: Vec<u8>) -> Table {
     Table { events: a.events, attributes: a.attributes, source: x }
 }
 
-fn calls() -> Vec<(String, Call)> {
+// all calls, or at least the one of that name
+fn calls(only: &str) -> Vec<(String, Call)> {
     let mut v: Vec<(String, Call)> = Vec::new();
     let t = table::report();
     let x = document(&t);
-    let reports = [("11,000 cases", t.clone(), 4 << 20), ("newlines", tabled(stored("r2")), 4 << 20), ("Cyrillic", tabled(stored("u2")), 4 << 20)];
-    for (name, t, bytes) in reports {
-        let (u, mut a, mut b) = (t.clone(), areas(1, 32_768, bytes), areas(1, 32_768, bytes));
+    for (name, file) in [("11,000 cases", ""), ("newlines", "r2"), ("Cyrillic", "u2")] {
+        if !only.is_empty() && !only.contains(name) { continue; }
+        let t = if file.is_empty() { t.clone() } else { tabled(stored(file)) };
+        let (u, mut a, mut b) = (t.clone(), areas(1, 32_768, 4 << 20), areas(1, 32_768, 4 << 20));
         v.push((format!("read {name}, bare"), Box::new(move || bare(&u, &mut a))));
         v.push((format!("read {name}, ours"), Box::new(move || read(&t, &mut b))));
     }
-    with_crate(&mut v, &t);
+    if only.is_empty() || only.ends_with("crate") { with_crate(&mut v, &t); }
     let (u, mut a) = (t.clone(), areas(1, 32_768, 4 << 20));
     v.push(("read and list 11,000 cases, ours".into(), Box::new(move || read_and_list(&u, &mut a))));
     let mut a = areas(65_536, 32_768, 4 << 20);
@@ -325,7 +327,7 @@ impl Measured {
 }
 
 fn table(counts: Option<&String>) {
-    let mut v = calls();
+    let mut v = calls("");
     let rounds: usize = std::env::var("ROUNDS").map_or(9, |s| s.parse().unwrap());
     let mut best = vec![f64::MAX; v.len()];
     for _ in 0..rounds {
@@ -372,8 +374,8 @@ fn main() {
     let args: Vec<String> = std::env::args().collect();
     match args.get(1).map(|s| s.as_str()) {
         Some("table") => table(args.get(2)),
-        Some("names") => for (name, _) in calls() { println!("{name}"); },
-        Some("once") => for (name, mut f) in calls() { if name == args[2] { println!("{}", measured(&mut f)); } },
+        Some("names") => for (name, _) in calls("") { println!("{name}"); },
+        Some("once") => for (name, mut f) in calls(&args[2]) { if name == args[2] { println!("{}", measured(&mut f)); } },
         _ => println!("bars table [COUNTS] | names | once NAME"),
     }
 }
