@@ -19,6 +19,12 @@ pub struct Listing {
 }
 
 #[repr(C)]
+pub struct Document {
+    pub length: usize,
+    pub refusal: Refusal,
+}
+
+#[repr(C)]
 pub struct Writing {
     pub events: usize,
     pub attributes: usize,
@@ -93,6 +99,14 @@ extern "C" {
         bytes: *mut u8,
         bytes_len: usize,
     ) -> Writing;
+    fn kerzhoma_write_xml(
+        records: *const u32,
+        records_len: usize,
+        text: *const u8,
+        text_len: usize,
+        out: *mut u8,
+        out_len: usize,
+    ) -> Document;
 }
 
 pub fn read_and_list(
@@ -213,4 +227,8 @@ pub fn write(
             bytes.len(),
         )
     }
+}
+
+pub fn write_xml(records: &[u32], text: &[u8], out: &mut [u8]) -> Document {
+    unsafe { kerzhoma_write_xml(records.as_ptr(), records.len(), text.as_ptr(), text.len(), out.as_mut_ptr(), out.len()) }
 }

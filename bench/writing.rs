@@ -74,11 +74,37 @@ fn best(name: &str, n: usize, mut f: impl FnMut() -> usize) -> f64 {
     best
 }
 
+// One case with an output of 30,000 lines, each with one character that is escaped.
+fn long() -> Tree {
+    let mut t = Tree::default();
+    t.record(1);
+    t.record(2);
+    t.words(2, 0, "s");
+    t.record(3);
+    t.words(2, 0, "c");
+    t.words(4, 1, &"message read, ranking compared with what was expected of it & more of that kind, up to the end of the line\n".repeat(30_000));
+    t
+}
+
+fn document(name: &str, t: &Tree, out: &mut [u8]) {
+    let mut best = f64::MAX;
+    let mut length = 0;
+    for _ in 0..20 {
+        let began = Instant::now();
+        length = call::write_xml(&t.records, &t.text, out).length;
+        best = best.min(began.elapsed().as_secs_f64());
+    }
+    println!("{name}: {:.3} ms, {length} bytes, {:.0} MB/s", best * 1e3, length as f64 / best / 1e6);
+}
+
 fn main() {
     let t = tree();
     let mut w = Written { events: vec![7; 327_680], attributes: vec![7; 327_680], bytes: vec![7; 4 << 20] };
     println!("{} records, {} bytes of text", t.records.len() / 32, t.text.len());
     let ours = best("ours, 11,000 cases", 20, || write(&t.records, &t.text, &mut w));
+    let mut out = vec![7; 4 << 20];
+    document("as a document", &t, &mut out);
+    document("a long output as a document", &long(), &mut out);
     assert!(write(&t.records, &t.text, &mut w) > 40_000);
     with_crate(&w, ours);
 }
