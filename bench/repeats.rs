@@ -43,6 +43,9 @@ fn extras(n: usize, key: impl Fn(usize) -> String) -> Table {
     t
 }
 
+// Keys of which every second one is the one before it, spelled otherwise.
+fn again(i: usize) -> String { format!("{}{:06}", if i % 2 == 0 { "a" } else { "&#97;" }, i / 2) }
+
 fn ignored(n: usize) -> Table {
     let mut t = Table::default();
     for i in 0..n { t.attribute(&format!("k{i:06}"), "v"); }
@@ -98,11 +101,13 @@ fn areas(records: usize, bytes: usize) -> Areas {
 
 // What n attributes cost: in areas that are as long as these need, so that clearing them is in proportion.
 fn each(n: usize) {
-    let mut a = areas(n + n / 16 + 64, n * 128 + 1024);
+    let mut a = areas(n + n / 32 + 64, n * 128 + 1024);
     let count = n as f64;
+    time(&format!("{n}: these areas cleared, for each attribute"), &extras(0, |_| String::new()), count, &mut a);
     time(&format!("{n} extras, keys of one length, areas to fit"), &extras(n, |i| format!("k{i:06}")), count, &mut a);
     time(&format!("{n} extras, keys of a hundred lengths, areas to fit"), &extras(n, |i| format!("k{i:06}{}", "x".repeat(i % 100))), count, &mut a);
     time(&format!("{n} extras, `&#97;` in each key, areas to fit"), &extras(n, |i| format!("&#97;{i:06}")), count, &mut a);
+    time(&format!("{n} extras, every second one is there already, areas to fit"), &extras(n, again), count, &mut a);
     time(&format!("{n} ignored attributes, areas to fit"), &ignored(n), count, &mut a);
 }
 
@@ -116,7 +121,7 @@ fn main() {
         time(&format!("{n} extras, keys of one length"), &extras(n, |i| format!("k{i:06}")), each, &mut a);
         time(&format!("{n} extras, keys of a hundred lengths"), &extras(n, |i| format!("k{i:06}{}", "x".repeat(i % 100))), each, &mut a);
         time(&format!("{n} extras, `&#97;` in each key"), &extras(n, |i| format!("&#97;{i:06}")), each, &mut a);
-        time(&format!("{n} extras, every second one is there already"), &extras(n, |i| format!("{}{:06}", if i % 2 == 0 { "a" } else { "&#97;" }, i / 2)), each, &mut a);
+        time(&format!("{n} extras, every second one is there already"), &extras(n, again), each, &mut a);
         time(&format!("{n} ignored attributes"), &ignored(n), each, &mut a);
     }
     time("62,000 extras, keys of one length", &extras(62_000, |i| format!("k{i:06}")), 62_000.0, &mut a);

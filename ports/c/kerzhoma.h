@@ -180,7 +180,7 @@ size_t kerzhoma_explain_xml(
  * all three are. What suffices wherever the limits do: 32 words for each Start and Empty and for each of their attributes; for text, the
  * bytes of their keys and values, and for both text and scratch, the bytes of all other events and one more for each; of scratch those
  * of the longest single description, stack trace or output will do. What needs more than the limits is refused with 12, 13 or 14
- * whatever the areas. Two words and four bytes of text more for each attribute of the element that has the most make reading fast,
+ * whatever the areas. One word and four bytes of text more for each attribute of the element that has the most make reading fast,
  * too: in shorter areas the keys of an element may be compared pair by pair. */
 kerzhoma_refusal kerzhoma_read(
     const uint32_t *events, size_t events_length,

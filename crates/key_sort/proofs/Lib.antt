@@ -3,3 +3,4 @@ pub mod Counting
 pub mod Numbers
 mod Running
 mod Sorting
+pub mod Taking

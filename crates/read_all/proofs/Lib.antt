@@ -1,1 +1,2 @@
 mod Wider
+mod Marked

@@ -82,9 +82,10 @@ or-false : (a b : Bool) → (a || b) ≡ false → (a ≡ false) × (b ≡ false
 or-false true b e = let z : _≡_ {A = ℕ} 0 1 = cc in absurd (omega arith)
 or-false false b e = (refl, e)
 
-pub many : (n lent e : ℕ) (a t : Bool) → ((leb n 8 || a) || (ltb lent e || t)) ≡ false → (8 < n) × (e ≤ lent)
-many n lent e a t q =
-    let u = or-false (leb n 8 || a) (ltb lent e || t) q in
+pub many : (n lent e text room : ℕ) (a t : Bool) → ((leb n 8 || a) || (ltb lent e || (ltb text room || t))) ≡ false → (8 < n) × (e ≤ lent) × (room ≤ text)
+many n lent e text room a t q =
+    let u = or-false (leb n 8 || a) (ltb lent e || (ltb text room || t)) q in
     let v = or-false (leb n 8) a (u .0) in
-    let w = or-false (ltb lent e) t (u .1) in
-    (leb-false n 8 (v .0), ltb-false lent e (w .0))
+    let w = or-false (ltb lent e) (ltb text room || t) (u .1) in
+    let x = or-false (ltb text room) t (w .1) in
+    (leb-false n 8 (v .0), ltb-false lent e (w .0), ltb-false text room (x .0))

@@ -1,7 +1,7 @@
 -- The stored keys of extras stay while attributes are read, and at most one comes behind them. Assumes nothing.
 use Prim.Native.Nat.{ℕ, zero, suc, _+_, _≤_}
-use mathlib.Core.Path.{_≡_, refl, sym, ap, _∙_}
-use mathlib.Core.Bool.{Bool, false, not, _||_}
+use mathlib.Core.Path.{_≡_, refl, sym, ap, subst, _∙_}
+use mathlib.Core.Bool.{Bool, true, false, not, _||_}
 use mathlib.Core.List.{List, [], _∷_, _++_, append-assoc, append-nil}
 use native.Mathlib.Omega.{arith}
 use lib.Dec.{leb}
@@ -24,17 +24,9 @@ use Rattle.read_element.specs.Outcome.{Place, Rooms, within, fits}
 use Rattle.read_element.specs.Attributes.{Given, placeOf, changed, extraKind, readText, oldExtra, newExtra, readExtra, byRole, among, numbered}
 use Rattle.read_element.specs.inside.Held.{Keyed, keysOf}
 use Rattle.read_element.proofs.TreeOutcome.{Holds, accept, bind, needed, answered, either}
+use Rattle.read_each.proofs.Apart.{keyTexts, Apart, apart-more, not-found}
 use Rattle.read_each.proofs.Stepping.{attributeStep}
 use Rattle.refusal.specs.declared.Cause.the-variants as cause
-
--- the stored keys of extras
-abbrev pub keyTexts : List ℕ → List (List ℕ) → List (List ℕ)
-keyTexts texts [] = []
-keyTexts texts (r ∷ rs) = textAt texts r 2 ∷ keyTexts texts rs
-
-pub length-texts : (texts : List ℕ) (rs : List (List ℕ)) → length (keyTexts texts rs) ≡ length rs
-length-texts texts [] = refl
-length-texts texts (r ∷ rs) = ap suc (length-texts texts rs)
 
 text-stays : (texts z r : List ℕ) → getD r 2 0 + getD r 3 0 ≤ length texts → textAt (texts ++ z) r 2 ≡ textAt texts r 2
 text-stays texts z r h =
@@ -62,15 +54,16 @@ keys-changed texts i a b [] = refl
 keys-changed texts zero a b (r ∷ rs) = ap (λ (l : List ℕ). l ∷ keyTexts texts rs) (pair-stays texts r a b)
 keys-changed texts (suc i) a b (r ∷ rs) = ap (λ (l : List (List ℕ)). textAt texts r 2 ∷ l) (keys-changed texts i a b rs)
 
--- the stored keys stay behind an attribute with this key, and at most one comes behind them, which is its cleaned key
+-- the stored keys stay behind an attribute with this key, and at most one comes behind them, which is its cleaned key and none of them
 pub record Kept (key : List ℕ) (g h : Given) : Type 0 where
   pub more : List (List ℕ)
   pub few : length more ≤ 1
   pub same : keyTexts (h .texts) (h .extras) ≡ keyTexts (g .texts) (g .extras) ++ more
   pub from : (k : List ℕ) → sameBytes (valueText key) k ≡ false → among k more ≡ false
+  pub apart : Apart (keyTexts (g .texts) (g .extras)) → Apart (keyTexts (h .texts) (h .extras))
 
 none-more : (key : List ℕ) (g h : Given) → keyTexts (h .texts) (h .extras) ≡ keyTexts (g .texts) (g .extras) → Kept key g h
-none-more key g h e = record { more = []; few = omega arith; same = e ∙ sym (append-nil (keyTexts (g .texts) (g .extras))); from = λ k q. refl }
+none-more key g h e = record { more = []; few = omega arith; same = e ∙ sym (append-nil (keyTexts (g .texts) (g .extras))); from = λ k q. refl; apart = λ a. subst Apart (sym e) a }
 
 -- a new extra's record
 abbrev newWords : ℕ → ℕ → ℕ → ℕ → ℕ → List ℕ
@@ -100,21 +93,26 @@ module _ (rooms : Rooms) (p : Place) (used kind : ℕ) (g : Given) (keyed : Keye
       accept (none-more key g (record { main = g .main; extras = changed i (putPair 4 (length (g .texts)) (length value)) (g .extras); texts = g .texts ++ value })
       (keys-changed (g .texts ++ value) i (length (g .texts)) (length value) (g .extras) ∙ keys-grown (g .texts) value (g .extras) keyed))
 
-  kept-new : (raw value : List ℕ) → Holds (λ h. Kept raw g h) (newExtra rooms p used kind (valueText raw) value g)
+  kept-new : (raw value : List ℕ) → leb (length (g .extras)) (placeOf (g .texts) (valueText raw) (g .extras)) ≡ true → Holds (λ h. Kept raw g h) (newExtra rooms p used kind (valueText raw) value g)
   unfolding newExtra
-  kept-new raw value =
+  kept-new raw value found =
       let key : List ℕ = valueText raw in
       let r : List ℕ = newWords kind (length (g .texts)) (length key) (length (g .texts ++ key)) (length value) in
       needed (fits (rooms .records) (used + 1 + length (g .extras) + 1)) p cause.RecordsSpent λ _.
       needed (fits (rooms .text) (length (g .texts) + length key)) p cause.TextFull λ _.
       needed (fits (rooms .text) (length (g .texts ++ key) + length value)) p cause.TextFull λ _.
+      let texts : List ℕ = (g .texts ++ key) ++ value in
+      let same : keyTexts texts (g .extras ++ (r ∷ [])) ≡ keyTexts (g .texts) (g .extras) ++ (textAt texts r 2 ∷ []) =
+      keys-more texts (g .extras) r
+      ∙ ap (λ (l : List (List ℕ)). l ++ (textAt texts r 2 ∷ []))
+      (ap (λ (t : List ℕ). keyTexts t (g .extras)) (append-assoc (g .texts) key value) ∙ keys-grown (g .texts) (key ++ value) (g .extras) keyed) in
       accept (record {
-        more = textAt ((g .texts ++ key) ++ value) r 2 ∷ [];
+        more = textAt texts r 2 ∷ [];
         few = omega arith;
-        same = keys-more ((g .texts ++ key) ++ value) (g .extras) r
-            ∙ ap (λ (l : List (List ℕ)). l ++ (textAt ((g .texts ++ key) ++ value) r 2 ∷ []))
-            (ap (λ (t : List ℕ). keyTexts t (g .extras)) (append-assoc (g .texts) key value) ∙ keys-grown (g .texts) (key ++ value) (g .extras) keyed);
+        same = same;
         from = λ k q. ap (λ (l : List ℕ). sameBytes l k || false) (new-key kind (g .texts) key value) ∙ ap (λ (t : Bool). t || false) q;
+        apart = λ a. subst Apart (sym same) (apart-more (keyTexts (g .texts) (g .extras)) (textAt texts r 2) a
+            (ap (λ (l : List ℕ). among l (keyTexts (g .texts) (g .extras))) (new-key kind (g .texts) key value) ∙ not-found (g .texts) key (g .extras) found));
       })
 
   kept-extra : (x : Attribute) → Holds (λ h. Kept (x .key) g h) (readExtra rooms p used kind x g)
@@ -123,7 +121,7 @@ module _ (rooms : Rooms) (p : Place) (used kind : ℕ) (g : Given) (keyed : Keye
       bind (answered p (checkedOf (x .key))) λ _ _.
       bind (answered p (checkedOf (x .value))) λ _ _.
       either (leb (length (g .extras)) (placeOf (g .texts) (valueText (x .key)) (g .extras)))
-      (λ _. kept-new (x .key) (valueText (x .value)))
+      (λ e. kept-new (x .key) (valueText (x .value)) e)
       (λ _. kept-old (x .key) (valueText (x .value)) (placeOf (g .texts) (valueText (x .key)) (g .extras)))
 
   same-extras : (key : List ℕ) (h : Given) → h .extras ≡ g .extras → h .texts ≡ g .texts → Kept key g h

@@ -1,6 +1,7 @@
 pub mod HeldBounds
 pub mod KeysBefore
 pub mod Stepping
+pub mod Apart
 pub mod Kept
-mod Sourced
+pub mod Sourced
 pub mod Going

@@ -1,3 +1,4 @@
 mod StoredKeys
 mod Narrow
+mod Hinting
 mod Indexing

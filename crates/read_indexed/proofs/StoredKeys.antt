@@ -3,7 +3,7 @@ use Prim.Native.Nat.{ℕ, zero, suc, _+_, _*_, _≤_, _<_}
 use mathlib.Core.Path.{_≡_, sym, ap, _∙_}
 use mathlib.Core.List.{List, [], _∷_, _++_, append-assoc}
 use native.Mathlib.Omega.{arith}
-use lib.ListN.{length, getD, drop, length-append, List·getD-append}
+use lib.ListN.{length, getD, drop, length-append}
 use lib.Seq.{drop-at, drop-drop}
 use Rattle.area.specs.Area.{zeros}
 use Rattle.utf8.specs.Characters.{joined}
@@ -12,7 +12,8 @@ use Rattle.read_element.specs.Attributes.{Given}
 use Rattle.read_element.specs.inside.Held.{Keyed, Held}
 use Rattle.read_extras.proofs.Choosing.{text-in}
 use Rattle.read_places.specs.inside.Stands.{storedKey}
-use Rattle.read_each.proofs.Kept.{keyTexts, length-texts, Kept}
+use Rattle.read_each.proofs.Apart.{keyTexts, length-texts}
+use Rattle.read_each.proofs.Kept.{Kept}
 
 stored-from : (own texts z : List ℕ) (rs : List (List ℕ)) (i : ℕ) (y : List ℕ) → drop (i * 32 + 32) own ≡ joined rs ++ y → Keyed (length texts) rs
     → (n : ℕ) → n < length rs → storedKey own (texts ++ z) (i + n) ≡ getD (keyTexts texts rs) n []
@@ -36,7 +37,7 @@ stored-from own texts z (r ∷ rs) i y e k n h = go n h (λ a b. stored-from own
         let s : i + suc a ≡ i + 1 + a = omega arith in
         ap (λ (m : ℕ). storedKey own (texts ++ z) m) s ∙ ih a (omega arith)
 
-stored-held : {own text : List ℕ} {extras fill : ℕ} {g : Given} → Held own text extras fill g → (i : ℕ) → i < extras → storedKey own text i ≡ getD (keyTexts (g .texts) (g .extras)) i []
+pub stored-held : {own text : List ℕ} {extras fill : ℕ} {g : Given} → Held own text extras fill g → (i : ℕ) → i < extras → storedKey own text i ≡ getD (keyTexts (g .texts) (g .extras)) i []
 stored-held {own} {text} {extras} {fill} {g} hd i h =
     let s : i ≡ 0 + i = omega arith in
     ap (λ (t : List ℕ). storedKey own t i) (hd .stored)
@@ -55,16 +56,5 @@ module _ {own text : List ℕ} {extras fill : ℕ} {g : Given} {own′ text′ :
       let e = hd′ .count in
       omega arith
 
-  pub kept-least : extras ≤ extras′
-  kept-least = let s = sizes in omega arith
-
   pub kept-most : extras′ ≤ extras + 1
   kept-most = let s = sizes in let f = k .few in omega arith
-
-  pub kept-keys : (i : ℕ) → i < extras → storedKey own text i ≡ storedKey own′ text′ i
-  kept-keys i l =
-      let b = length-texts (g .texts) (g .extras) in
-      let d = hd .count in
-      let s = kept-least in
-      stored-held hd i l
-      ∙ sym (stored-held hd′ i (omega arith) ∙ ap (λ (ks : List (List ℕ)). getD ks i []) (k .same) ∙ List·getD-append (keyTexts (g .texts) (g .extras)) (k .more) [] i (omega arith))

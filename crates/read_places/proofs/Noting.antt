@@ -1,44 +1,35 @@
--- An extra is entered into the chains behind the records. Assumes nothing.
-use Prim.Native.Nat.{ℕ, suc, _+_, _-_, _≤_, _<_}
+-- A place is told in the words behind the records. Assumes nothing.
+use Prim.Native.Nat.{ℕ, _≤_, _<_}
 use mathlib.Core.Path.{_≡_, refl, sym, ap, subst, _∙_}
+use mathlib.Core.Bool.{Bool, true, false}
 use mathlib.Core.List.{List, _++_}
 use native.Mathlib.Omega.{arith}
-use lib.ListN.{length, take, drop, length-drop}
-use lib.Seq.{take-at, drop-at, length-take-le}
-use Rattle.chains.specs.Chains.{Chained, linked}
-use Rattle.chains.proofs.Hashing.{bucket-low}
-use Rattle.chains.proofs.Chaining.{chained-more}
-use Rattle.read_places.specs.inside.Stands.{storedKey, stands}
-use Rattle.read_places.specs.inside.Indexed.{Indexed}
+use borrow.Author.Tests.{eqb-true, eqb-false}
+use lib.Dec.{eqb}
+use lib.ListN.{length, getD, set, take, drop}
+use lib.Seq.{take-at, drop-at, length-take-le, getD-set-same, getD-set-other}
+use Rattle.read_places.specs.inside.Told.{Quiet}
 
-module _ (k m : ℕ) (front : List ℕ) (text rest : List ℕ) {whole : List ℕ} (fit : length front ≡ k) (e : whole ≡ front ++ rest) where
+module _ (k : ℕ) (front rest : List ℕ) {whole : List ℕ} (fit : length front ≡ k) (e : whole ≡ front ++ rest) where
   pub front-is : take k whole ≡ front
   front-is = ap (take k) e ∙ take-at front rest k fit
 
   pub rest-is : drop k whole ≡ rest
   rest-is = ap (drop k) e ∙ drop-at front rest k fit
 
-  -- chains in the words behind
-  pub indexed-rest : (n : ℕ) → Chained (stands front text m) n m rest → Indexed k m n whole text
-  indexed-rest n c =
-      subst (λ (l : List ℕ). Chained (stands l text m) n m (drop k whole)) (sym front-is)
-      (subst (λ (l : List ℕ). Chained (stands front text m) n m l) (sym rest-is) c)
+pub quiet-set : (words : List ℕ) (i v : ℕ) → i < length words → 2 ≤ v → Quiet words (set words i v)
+quiet-set words i v h l n e = go (eqb n i) refl
+  where
+    go : (t : Bool) → eqb n i ≡ t → getD words n 0 ≡ 1
+    go true q =
+        let z = eqb-true n i q in
+        let o : v ≡ 1 = sym (getD-set-same words i v 0 h) ∙ ap (λ (m : ℕ). getD (set words i v) m 0) (sym z) ∙ e in
+        absurd (omega arith)
+    go false q = sym (getD-set-other words i n v 0 (eqb-false n i q)) ∙ e
 
-module _ (k m extras : ℕ) (own text : List ℕ) (fits : k ≤ length own) (c : Indexed k m extras own text) where
-  pub noted-none : {next : ℕ} → extras ≤ next → next ≤ extras → Indexed k m next own text
-  noted-none {next} a b = let z : extras ≡ next = omega arith in subst (λ (n : ℕ). Indexed k m n own text) z c
+module _ (k : ℕ) (own words : List ℕ) {own′ : List ℕ} (fits : k ≤ length own) (e : own′ ≡ take k own ++ words) where
+  pub noted-front : take k own′ ≡ take k own
+  noted-front = front-is k (take k own) words (length-take-le k own fits) e
 
-  pub bucket-fits : {b : ℕ} → b ≡ stands (take k own) text m extras → b < m
-  bucket-fits {b} e = let l = bucket-low m (storedKey (take k own) text extras) (c .some) in omega arith
-
-  module _ {b : ℕ} {own′ : List ℕ} (room : k + m + extras < length own) (e : b ≡ stands (take k own) text m extras) (q : own′ ≡ take k own ++ linked m b extras (drop k own)) where
-    pub noted-front : take k own′ ≡ take k own
-    noted-front = front-is k m (take k own) text (linked m b extras (drop k own)) (length-take-le k own fits) q
-
-    pub noted-more : {next : ℕ} → extras < next → next ≤ extras + 1 → Indexed k m next own′ text
-    noted-more {next} a h =
-        let z : suc extras ≡ next = omega arith in
-        let l = length-drop k own in
-        subst (λ (n : ℕ). Indexed k m n own′ text) z
-        (indexed-rest k m (take k own) text (linked m b extras (drop k own)) (length-take-le k own fits) q (suc extras)
-        (chained-more c (omega arith) (sym e) (bucket-fits e)))
+  pub noted-quiet : Quiet (drop k own) words → Quiet (drop k own) (drop k own′)
+  noted-quiet q i h = q i (ap (λ (l : List ℕ). getD l i 0) (sym (rest-is k (take k own) words (length-take-le k own fits) e)) ∙ h)

@@ -1,22 +1,17 @@
-// The place of an extra by its cleaned key, found along a chain: not by comparing with each extra's.
+// The place of an extra, told by the word of the attribute that leads its group: the first for which the same key would be stored.
 use area::wide;
-use chains::bucket;
-use chains::link;
 use table_parts::bytes_of;
 use table_parts::word_of;
-use text_hash::cleaned_bucket;
 use text_key::cleaned_length;
 use text_key::is_cleaned;
 ghost use mathlib.Core.Path.{_≡_};
-ghost use mathlib.Core.Bool.{cond};
-ghost use Prim.Native.Nat.{_+_, _≤_, _<_};
-ghost use lib.ListN.{length, take};
+ghost use mathlib.Core.Bool.{true};
+ghost use Prim.Native.Nat.{_≤_, _<_};
+ghost use lib.ListN.{length, take, drop};
 ghost use Rattle.names.specs.Names.{sameBytes};
 ghost use Rattle.text.specs.Value.{valueText};
-ghost use Rattle.chains.specs.Chains.{Chained};
-ghost use Rattle.read_element.specs.inside.Held.{placeAt};
-ghost use Rattle.read_places.specs.inside.Indexed.{Indexed};
-ghost use Rattle.read_places.specs.inside.Stands.{storedKey, stands};
+ghost use Rattle.read_places.specs.inside.Told.{Quiet};
+ghost use Rattle.read_places.specs.inside.Stands.{storedKey};
 
 // The stored key of extra i: its record stands behind the element's own and those before it.
 fn stored_key<'a>(own: &[u32], text: &'a [u8], i: usize) -> &'a [u8]
@@ -38,60 +33,61 @@ fn is_stored(stored: &[u8], key: &[u8], n: usize) -> bool
     is_cleaned(stored, key)
 }
 
-fn chosen(t: bool, a: usize, b: usize) -> usize
-    ensures { λ r. ⌜ r ≡ cond t a b ⌝ }
-{
-    if t { a } else { b }
-}
-
-// The place of the extra with this key among the extras, or their number.
-pub fn place_in(
-    own: &[u32],
-    text: &[u8],
-    extras: usize,
-    m: usize,
-    key: &[u8],
-    work: &[u32],
-) -> usize
+// Whether the extras have a number i, with this key.
+pub fn is_at(own: &[u32], text: &[u8], extras: usize, i: usize, key: &[u8]) -> bool
     requires { ⌜ extras ≤ 65536 ⌝ }
-    requires { ⌜ Chained (stands (now own) (now text) m) extras m (now work) ⌝ }
-    ensures { λ r. ⌜ r ≡ placeAt (now (own .entry)) (now (text .entry)) (valueText (now (key .entry))) extras 0 ⌝ }
+    ensures { λ r. ⌜ (r ≡ true → i < extras) ⌝ }
+    ensures { λ r. ⌜ (r ≡ true → sameBytes (storedKey (now (own .entry)) (now (text .entry)) i) (valueText (now (key .entry))) ≡ true) ⌝ }
 {
-    let n = cleaned_length(key);
-    let b = cleaned_bucket(key, m);
-    let mut found = extras;
-    let mut s = wide(work[b]);
-    while s != 0 {
-        let i = s - 1;
-        found = chosen(is_stored(stored_key(own, text, i), key, n), i, found);
-        s = wide(work[m + i]);
+    if extras <= i {
+        return false;
     }
-    found
+    let n = cleaned_length(key);
+    is_stored(stored_key(own, text, i), key, n)
 }
 
-// The bucket, of m, of extra i's key.
-fn extra_bucket(own: &[u32], text: &[u8], i: usize, m: usize) -> usize
-    requires { ⌜ i < 65536 ⌝ }
-    requires { ⌜ 0 < m ⌝ }
-    ensures { λ r. ⌜ r ≡ stands (now (own .entry)) (now (text .entry)) m i ⌝ }
+// The word of the attribute that leads the group of the one at word `at`: `at` itself, or the one that its word tells.
+fn lead_of(words: &[u32], first: usize, at: usize) -> usize {
+    let mark = wide(word_of(words, at));
+    if mark < 2 {
+        return at;
+    }
+    let lead = mark - 2;
+    if lead < first {
+        return at;
+    }
+    lead - first
+}
+
+// The place that the word of the group's leader tells, or a number that no extra has. Nobody relies on it: who asks compares.
+pub fn place_told(words: &[u32], first: usize, at: usize) -> usize {
+    let w = wide(word_of(words, lead_of(words, first, at)));
+    if w < 2 {
+        return 65536;
+    }
+    w - 2
+}
+
+// The word of the group's leader tells a place from now on.
+fn tell_place(words: &mut [u32], first: usize, at: usize, place: usize)
+    requires { ⌜ place ≤ 65536 ⌝ }
+    ensures { λ _. ⌜ Quiet (now (words .entry)) (now (words .exit)) ⌝ }
 {
-    bucket(stored_key(own, text, i), m)
+    let lead = lead_of(words, first, at);
+    if lead < words.len() {
+        words[lead] = (place + 2) as u32;
+    }
 }
 
-// An extra that was put behind the others is entered.
-pub fn note_extra(extras: usize, next: usize, k: usize, m: usize, own: &mut [u32], text: &[u8])
-    requires { ⌜ extras ≤ next ⌝ }
-    requires { ⌜ next ≤ extras + 1 ⌝ }
-    requires { ⌜ extras < 65536 ⌝ }
+// Where an extra was put behind the others, its place is told.
+pub fn note_extra(extras: usize, next: usize, first: usize, at: usize, k: usize, own: &mut [u32])
+    requires { ⌜ extras ≤ 65536 ⌝ }
     requires { ⌜ k ≤ length (now own) ⌝ }
-    requires { ⌜ k + m + extras < length (now own) ⌝ }
-    requires { ⌜ Indexed k m extras (now own) (now text) ⌝ }
     ensures { λ _. ⌜ take k (now (own .exit)) ≡ take k (now (own .entry)) ⌝ }
-    ensures { λ _. ⌜ Indexed k m next (now (own .exit)) (now (text .entry)) ⌝ }
+    ensures { λ _. ⌜ Quiet (drop k (now (own .entry))) (drop k (now (own .exit))) ⌝ }
 {
     if next <= extras {
         return;
     }
-    let b = extra_bucket(&own[..k], text, extras, m);
-    link(&mut own[k..], m, b, extras);
+    tell_place(&mut own[k..], first, at, extras);
 }

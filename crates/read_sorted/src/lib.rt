@@ -62,7 +62,7 @@ fn free_sorted(
     ensures { λ r. ⌜ FirstRepeat (now (attributes .entry)) (now (source .entry)) first end r ⌝ }
 {
     let n = end - first;
-    sort(attributes, source, first as u32, n, bytes);
+    sort(attributes, source, first as u32, n, bytes, false);
     let e = n + n;
     first_repeat(attributes, source, end, &bytes[..e])
 }

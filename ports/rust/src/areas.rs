@@ -46,7 +46,7 @@ impl Areas {
     }
 
     /// Areas as long as reading this table can need: 12, 13 and 14 come only where the limits are too short. Where an element has many
-    /// attributes, there is room to sort and chain them, so that it isn't slow either.
+    /// attributes, there is room to sort and mark them, so that it isn't slow either.
     pub fn for_table(table: &Table<'_>) -> Self {
         let needs = table.needs();
         let size = |n: u64| usize::try_from(n).unwrap_or(usize::MAX);

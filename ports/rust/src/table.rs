@@ -70,7 +70,7 @@ impl<'a> Table<'a> {
         sums
     }
 
-    /// What reading and listing this table can need at most, and room to sort and chain the attributes of one element, so that many
+    /// What reading and listing this table can need at most, and room to sort and mark the attributes of one element, so that many
     /// are never slow; more than that makes no difference. Bytes outside the source are refused before anything is stored.
     pub(crate) fn needs(&self) -> Needs {
         let sums = self.attribute_sums();
@@ -98,9 +98,9 @@ impl<'a> Table<'a> {
             }
         }
         needs.text = needs.text.saturating_add(needs.scratch);
-        // two words and four bytes for each attribute, where the library doesn't compare all pairs
+        // a word and four bytes for each attribute, where the library doesn't compare all pairs
         if many > FEW {
-            needs.records = needs.records.saturating_add(many.div_ceil(16));
+            needs.records = needs.records.saturating_add(many.div_ceil(32));
             needs.text = needs.text.saturating_add(4 * many);
         }
         needs

@@ -3,7 +3,7 @@ use Prim.Native.Nat.{_+_, _-_, _/_, _≤_}
 use mathlib.Core.Path.{_∙_}
 use native.Mathlib.Omega.{arith}
 use lib.ListN.{length}
-use Rattle.key_order.specs.inside.KeyOrder.{ComesIn}
+use Rattle.clean_order.specs.inside.CleanOrder.{ComesBy}
 use Rattle.key_sort.specs.inside.Numbers.{numbersIn}
 use Rattle.key_sort.proofs.Numbers.{length-numbers}
 use Rattle.key_sort.proofs.Sorting.{arranged-none, arranged-one, arranged-whole, whole-size, whole-numbers, part-size}
@@ -69,7 +69,7 @@ sort-returns t c =
     let args = c .before .before .before .before .before .before .before .before .before .args in
     let pre = c .before .before .before .before .before .before .before .before .before .pre in
     let if2 = c .before .before .before .before .if2 in
-    arranged-one (ComesIn (args .attributes .now) (args .source .now)) (args .first) (args .n) (numbersIn (args .bytes .now))
+    arranged-one (ComesBy (args .clean) (args .attributes .now) (args .source .now)) (args .first) (args .n) (numbersIn (args .bytes .now))
     (c .before .before .put-number .ensures) (if2 .taken) (omega (arith, if2 .taken, (pre .1 .0)))
 
 sort-returns-2 : (t : ℕ) → sort-lts.Need-returns-2 (
@@ -84,7 +84,7 @@ sort-returns-2 : (t : ℕ) → sort-lts.Need-returns-2 (
 ) (sort-at t) sort.Post
 sort-returns-2 t c =
     let args = c .before .before .before .before .before .args in
-    arranged-none (ComesIn (args .attributes .now) (args .source .now)) (args .first) (args .n) (numbersIn (args .bytes .now)) (omega (arith, c .before .if1 .taken, c .if2 .left))
+    arranged-none (ComesBy (args .clean) (args .attributes .now) (args .source .now)) (args .first) (args .n) (numbersIn (args .bytes .now)) (omega (arith, c .before .if1 .taken, c .if2 .left))
 
 sort-sub-rest : (t : ℕ) → sort-lts.Need-sub-rest (
   put-number-reads.Asked,
@@ -298,7 +298,7 @@ sort-returns-3 t c =
     let n = (args .n) in let l : n / 2 ≤ n = omega arith in let q = length-numbers (args .bytes .now) in
     let s = length-numbers (sort-step .last .1 .1 .1 .1 .0) in let k = (sort-step .kept .1 .1 .1 .1 .0) in
     let h : n / 2 ≤ length (numbersIn (sort-step .last .1 .1 .1 .1 .0)) = omega (arith, q, s, k, (pre .1 .0)) in
-    arranged-whole (args .attributes .now) (args .source .now) (args .first) (n / 2) n (numbersIn (sort-step .last .1 .1 .1 .1 .0)) (numbersIn (sort2 .last .1 .1 .1 .1 .0))
+    arranged-whole (args .clean) (args .attributes .now) (args .source .now) (args .first) (n / 2) n (numbersIn (sort-step .last .1 .1 .1 .1 .0)) (numbersIn (sort2 .last .1 .1 .1 .1 .0))
     (numbersIn (putMid (n / 2 + n / 2) (length (sort-step .last .1 .1 .1 .1 .0) - (n / 2 + n / 2)) (sort-step .last .1 .1 .1 .1 .0) (sort2 .last .1 .1 .1 .1 .0)))
     (numbersIn (merge-up .last .1 .1 .1 .1 .0)) (numbersIn (c .before .before .move-down .last .1 .0)) l h (sort-step .ensures) (sort2 .ensures)
     (whole-numbers (sort-step .last .1 .1 .1 .1 .0) (sort2 .last .1 .1 .1 .1 .0) (n / 2) h) (merge-up .ensures) (c .before .before .move-down .ensures)

@@ -1,4 +1,4 @@
-use Rattle.read_sorted.proofs.Taking.{numbers-take}
+use Rattle.key_sort.proofs.Taking.{numbers-take}
 use Rattle.read_sorted.proofs.Repeating.{first-of}
 use Rattle.read_sorted.specs.inside.Repeats.{FirstIn}
 use Rattle.key_sort.proofs.Numbers.{length-numbers}

@@ -1,0 +1,2 @@
+pub mod CleanOrder
+pub mod Following
