@@ -46,14 +46,7 @@ fn takes_first(
 }
 
 // The runs in order from 0 to before h and from h to before n become one, from n on.
-fn merge_up(
-    attributes: &[u32],
-    source: &[u8],
-    h: usize,
-    n: usize,
-    bytes: &mut [u8],
-    clean: bool,
-)
+fn merge_up(attributes: &[u32], source: &[u8], h: usize, n: usize, bytes: &mut [u8], clean: bool)
     requires { ⌜ h ≤ n ⌝ }
     requires { ⌜ n + n ≤ length (numbersIn (now bytes)) ⌝ }
     ensures { λ _. ⌜ take n (drop n (numbersIn (now (bytes .exit)))) ≡ mergedTo (comesBy clean (now (attributes .entry)) (now (source .entry))) h n (numbersIn (now (bytes .entry))) ⌝ }
@@ -91,14 +84,7 @@ fn move_down(n: usize, bytes: &mut [u8])
 }
 
 // The attributes from number `first`, n of them, stand in the first n places afterwards, whatever the bytes held.
-pub fn sort(
-    attributes: &[u32],
-    source: &[u8],
-    first: u32,
-    n: usize,
-    bytes: &mut [u8],
-    clean: bool,
-)
+pub fn sort(attributes: &[u32], source: &[u8], first: u32, n: usize, bytes: &mut [u8], clean: bool)
     requires { ⌜ n + n ≤ length (numbersIn (now bytes)) ⌝ }
     requires { ⌜ first + n ≤ 65536 ⌝ }
     ensures { λ _. ⌜ Arranged (ComesBy clean (now (attributes .entry)) (now (source .entry))) first n (take n (numbersIn (now (bytes .exit)))) ⌝ }

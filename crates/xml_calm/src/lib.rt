@@ -7,7 +7,8 @@ use xml_state::mode;
 fn is_mild(b: u8, stop: u8) -> bool
     ensures { λ r. ⌜ r ≡ mild stop b ⌝ }
 {
-    ((0x1F < b) & ((b < 0x80) & ((b != b'<') & ((b != b'&') & (b != stop))))) | ((b == 0xA) | (b == 0x9))
+    ((0x1F < b) & ((b < 0x80) & ((b != b'<') & ((b != b'&') & (b != stop)))))
+        | ((b == 0xA) | (b == 0x9))
 }
 
 fn is_calm(part: &[u8], stop: u8) -> bool

@@ -34,9 +34,19 @@ mark-range-requires c κs =
     let s = c .before .before .before .before .before .before .args in
     let pre = c .before .before .before .before .before .before .pre in
     let a = ap length (rest-part (s .own .now) (s .k)) ∙ length-drop (s .k) (s .own .now) in
-    let b = ap length (rest-part (s .text .now) (s .fill)) ∙ length-drop (s .fill) (s .text .now) in
-    (pre .0, (pre .1 .0, (omega (arith, a, pre .1 .1 .0), (omega (arith, b, pre .1 .1 .1 .0),
-    marks-none (s .attributes .now) (s .source .now) (s .range .first) (length (s .own .now) - s .k) (rest-part (s .own .now) (s .k) ∙ pre .1 .1 .1 .1 .0)))))
+    let b = ap length (rest-part (s .text .now) (s .fill)) ∙ length-drop (s .fill) (s .text .now) in (
+      pre .0,
+      (
+        pre .1 .0,
+        (
+          omega (arith, a, pre .1 .1 .0),
+          (
+            omega (arith, b, pre .1 .1 .1 .0),
+            marks-none (s .attributes .now) (s .source .now) (s .range .first) (length (s .own .now) - s .k) (rest-part (s .own .now) (s .k) ∙ pre .1 .1 .1 .1 .0),
+          ),
+        ),
+      ),
+    )
 
 same-length : tie.Need-same-length
 same-length c = search needs
@@ -51,10 +61,13 @@ returns c =
     let m = c .before .before .before .before .mark-range in
     let w = m .last .1 .1 .1 .1 .0 in
     let b = m .last .1 .1 .1 .1 .1 .0 in
-    let q = rest-back (s .own .now) (s .k) w in
-    (marked-front (s .k) (s .own .now) w (omega (arith, pre .1 .1 .0)) q,
-    (marked-rest (s .k) (s .own .now) w (omega (arith, pre .1 .1 .0)) q (s .attributes .now) (s .source .now) (s .range .first) (m .ensures .0),
-    text-back (s .fill) (s .text .now) (pre .1 .1 .1 .1 .1) (rest-back (s .text .now) (s .fill) b) (m .ensures .1)))
+    let q = rest-back (s .own .now) (s .k) w in (
+      marked-front (s .k) (s .own .now) w (omega (arith, pre .1 .1 .0)) q,
+      (
+        marked-rest (s .k) (s .own .now) w (omega (arith, pre .1 .1 .0)) q (s .attributes .now) (s .source .now) (s .range .first) (m .ensures .0),
+        text-back (s .fill) (s .text .now) (pre .1 .1 .1 .1 .1) (rest-back (s .text .now) (s .fill) b) (m .ensures .1),
+      ),
+    )
 
 pub mark-words-spec : {M : Type 1} → statement M
 mark-words-spec =

@@ -60,10 +60,31 @@ read-cleared-requires c κs =
     let pre = c .before .before .before .before .before .before .before .before .before .before .pre in
     let n = s .range .end - s .range .first in
     let y = many n (length (s .own .now)) (n * 33 + 32) (length (s .text .now)) (s .fill + n * 4) (ltb (s .kind) 2 || ltb 3 (s .kind)) (eqb (c .before .before .before .before .plain-of .result) (s .range .end)) (c .before .before .if1 .left) in
-    let l = length-take-le (n * 33 + 32) (s .own .now) (y .1) in
-    (pre .0, (omega (arith, l), (y .2, (pre .1 .0, (pre .1 .1 .0, (pre .1 .1 .1 .0, (pre .1 .1 .1 .1 .0,
-    (front-held (s .kind) (s .fill) (take (s .fill) (s .text .now)) (s .own .now) (s .text .now) (pre .1 .1 .1 .1 .1 .0) (n * 33 + 32) (omega arith) (y .1),
-    pre .1 .1 .1 .1 .1 .1))))))))
+    let l = length-take-le (n * 33 + 32) (s .own .now) (y .1) in (
+      pre .0,
+      (
+        omega (arith, l),
+        (
+          y .2,
+          (
+            pre .1 .0,
+            (
+              pre .1 .1 .0,
+              (
+                pre .1 .1 .1 .0,
+                (
+                  pre .1 .1 .1 .1 .0,
+                  (
+                    front-held (s .kind) (s .fill) (take (s .fill) (s .text .now)) (s .own .now) (s .text .now) (pre .1 .1 .1 .1 .1 .0) (n * 33 + 32) (omega arith) (y .1),
+                    pre .1 .1 .1 .1 .1 .1,
+                  ),
+                ),
+              ),
+            ),
+          ),
+        ),
+      ),
+    )
 
 same-length-3 : tie.Need-same-length-3
 same-length-3 c = search needs

@@ -24,9 +24,19 @@ mark-words-requires c κs =
     let s = c .before .before .before .before .before .before .before .args in
     let pre = c .before .before .before .before .before .before .before .pre in
     let k = (s .range .end - s .range .first) * 32 + 32 in
-    let hd = pre .1 .1 .1 .1 .1 .1 .1 .0 in
-    (pre .1 .1 .1 .0, (pre .1 .1 .1 .1 .1 .0, (omega (arith, pre .1 .0), (pre .1 .1 .0,
-    (rest-zero (s .kind) (s .fill) (take (s .fill) (s .text .now)) (s .own .now) (s .text .now) hd k (omega arith) (omega (arith, pre .1 .0)), text-zero hd)))))
+    let hd = pre .1 .1 .1 .1 .1 .1 .1 .0 in (
+      pre .1 .1 .1 .0,
+      (
+        pre .1 .1 .1 .1 .1 .0,
+        (
+          omega (arith, pre .1 .0),
+          (
+            pre .1 .1 .0,
+            (rest-zero (s .kind) (s .fill) (take (s .fill) (s .text .now)) (s .own .now) (s .text .now) hd k (omega arith) (omega (arith, pre .1 .0)), text-zero hd),
+          ),
+        ),
+      ),
+    )
 
 read-marked-requires : tie.Need-read-marked-requires
 read-marked-requires c κs =
@@ -35,11 +45,35 @@ read-marked-requires c κs =
     let k = (s .range .end - s .range .first) * 32 + 32 in
     let m = c .before .before .before .before .before .before .mark-words in
     let l = m .kept .1 .1 .1 .1 .1 .0 in
-    let t = m .kept .1 .1 .1 .1 .1 .1 .0 in
-    (pre .0, (omega arith, (omega (arith, l, pre .1 .0), (m .ensures .1 .0, (pre .1 .1 .1 .0, (pre .1 .1 .1 .1 .0, (pre .1 .1 .1 .1 .1 .0, (omega (arith, t, pre .1 .1 .1 .1 .1 .1 .0),
-    (begun (s .kind) (s .fill) k (s .own .now) (s .text .now) (m .last .1 .1 .1 .1 .1 .0) (m .last .1 .1 .1 .1 .1 .1 .0) (m .ensures .0) (m .ensures .1 .1)
-    (front-held (s .kind) (s .fill) (take (s .fill) (s .text .now)) (s .own .now) (s .text .now) (pre .1 .1 .1 .1 .1 .1 .1 .0) k (omega arith) (omega (arith, pre .1 .0))),
-    pre .1 .1 .1 .1 .1 .1 .1 .1)))))))))
+    let t = m .kept .1 .1 .1 .1 .1 .1 .0 in (
+      pre .0,
+      (
+        omega arith,
+        (
+          omega (arith, l, pre .1 .0),
+          (
+            m .ensures .1 .0,
+            (
+              pre .1 .1 .1 .0,
+              (
+                pre .1 .1 .1 .1 .0,
+                (
+                  pre .1 .1 .1 .1 .1 .0,
+                  (
+                    omega (arith, t, pre .1 .1 .1 .1 .1 .1 .0),
+                    (
+                      begun (s .kind) (s .fill) k (s .own .now) (s .text .now) (m .last .1 .1 .1 .1 .1 .0) (m .last .1 .1 .1 .1 .1 .1 .0) (m .ensures .0) (m .ensures .1 .1)
+                          (front-held (s .kind) (s .fill) (take (s .fill) (s .text .now)) (s .own .now) (s .text .now) (pre .1 .1 .1 .1 .1 .1 .1 .0) k (omega arith) (omega (arith, pre .1 .0))),
+                      pre .1 .1 .1 .1 .1 .1 .1 .1,
+                    ),
+                  ),
+                ),
+              ),
+            ),
+          ),
+        ),
+      ),
+    )
 
 mul-clear-words : tie.Need-mul-clear-words
 mul-clear-words c = search needs

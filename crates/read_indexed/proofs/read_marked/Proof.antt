@@ -30,9 +30,10 @@ sub-at c = omega (arith, c .before .loop .inv .low)
 hint-for-requires : tie.Need-hint-for-requires Inv-loop μ-loop
 hint-for-requires c κs =
     let pre = c .before .before .before .before .before .before .before .before .pre in
-    let x = c .before .before .before .loop .inv in let f = x .few in let l = x .low in let o = x .own-same in
-    (omega (arith, pre .1 .1 .1 .1 .1 .0, c .before .before .loop-test .taken),
-    (l, (omega (arith, pre .1 .1 .1 .1 .1 .1 .0, c .before .before .loop-test .taken), (omega (arith, pre .1 .1 .0), indexing-told x))))
+    let x = c .before .before .before .loop .inv in let f = x .few in let l = x .low in let o = x .own-same in (
+      omega (arith, pre .1 .1 .1 .1 .1 .0, c .before .before .loop-test .taken),
+      (l, (omega (arith, pre .1 .1 .1 .1 .1 .1 .0, c .before .before .loop-test .taken), (omega (arith, pre .1 .1 .0), indexing-told x))),
+    )
 
 slice-relend-prefix-step-attribute : tie.Need-slice-relend-prefix-step-attribute Inv-loop μ-loop
 slice-relend-prefix-step-attribute c = let o = c .before .before .before .before .loop .inv .own-same in omega (arith, c .before .before .before .before .before .before .before .before .before .pre .1 .1 .0)
@@ -43,9 +44,16 @@ slice-aggregate-step-attribute c = sym (length-take-le (c .before .before .befor
 step-attribute-requires : tie.Need-step-attribute-requires Inv-loop μ-loop
 step-attribute-requires c κs =
     let pre = c .before .before .before .before .before .before .before .before .before .before .before .pre in
-    let x = c .before .before .before .before .before .before .loop .inv in let a = indexing-fill x in let b = indexing-extras x in let q = x .text-same in
-    (x .low, (omega (arith, pre .1 .1 .1 .1 .1 .0, c .before .before .before .before .before .loop-test .taken), (omega (arith, pre .1 .1 .1 .1 .1 .1 .0, c .before .before .before .before .before .loop-test .taken),
-    (pre .0, (a, (omega (arith, pre .1 .1 .1 .1 .1 .1 .1 .0), b))))))
+    let x = c .before .before .before .before .before .before .loop .inv in let a = indexing-fill x in let b = indexing-extras x in let q = x .text-same in (
+      x .low,
+      (
+        omega (arith, pre .1 .1 .1 .1 .1 .0, c .before .before .before .before .before .loop-test .taken),
+        (
+          omega (arith, pre .1 .1 .1 .1 .1 .1 .0, c .before .before .before .before .before .loop-test .taken),
+          (pre .0, (a, (omega (arith, pre .1 .1 .1 .1 .1 .1 .1 .0), b))),
+        ),
+      ),
+    )
 
 add-j : tie.Need-add-j Inv-loop μ-loop
 add-j c = omega (arith, c .before .before .before .before .before .before .before .before .before .before .before .before .before .before .before .before .pre .1 .1 .1 .1 .1 .1 .0, c .before .before .before .before .before .before .before .before .before .before .loop-test .taken)

@@ -42,9 +42,17 @@ put-marks-requires c κs =
     let sort = c .before .before .before .before .sort in
     let n = s .end - s .first in
     let w = sort .last .1 .1 .1 .1 .0 in
-    let k = sort .kept .1 .1 .1 .1 .0 in
-    (pre .0, (pre .1 .1 .0, (subst (λ (l : List ℕ). Arranged (ComesBy true (s .attributes .now) (s .source .now)) (s .first) n l)
-    (sym (numbers-take w n (omega (arith, k, pre .1 .1 .1 .0, length-numbers w)))) (sort .ensures), pre .1 .1 .1 .1)))
+    let k = sort .kept .1 .1 .1 .1 .0 in (
+      pre .0,
+      (
+        pre .1 .1 .0,
+        (
+          subst (λ (l : List ℕ). Arranged (ComesBy true (s .attributes .now) (s .source .now)) (s .first) n l)
+              (sym (numbers-take w n (omega (arith, k, pre .1 .1 .1 .0, length-numbers w)))) (sort .ensures),
+          pre .1 .1 .1 .1,
+        ),
+      ),
+    )
 
 clear-requires : tie.Need-clear-requires
 clear-requires c κs = search needs

@@ -53,11 +53,12 @@ loop-again c =
     let p = c .before .before .before .before .before .before .before .before .before .before .loop .p in
     let h : p < length (numbersIn (s .bytes .now)) = omega (arith, c .before .before .before .before .before .before .before .before .before .loop-test .taken, i .1 .1 .1, length-numbers (s .bytes .now)) in
     let e = c .before .before .before .before .wide .ensures ∙ c .before .before .before .before .before .before .before .before .number-at .ensures .0 in (
-    marks-put (s .attributes .now) (s .source .now) (c .before .before .before .before .before .before .before .before .before .before .loop .words) (i .0) (omega (arith, pre .1 .0, i .1 .1 .0))
-    (λ m f o. leads-new (s .attributes .now) (s .source .now) (numbersIn (s .bytes .now)) (s .first) (s .end) (pre .0) (pre .1 .1 .0)
-    (c .before .before .before .before .wide .result) p f o h (sym e) (c .before .before .before .before .before .before .before .is-first .ensures (c .before .before .before .mark-of .ensures m)))
-    (c .before .before .put-mark .ensures),
-    (lead-low (c .before .before .before .before .before .before .before .is-first .result) (c .before .before .before .before .before .before .chosen .ensures) (c .before .before .before .before .before .before .before .before .number-at .ensures .1) (i .1 .0), (c .before .before .put-mark .kept .0 ∙ i .1 .1 .0, i .1 .1 .1)))
+      marks-put (s .attributes .now) (s .source .now) (c .before .before .before .before .before .before .before .before .before .before .loop .words) (i .0) (omega (arith, pre .1 .0, i .1 .1 .0))
+          (λ m f o. leads-new (s .attributes .now) (s .source .now) (numbersIn (s .bytes .now)) (s .first) (s .end) (pre .0) (pre .1 .1 .0)
+          (c .before .before .before .before .wide .result) p f o h (sym e) (c .before .before .before .before .before .before .before .is-first .ensures (c .before .before .before .mark-of .ensures m)))
+          (c .before .before .put-mark .ensures),
+      (lead-low (c .before .before .before .before .before .before .before .is-first .result) (c .before .before .before .before .before .before .chosen .ensures) (c .before .before .before .before .before .before .before .before .number-at .ensures .1) (i .1 .0), (c .before .before .put-mark .kept .0 ∙ i .1 .1 .0, i .1 .1 .1)),
+    )
 
 same-length : tie.Need-same-length Inv-loop μ-loop
 same-length c = c .before .loop .inv .1 .1 .0

@@ -23,9 +23,10 @@ is-stored-requires c κs = search needs
 
 returns-2 : tie.Need-returns-2
 returns-2 c =
-    let s = c .before .before .before .before .before .before .before .args in
-    (λ e. omega (arith, c .before .before .before .if1 .left),
-    λ e. ap (λ (l : List ℕ). sameBytes l (valueText (s .key .now))) (sym (c .before .stored-key .ensures)) ∙ sym (c .is-stored .ensures) ∙ e)
+    let s = c .before .before .before .before .before .before .before .args in (
+      λ e. omega (arith, c .before .before .before .if1 .left),
+      λ e. ap (λ (l : List ℕ). sameBytes l (valueText (s .key .now))) (sym (c .before .stored-key .ensures)) ∙ sym (c .is-stored .ensures) ∙ e,
+    )
 
 pub is-at-spec : {M : Type 1} → statement M
 is-at-spec =

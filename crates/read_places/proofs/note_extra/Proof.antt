@@ -34,10 +34,11 @@ returns-2 : tie.Need-returns-2
 returns-2 c =
     let s = c .before .before .before .before .before .before .args in
     let w = c .before .before .tell-place .last .0 in
-    let q = rest-back (s .own .now) (s .k) w in
-    (noted-front (s .k) (s .own .now) w (c .before .before .before .before .before .before .pre .1) q,
-    noted-quiet (s .k) (s .own .now) w (c .before .before .before .before .before .before .pre .1) q
-    (subst (λ (l : List ℕ). Quiet l w) (rest-part (s .own .now) (s .k)) (c .before .before .tell-place .ensures)))
+    let q = rest-back (s .own .now) (s .k) w in (
+      noted-front (s .k) (s .own .now) w (c .before .before .before .before .before .before .pre .1) q,
+      noted-quiet (s .k) (s .own .now) w (c .before .before .before .before .before .before .pre .1) q
+          (subst (λ (l : List ℕ). Quiet l w) (rest-part (s .own .now) (s .k)) (c .before .before .tell-place .ensures)),
+    )
 
 pub note-extra-spec : {M : Type 1} → statement M
 note-extra-spec =

@@ -28,8 +28,8 @@ returns c =
     let e = is-lost (a .act) _ (c .before .before .before .before .before .before .is-close .ensures) (c .before .before .before .before .if1 .taken) in (
       λ z. ap (λ (y : CodedContent). y .child) (k .ensures .0) ∙ sym (ap (λ (y : CodedContent). y .description) (k .ensures .0)),
       λ attributes words text s h g x.
-      again-stands (now (a .events)) (now (a .source)) attributes (a .first) s (a .content) (k .result) words text (now (a .scratch)) _
-      (sym (ap (λ (y : CodedAct). apt y (s .control .mode)) e) ∙ h) (k .ensures .0) (k .ensures .1) (g e) x,
+          again-stands (now (a .events)) (now (a .source)) attributes (a .first) s (a .content) (k .result) words text (now (a .scratch)) _
+          (sym (ap (λ (y : CodedAct). apt y (s .control .mode)) e) ∙ h) (k .ensures .0) (k .ensures .1) (g e) x,
     )
 
 returns-2 : tie.Need-returns-2
