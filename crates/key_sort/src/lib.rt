@@ -28,7 +28,8 @@ fn takes_first(
     requires { ⌜ h ≤ j ⌝ }
     requires { ⌜ j ≤ n ⌝ }
     requires { ⌜ n ≤ length (numbersIn (now bytes)) ⌝ }
-    ensures { λ r. ⌜ r ≡ takesFirst (comesBy clean (now (attributes .entry)) (now (source .entry))) (drop i (take h (numbersIn (now (bytes .entry))))) (drop j (take n (numbersIn (now (bytes .entry))))) ⌝ }
+    ensures { λ r.
+        ⌜ r ≡ takesFirst (comesBy clean (now (attributes .entry)) (now (source .entry))) (drop i (take h (numbersIn (now (bytes .entry))))) (drop j (take n (numbersIn (now (bytes .entry))))) ⌝ }
 {
     if i == h {
         return false;

@@ -10,7 +10,8 @@ use Rattle.key_sort.proofs.merge_up.Statement.{statement}
 use Rattle.key_sort.proofs.merge_up.Tie as tie
 
 abbrev Inv-loop : tie.InvT-loop
-Inv-loop attributes source h n bytes₀ clean i₀ j₀ k₀ end bytes i j k = Running (comesBy clean attributes source) h n (numbersIn bytes₀) (numbersIn bytes) i j k × ((end ≡ n + n) × (length bytes ≡ length bytes₀))
+Inv-loop attributes source h n bytes₀ clean i₀ j₀ k₀ end bytes i j k =
+    Running (comesBy clean attributes source) h n (numbersIn bytes₀) (numbersIn bytes) i j k × ((end ≡ n + n) × (length bytes ≡ length bytes₀))
 
 abbrev μ-loop : tie.MeasureT-loop
 μ-loop attributes source h n bytes₀ clean i₀ j₀ k₀ end bytes i j k = n + n - k
@@ -19,8 +20,10 @@ add-end : tie.Need-add-end Inv-loop μ-loop
 add-end c = omega (arith, c .before .before .before .pre .1, c .before .before .before .good, length-numbers (c .before .before .before .args .bytes .now))
 
 loop-holds : tie.Need-loop-holds Inv-loop μ-loop
-loop-holds c = let s = c .before .before .before .args in
-    (running-start (comesBy (s .clean) (s .attributes .now) (s .source .now)) (s .h) (s .n) (numbersIn (s .bytes .now)) (c .before .before .before .pre .0) (c .before .before .before .pre .1), (refl, refl))
+loop-holds c = let s = c .before .before .before .args in (
+  running-start (comesBy (s .clean) (s .attributes .now) (s .source .now)) (s .h) (s .n) (numbersIn (s .bytes .now)) (c .before .before .before .pre .0) (c .before .before .before .pre .1),
+  (refl, refl),
+)
 
 add-k : tie.Need-add-k Inv-loop μ-loop
 add-k c =

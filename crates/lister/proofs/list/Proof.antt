@@ -26,7 +26,8 @@ returns c =
     let words = args .records .now in
     let text = args .text .now in
     let n = length (args .out .now) in
-    refused-whole words text n (c .refuse .ensures) (no-listing words text n (sym (c .before .before .before .before .before .before .is-layout .ensures) ∙ not-true _ (c .before .before .before .before .before .if1 .taken)) (clear .ensures))
+    refused-whole words text n (c .refuse .ensures)
+    (no-listing words text n (sym (c .before .before .before .before .before .before .is-layout .ensures) ∙ not-true _ (c .before .before .before .before .before .if1 .taken)) (clear .ensures))
 
 list-known-requires : tie.Need-list-known-requires
 list-known-requires c κs = sym (c .before .before .is-layout .ensures) ∙ not-false _ (c .before .if1 .left)

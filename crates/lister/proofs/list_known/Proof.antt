@@ -53,7 +53,8 @@ same-length c = search needs
 
 returns : tie.Need-returns
 returns c =
-    let args = c .before .before .before .before .before .before .before .before .before .before .before .before .before .before .before .before .before .before .before .before .before .before .args in
+    let args =
+    c .before .before .before .before .before .before .before .before .before .before .before .before .before .before .before .before .before .before .before .before .before .before .args in
     let clear = c .before .before .before .before .before .before .before .before .before .before .before .before .before .before .before .before .before .clear in
     let least = c .before .before .before .before .before .before .before .before .before .before .before .before .before .before .least in
     let least2 = c .before .before .before .before .before .before .before .before .before .before .before .before .before .least2 in
@@ -86,7 +87,8 @@ returns-2 c =
     let y = c .before .before .before .before .before .before .before .before .before .before .before .before .before .before .before .before .before .before .before .pre in
     let f = used-shown words text (least .result) (least2 .result) (least .ensures) (least2 .ensures) in
     let p = rw (c .before .before .put .given .1) at (other (put-report .ensures) f) in
-    listed-whole words text n (c .no-refusal .ensures) (whole-listing words text n y _ (c .before .before .before .before .before .before .before .before .before .before .before .before .before .before .clear .ensures) p)
+    listed-whole words text n (c .no-refusal .ensures)
+    (whole-listing words text n y _ (c .before .before .before .before .before .before .before .before .before .before .before .before .before .before .clear .ensures) p)
 
 pub list-known-spec : {M : Type 1} → statement M
 list-known-spec =

@@ -16,7 +16,8 @@ enum-told c = search needs
 
 list-and-clear-requires : tie.Need-list-and-clear-requires
 list-and-clear-requires c κs =
-    let a = c .before .before .before .before .before .before .before .before .before .before .before .before .before .before .before .before .before .before .before .before .before .before .before .args in
+    let a = c .before .before .before .before .before .before .before .before .before .before .before .before
+    .before .before .before .before .before .before .before .before .before .before .before .args in
     let r = c .before .before .before .before .before .before .before .before .before .before .before .before .read in
     let e = read-accepted (r .result) _ (r .ensures .0) (c .before .before .before .enum-told .given .1) in
     left-layout (a .events .now) (a .attributes .now) (a .source .now) (length (a .records .now)) (length (a .text .now)) (length (a .scratch .now)) _ _ e (r .ensures .1 .0) (r .ensures .1 .1 .0)

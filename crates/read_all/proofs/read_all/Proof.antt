@@ -27,7 +27,8 @@ mul-room : tie.Need-mul-room
 mul-room c = search needs
 
 add-room : tie.Need-add-room
-add-room c = let f = held-fill (c .before .before .before .before .before .before .pre .1 .1 .1 .1 .1 .0) in omega (arith, f, c .before .before .before .before .before .before .pre .1 .1 .1 .0, c .before .before .before .before .before .before .pre .1 .1 .1 .1 .0)
+add-room c = let f = held-fill (c .before .before .before .before .before .before .pre .1 .1 .1 .1 .1 .0) in
+    omega (arith, f, c .before .before .before .before .before .before .pre .1 .1 .1 .0, c .before .before .before .before .before .before .pre .1 .1 .1 .1 .0)
 
 read-each-requires : tie.Need-read-each-requires
 read-each-requires c κs = search needs
@@ -45,7 +46,8 @@ slice-relend-prefix-read-cleared : tie.Need-slice-relend-prefix-read-cleared
 slice-relend-prefix-read-cleared c =
     let s = c .before .before .before .before .before .before .before .before .args in
     let n = s .range .end - s .range .first in
-    many n (length (s .own .now)) (n * 33 + 32) (length (s .text .now)) (s .fill + n * 4) (ltb (s .kind) 2 || ltb 3 (s .kind)) (eqb (c .before .before .plain-of .result) (s .range .end)) (c .if1 .left) .1
+    many n (length (s .own .now)) (n * 33 + 32) (length (s .text .now)) (s .fill + n * 4)
+    (ltb (s .kind) 2 || ltb 3 (s .kind)) (eqb (c .before .before .plain-of .result) (s .range .end)) (c .if1 .left) .1
 
 slice-aggregate-read-cleared : tie.Need-slice-aggregate-read-cleared
 slice-aggregate-read-cleared c =
@@ -59,7 +61,8 @@ read-cleared-requires c κs =
     let s = c .before .before .before .before .before .before .before .before .before .before .args in
     let pre = c .before .before .before .before .before .before .before .before .before .before .pre in
     let n = s .range .end - s .range .first in
-    let y = many n (length (s .own .now)) (n * 33 + 32) (length (s .text .now)) (s .fill + n * 4) (ltb (s .kind) 2 || ltb 3 (s .kind)) (eqb (c .before .before .before .before .plain-of .result) (s .range .end)) (c .before .before .if1 .left) in
+    let y = many n (length (s .own .now)) (n * 33 + 32) (length (s .text .now)) (s .fill + n * 4) (ltb (s .kind) 2 || ltb 3 (s .kind))
+    (eqb (c .before .before .before .before .plain-of .result) (s .range .end)) (c .before .before .if1 .left) in
     let l = length-take-le (n * 33 + 32) (s .own .now) (y .1) in (
       pre .0,
       (
@@ -97,7 +100,8 @@ returns-2 c =
     let s = c .before .before .before .before .before .before .before .before .before .before .before .before .before .before .before .args in
     let pre = c .before .before .before .before .before .before .before .before .before .before .before .before .before .before .before .pre in
     let n = s .range .end - s .range .first in
-    λ rooms p used ro. let y = many n (length (s .own .now)) (n * 33 + 32) (length (s .text .now)) (s .fill + n * 4) (ltb (s .kind) 2 || ltb 3 (s .kind)) (eqb (c .before .before .before .before .before .before .before .before .before .plain-of .result) (s .range .end)) (c .before .before .before .before .before .before .before .if1 .left) in
+    λ rooms p used ro. let y = many n (length (s .own .now)) (n * 33 + 32) (length (s .text .now)) (s .fill + n * 4) (ltb (s .kind) 2 || ltb 3 (s .kind))
+    (eqb (c .before .before .before .before .before .before .before .before .before .plain-of .result) (s .range .end)) (c .before .before .before .before .before .before .before .if1 .left) in
     let l = length-take-le (n * 33 + 32) (s .own .now) (y .1) in
     behind (length (s .own .now) - (n * 33 + 32))
     (rest-zero (s .kind) (s .fill) (take (s .fill) (s .text .now)) (s .own .now) (s .text .now) (pre .1 .1 .1 .1 .1 .0) (n * 33 + 32) (omega arith) (y .1))

@@ -98,7 +98,8 @@ same-length-2 c = search needs
 
 returns : tie.Need-returns
 returns c =
-    let s = c .before .before .before .before .before .before .before .before .before .before .before .before .before .before .before .before .before .before .before .before .before .before .before .args in
+    let s = c .before .before .before .before .before .before .before .before .before .before .before .before
+    .before .before .before .before .before .before .before .before .before .before .before .args in
     let k = (s .range .end - s .range .first) * 32 + 32 in
     let m = c .before .before .before .before .before .before .before .before .before .before .before .before .before .before .before .mark-words in
     let r = c .before .before .before .before .before .before .before .before .read-marked in

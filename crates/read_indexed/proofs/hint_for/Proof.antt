@@ -25,7 +25,8 @@ word-of-requires : tie.Need-word-of-requires
 word-of-requires c κs = search needs
 
 returns : tie.Need-returns
-returns c = λ _. told-new (c .before .before .before .before .before .before .before .pre .1 .1 .1 .1) (c .before .before .before .before .before .before .before .pre .1 .0) (c .before .word-of .ensures) (c .if1 .taken)
+returns c = λ _. told-new (c .before .before .before .before .before .before .before .pre .1 .1 .1 .1)
+    (c .before .before .before .before .before .before .before .pre .1 .0) (c .before .word-of .ensures) (c .if1 .taken)
 
 mul-place-told : tie.Need-mul-place-told
 mul-place-told c = search needs
@@ -46,13 +47,16 @@ key-at-requires : tie.Need-key-at-requires
 key-at-requires c κs = search needs
 
 slice-aggregate-is-at : tie.Need-slice-aggregate-is-at
-slice-aggregate-is-at c = sym (length-take-le (c .before .before .before .before .before .before .before .before .before .before .before .args .k) (c .before .before .before .before .before .before .before .before .before .before .before .args .own .now) (c .before .before .before .before .before .before .before .before .before .before .before .pre .1 .1 .1 .0))
+slice-aggregate-is-at c = sym (length-take-le (c .before .before .before .before .before .before .before .before .before .before .before .args .k)
+    (c .before .before .before .before .before .before .before .before .before .before .before .args .own .now)
+    (c .before .before .before .before .before .before .before .before .before .before .before .pre .1 .1 .1 .0))
 
 is-at-requires : tie.Need-is-at-requires
 is-at-requires c κs = search needs
 
 returns-2 : tie.Need-returns-2
-returns-2 c = λ _. told-place (c .before .before .before .before .before .before .before .before .before .before .before .before .before .pre .1 .1 .1 .1) (c .before .before .before .key-at .ensures) (c .before .is-at .ensures .0 (c .if2 .taken)) (c .before .is-at .ensures .1 (c .if2 .taken))
+returns-2 c = λ _. told-place (c .before .before .before .before .before .before .before .before .before .before .before .before .before .pre .1 .1 .1 .1)
+    (c .before .before .before .key-at .ensures) (c .before .is-at .ensures .0 (c .if2 .taken)) (c .before .is-at .ensures .1 (c .if2 .taken))
 
 add-result : tie.Need-add-result
 add-result c = search needs

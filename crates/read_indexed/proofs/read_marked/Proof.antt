@@ -36,10 +36,13 @@ hint-for-requires c κs =
     )
 
 slice-relend-prefix-step-attribute : tie.Need-slice-relend-prefix-step-attribute Inv-loop μ-loop
-slice-relend-prefix-step-attribute c = let o = c .before .before .before .before .loop .inv .own-same in omega (arith, c .before .before .before .before .before .before .before .before .before .pre .1 .1 .0)
+slice-relend-prefix-step-attribute c =
+    let o = c .before .before .before .before .loop .inv .own-same in omega (arith, c .before .before .before .before .before .before .before .before .before .pre .1 .1 .0)
 
 slice-aggregate-step-attribute : tie.Need-slice-aggregate-step-attribute Inv-loop μ-loop
-slice-aggregate-step-attribute c = sym (length-take-le (c .before .before .before .before .before .before .before .before .before .before .args .k) (c .before .before .before .before .before .loop .own) (let o = c .before .before .before .before .before .loop .inv .own-same in omega (arith, c .before .before .before .before .before .before .before .before .before .before .pre .1 .1 .0)))
+slice-aggregate-step-attribute c =
+    sym (length-take-le (c .before .before .before .before .before .before .before .before .before .before .args .k) (c .before .before .before .before .before .loop .own)
+    (let o = c .before .before .before .before .before .loop .inv .own-same in omega (arith, c .before .before .before .before .before .before .before .before .before .before .pre .1 .1 .0)))
 
 step-attribute-requires : tie.Need-step-attribute-requires Inv-loop μ-loop
 step-attribute-requires c κs =
@@ -56,27 +59,68 @@ step-attribute-requires c κs =
     )
 
 add-j : tie.Need-add-j Inv-loop μ-loop
-add-j c = omega (arith, c .before .before .before .before .before .before .before .before .before .before .before .before .before .before .before .before .pre .1 .1 .1 .1 .1 .1 .0, c .before .before .before .before .before .before .before .before .before .before .loop-test .taken)
+add-j c = omega (
+  arith,
+  c .before .before .before .before .before .before .before .before .before .before .before .before .before .before .before .before .pre .1 .1 .1 .1 .1 .1 .0,
+  c .before .before .before .before .before .before .before .before .before .before .loop-test .taken,
+)
 
 enum-known-step : tie.Need-enum-known-step Inv-loop μ-loop
 enum-known-step c = search needs
 
 note-extra-requires : tie.Need-note-extra-requires Inv-loop μ-loop
 note-extra-requires c κs =
-    let x = c .before .before .before .before .before .before .before .before .before .before .before .before .before .before .before .loop .inv in let f = x .few in let l = x .low in let o = x .own-same in
-    let z = between-size (c .before .before .before .before .before .before .before .before .before .before .before .before .before .before .before .loop .inv) (c .before .before .before .before .before .before .before .before .before .before .before .before .before .before .loop-test .taken) (c .before .before .before .before .before .before .before .before .before .before .before .before .before .before .before .before .before .before .before .before .pre .1 .0) (c .before .before .before .before .before .before .before .before .before .before .before .before .before .before .before .before .before .before .before .before .pre .1 .1 .0) (c .before .before .before .before .before .before .before .before .before .before .before .before .before .before .before .before .before .before .before .before .pre .1 .1 .1 .1 .1 .1 .1 .1 .1)
-    (c .before .before .before .before .before .before .before .before .before .before .before .hint-for .ensures) (c .before .before .before .before .before .before .before .before .step-attribute .ensures)
-    (c .before .before .before .before .before .before .before .before .step-attribute .kept .1 .1 .1 .1 .1 .1 .1 .1 .0 ∙ length-take-le (c .before .before .before .before .before .before .before .before .before .before .before .before .before .before .before .before .before .before .before .before .args .k) (c .before .before .before .before .before .before .before .before .before .before .before .before .before .before .before .loop .own) (let o = c .before .before .before .before .before .before .before .before .before .before .before .before .before .before .before .loop .inv .own-same in omega (arith, c .before .before .before .before .before .before .before .before .before .before .before .before .before .before .before .before .before .before .before .before .pre .1 .1 .0))) refl in
-    (omega (arith, c .before .before .before .before .before .before .before .before .before .before .before .before .before .before .before .before .before .before .before .before .pre .1 .1 .1 .1 .1 .1 .0, c .before .before .before .before .before .before .before .before .before .before .before .before .before .before .loop-test .taken), omega (arith, c .before .before .before .before .before .before .before .before .before .before .before .before .before .before .before .before .before .before .before .before .pre .1 .1 .0, z))
+    let x = c .before .before .before .before .before .before .before .before .before .before .before .before .before .before .before .loop .inv in
+    let f = x .few in let l = x .low in let o = x .own-same in
+    let z = between-size (c .before .before .before .before .before .before .before .before .before .before .before .before .before .before .before .loop .inv)
+    (c .before .before .before .before .before .before .before .before .before .before .before .before .before .before .loop-test .taken)
+    (c .before .before .before .before .before .before .before .before .before .before .before .before .before .before .before .before .before .before .before .before .pre .1 .0)
+    (c .before .before .before .before .before .before .before .before .before .before .before .before .before .before .before .before .before .before .before .before .pre .1 .1 .0) (c .before
+    .before .before .before .before .before .before .before .before .before .before .before .before .before .before .before .before .before .before .before .pre .1 .1 .1 .1 .1 .1 .1 .1 .1)
+    (c .before .before .before .before .before .before .before .before .before .before .before .hint-for .ensures)
+    (c .before .before .before .before .before .before .before .before .step-attribute .ensures)
+    (c .before .before .before .before .before .before .before .before .step-attribute .kept .1 .1 .1 .1 .1 .1 .1 .1 .0
+    ∙ length-take-le (c .before .before .before .before .before .before .before .before .before .before .before .before .before .before .before .before .before .before .before .before .args .k)
+    (c .before .before .before .before .before .before .before .before .before .before .before .before .before .before .before .loop .own)
+    (let o = c .before .before .before .before .before .before .before .before .before .before .before .before .before .before .before .loop .inv .own-same in omega (
+      arith,
+      c .before .before .before .before .before .before .before .before .before .before .before .before .before .before .before .before .before .before .before .before .pre .1 .1 .0,
+    ))) refl in (
+      omega (
+        arith,
+        c .before .before .before .before .before .before .before .before .before .before .before .before .before .before .before .before .before .before .before .before .pre .1 .1 .1 .1 .1 .1 .0,
+        c .before .before .before .before .before .before .before .before .before .before .before .before .before .before .loop-test .taken,
+      ),
+      omega (
+        arith,
+        c .before .before .before .before .before .before .before .before .before .before .before .before .before .before .before .before .before .before .before .before .pre .1 .1 .0,
+        z,
+      ),
+    )
 
 loop-less : tie.Need-loop-less Inv-loop μ-loop
 loop-less c = omega (arith, c .before .before .before .before .before .before .before .before .before .before .before .before .before .before .before .before .before .loop-test .taken)
 
 loop-again : tie.Need-loop-again Inv-loop μ-loop
 loop-again c =
-    indexing-on (c .before .before .before .before .before .before .before .before .before .before .before .before .before .before .before .before .before .before .loop .inv) (c .before .before .before .before .before .before .before .before .before .before .before .before .before .before .before .before .before .loop-test .taken) (c .before .before .before .before .before .before .before .before .before .before .before .before .before .before .before .before .before .before .before .before .before .before .before .pre .1 .0) (c .before .before .before .before .before .before .before .before .before .before .before .before .before .before .before .before .before .before .before .before .before .before .before .pre .1 .1 .0) (c .before .before .before .before .before .before .before .before .before .before .before .before .before .before .before .before .before .before .before .before .before .before .before .pre .1 .1 .1 .1 .1 .1 .1 .1 .1)
-    (c .before .before .before .before .before .before .before .before .before .before .before .before .before .before .hint-for .ensures) (c .before .before .before .before .before .before .before .before .before .before .before .step-attribute .ensures)
-    (c .before .before .before .before .before .step .given .1) (c .before .before .before .before .before .before .before .before .before .before .before .step-attribute .kept .1 .1 .1 .1 .1 .1 .1 .1 .0 ∙ length-take-le (c .before .before .before .before .before .before .before .before .before .before .before .before .before .before .before .before .before .before .before .before .before .before .before .args .k) (c .before .before .before .before .before .before .before .before .before .before .before .before .before .before .before .before .before .before .loop .own) (let o = c .before .before .before .before .before .before .before .before .before .before .before .before .before .before .before .before .before .before .loop .inv .own-same in omega (arith, c .before .before .before .before .before .before .before .before .before .before .before .before .before .before .before .before .before .before .before .before .before .before .before .pre .1 .1 .0)))
+    indexing-on (c .before .before .before .before .before .before .before .before .before .before .before .before .before .before .before .before .before .before .loop .inv)
+    (c .before .before .before .before .before .before .before .before .before .before .before .before .before .before .before .before .before .loop-test .taken)
+    (c .before .before .before .before .before .before .before .before .before .before .before .before .before .before .before .before .before .before .before
+    .before .before .before .before .pre .1 .0) (c .before .before .before .before .before .before .before .before .before .before .before .before .before .before
+    .before .before .before .before .before .before .before .before .before .pre .1 .1 .0) (c .before .before .before .before .before .before .before .before
+    .before .before .before .before .before .before .before .before .before .before .before .before .before .before .before .pre .1 .1 .1 .1 .1 .1 .1 .1 .1)
+    (c .before .before .before .before .before .before .before .before .before .before .before .before .before .before .hint-for .ensures)
+    (c .before .before .before .before .before .before .before .before .before .before .before .step-attribute .ensures)
+    (c .before .before .before .before .before .step .given .1)
+    (c .before .before .before .before .before .before .before .before .before .before .before .step-attribute .kept .1 .1 .1 .1 .1 .1 .1 .1 .0
+    ∙ length-take-le (c .before .before .before .before .before .before .before .before .before .before .before .before .before .before .before .before .before .before .before .before .before
+    .before .before .args .k) (c .before .before .before .before .before .before .before .before .before .before .before .before .before .before .before .before .before .before .loop .own)
+    (let o = c .before .before .before .before .before .before .before .before .before .before .before .before .before .before .before .before .before .before .loop .inv .own-same in
+    omega (
+      arith,
+      c .before .before .before .before .before .before .before .before .before .before .before .before .before
+          .before .before .before .before .before .before .before .before .before .before .pre .1 .1 .0,
+    )))
     refl (c .before .before .note-extra .ensures .0) (c .before .before .note-extra .kept .1 .1 .1 .1 .1 .0)
     (c .before .before .before .before .before .before .before .before .before .before .before .step-attribute .kept .1 .1 .1 .1 .1 .1 .1 .1 .1 .0) (c .before .before .note-extra .ensures .1)
 
@@ -85,18 +129,37 @@ enum-known-step-2 c = search needs
 
 same-length : tie.Need-same-length Inv-loop μ-loop
 same-length c =
-    between-size (c .before .before .before .before .before .before .before .before .before .before .before .before .before .before .loop .inv) (c .before .before .before .before .before .before .before .before .before .before .before .before .before .loop-test .taken) (c .before .before .before .before .before .before .before .before .before .before .before .before .before .before .before .before .before .before .before .pre .1 .0) (c .before .before .before .before .before .before .before .before .before .before .before .before .before .before .before .before .before .before .before .pre .1 .1 .0) (c .before .before .before .before .before .before .before .before .before .before .before .before .before .before .before .before .before .before .before .pre .1 .1 .1 .1 .1 .1 .1 .1 .1)
+    between-size (c .before .before .before .before .before .before .before .before .before .before .before .before .before .before .loop .inv)
+    (c .before .before .before .before .before .before .before .before .before .before .before .before .before .loop-test .taken)
+    (c .before .before .before .before .before .before .before .before .before .before .before .before .before .before .before .before .before .before .before .pre .1 .0)
+    (c .before .before .before .before .before .before .before .before .before .before .before .before .before .before .before .before .before .before .before .pre .1 .1 .0)
+    (c .before .before .before .before .before .before .before .before .before .before .before .before .before .before .before .before .before .before .before .pre .1 .1 .1 .1 .1 .1 .1 .1 .1)
     (c .before .before .before .before .before .before .before .before .before .before .hint-for .ensures) (c .before .before .before .before .before .before .before .step-attribute .ensures)
-    (c .before .before .before .before .before .before .before .step-attribute .kept .1 .1 .1 .1 .1 .1 .1 .1 .0 ∙ length-take-le (c .before .before .before .before .before .before .before .before .before .before .before .before .before .before .before .before .before .before .before .args .k) (c .before .before .before .before .before .before .before .before .before .before .before .before .before .before .loop .own) (let o = c .before .before .before .before .before .before .before .before .before .before .before .before .before .before .loop .inv .own-same in omega (arith, c .before .before .before .before .before .before .before .before .before .before .before .before .before .before .before .before .before .before .before .pre .1 .1 .0))) refl ∙ c .before .before .before .before .before .before .before .before .before .before .before .before .before .before .loop .inv .own-same
+    (c .before .before .before .before .before .before .before .step-attribute .kept .1 .1 .1 .1 .1 .1 .1 .1 .0
+    ∙ length-take-le (c .before .before .before .before .before .before .before .before .before .before .before .before .before .before .before .before .before .before .before .args .k)
+    (c .before .before .before .before .before .before .before .before .before .before .before .before .before .before .loop .own)
+    (let o = c .before .before .before .before .before .before .before .before .before .before .before .before .before .before .loop .inv .own-same in
+    omega (arith, c .before .before .before .before .before .before .before .before .before .before .before .before .before .before .before .before .before .before .before .pre .1 .1 .0))) refl
+    ∙ c .before .before .before .before .before .before .before .before .before .before .before .before .before .before .loop .inv .own-same
 
 same-length-2 : tie.Need-same-length-2 Inv-loop μ-loop
-same-length-2 c = c .before .before .before .before .before .before .before .step-attribute .kept .1 .1 .1 .1 .1 .1 .1 .1 .1 .0 ∙ c .before .before .before .before .before .before .before .before .before .before .before .before .before .before .loop .inv .text-same
+same-length-2 c = c .before .before .before .before .before .before .before .step-attribute .kept .1 .1 .1 .1 .1 .1 .1 .1 .1 .0
+    ∙ c .before .before .before .before .before .before .before .before .before .before .before .before .before .before .loop .inv .text-same
 
 returns : tie.Need-returns Inv-loop μ-loop
 returns c =
-    indexing-halted (c .before .before .before .before .before .before .before .before .before .before .before .before .before .before .loop .inv) (c .before .before .before .before .before .before .before .before .before .before .before .before .before .loop-test .taken) (c .before .before .before .before .before .before .before .before .before .before .before .before .before .before .before .before .before .before .before .pre .1 .0) (c .before .before .before .before .before .before .before .before .before .before .before .before .before .before .before .before .before .before .before .pre .1 .1 .0) (c .before .before .before .before .before .before .before .before .before .before .before .before .before .before .before .before .before .before .before .pre .1 .1 .1 .1 .1 .1 .1 .1 .1)
+    indexing-halted (c .before .before .before .before .before .before .before .before .before .before .before .before .before .before .loop .inv)
+    (c .before .before .before .before .before .before .before .before .before .before .before .before .before .loop-test .taken)
+    (c .before .before .before .before .before .before .before .before .before .before .before .before .before .before .before .before .before .before .before .pre .1 .0)
+    (c .before .before .before .before .before .before .before .before .before .before .before .before .before .before .before .before .before .before .before .pre .1 .1 .0)
+    (c .before .before .before .before .before .before .before .before .before .before .before .before .before .before .before .before .before .before .before .pre .1 .1 .1 .1 .1 .1 .1 .1 .1)
     (c .before .before .before .before .before .before .before .before .before .before .hint-for .ensures) (c .before .before .before .before .before .before .before .step-attribute .ensures)
-    (c .before .before .before .before .before .before .before .step-attribute .kept .1 .1 .1 .1 .1 .1 .1 .1 .0 ∙ length-take-le (c .before .before .before .before .before .before .before .before .before .before .before .before .before .before .before .before .before .before .before .args .k) (c .before .before .before .before .before .before .before .before .before .before .before .before .before .before .loop .own) (let o = c .before .before .before .before .before .before .before .before .before .before .before .before .before .before .loop .inv .own-same in omega (arith, c .before .before .before .before .before .before .before .before .before .before .before .before .before .before .before .before .before .before .before .pre .1 .1 .0))) refl (c .before .step2 .given .1)
+    (c .before .before .before .before .before .before .before .step-attribute .kept .1 .1 .1 .1 .1 .1 .1 .1 .0
+    ∙ length-take-le (c .before .before .before .before .before .before .before .before .before .before .before .before .before .before .before .before .before .before .before .args .k)
+    (c .before .before .before .before .before .before .before .before .before .before .before .before .before .before .loop .own)
+    (let o = c .before .before .before .before .before .before .before .before .before .before .before .before .before .before .loop .inv .own-same in
+    omega (arith, c .before .before .before .before .before .before .before .before .before .before .before .before .before .before .before .before .before .before .before .pre .1 .1 .0)))
+    refl (c .before .step2 .given .1)
 
 same-length-3 : tie.Need-same-length-3 Inv-loop μ-loop
 same-length-3 c = c .before .loop .inv .own-same

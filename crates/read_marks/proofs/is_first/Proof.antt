@@ -29,7 +29,8 @@ comes-cleaned-requires c κs = search needs
 returns-2 : tie.Need-returns-2
 returns-2 c =
     let args = c .before .before .before .before .before .before .before .before .before .args in
-    λ h. leads-other (args .attributes .now) (args .source .now) (numbersIn (args .bytes .now)) (args .p) (c .before .before .before .before .number-at .ensures .0) (c .before .before .before .number-at2 .ensures .0)
+    λ h. leads-other (args .attributes .now) (args .source .now) (numbersIn (args .bytes .now)) (args .p)
+    (c .before .before .before .before .number-at .ensures .0) (c .before .before .before .number-at2 .ensures .0)
     (c .before .before .key-of .ensures) (c .before .key-of2 .ensures) (c .comes-cleaned .ensures) h
 
 pub is-first-spec : {M : Type 1} → statement M

@@ -22,7 +22,8 @@ cast-sort : tie.Need-cast-sort
 cast-sort c = search needs
 
 sort-requires : tie.Need-sort-requires
-sort-requires c κs = let pre = c .before .before .before .before .before .pre in (omega (arith, pre .1 .1 .1 .0, length-numbers (c .before .before .before .before .before .args .bytes .now)), omega (arith, pre .0, pre .1 .0))
+sort-requires c κs = let pre = c .before .before .before .before .before .pre in
+    (omega (arith, pre .1 .1 .1 .0, length-numbers (c .before .before .before .before .before .args .bytes .now)), omega (arith, pre .0, pre .1 .0))
 
 add-e : tie.Need-add-e
 add-e c = omega (arith, c .before .before .before .before .before .before .before .before .pre .0, c .before .before .before .before .before .before .before .before .pre .1 .0)
@@ -32,7 +33,8 @@ slice-reshare-prefix-put-marks c = let k = c .before .before .sort .kept .1 .1 .
 
 slice-aggregate-put-marks : tie.Need-slice-aggregate-put-marks
 slice-aggregate-put-marks c =
-    let k = c .before .before .before .sort .kept .1 .1 .1 .1 .0 in let n = c .before .before .before .before .before .before .before .before .before .args .end - c .before .before .before .before .before .before .before .before .before .args .first in
+    let k = c .before .before .before .sort .kept .1 .1 .1 .1 .0 in
+    let n = c .before .before .before .before .before .before .before .before .before .args .end - c .before .before .before .before .before .before .before .before .before .args .first in
     sym (length-take-le (n + n) (c .before .before .before .sort .last .1 .1 .1 .1 .0) (omega (arith, k, c .before .before .before .before .before .before .before .before .before .pre .1 .1 .1 .0)))
 
 put-marks-requires : tie.Need-put-marks-requires
@@ -64,7 +66,10 @@ same-length-2 : tie.Need-same-length-2
 same-length-2 c = search needs
 
 returns : tie.Need-returns
-returns c = (c .before .before .before .before .before .before .put-marks .ensures, c .before .before .clear .ensures ∙ ap zeros (c .before .before .before .before .before .before .before .before .before .before .before .sort .kept .1 .1 .1 .1 .0))
+returns c = (
+  c .before .before .before .before .before .before .put-marks .ensures,
+  c .before .before .clear .ensures ∙ ap zeros (c .before .before .before .before .before .before .before .before .before .before .before .sort .kept .1 .1 .1 .1 .0),
+)
 
 pub mark-keys-spec : {M : Type 1} → statement M
 mark-keys-spec =

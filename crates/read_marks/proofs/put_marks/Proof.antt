@@ -25,7 +25,8 @@ number-at-requires : tie.Need-number-at-requires Inv-loop μ-loop
 number-at-requires c κs = omega (arith, c .loop-test .taken, c .before .loop .inv .1 .1 .1, length-numbers (c .before .before .before .before .before .before .args .bytes .now))
 
 is-first-requires : tie.Need-is-first-requires Inv-loop μ-loop
-is-first-requires c κs = omega (arith, c .before .loop-test .taken, c .before .before .loop .inv .1 .1 .1, length-numbers (c .before .before .before .before .before .before .before .args .bytes .now))
+is-first-requires c κs =
+    omega (arith, c .before .loop-test .taken, c .before .before .loop .inv .1 .1 .1, length-numbers (c .before .before .before .before .before .before .before .args .bytes .now))
 
 chosen-requires : tie.Need-chosen-requires Inv-loop μ-loop
 chosen-requires c κs = search needs
@@ -34,13 +35,23 @@ wide-requires : tie.Need-wide-requires Inv-loop μ-loop
 wide-requires c κs = search needs
 
 mark-of-requires : tie.Need-mark-of-requires Inv-loop μ-loop
-mark-of-requires c κs = lead-low (c .before .before .before .is-first .result) (c .before .before .chosen .ensures) (c .before .before .before .before .number-at .ensures .1) (c .before .before .before .before .before .before .loop .inv .1 .0)
+mark-of-requires c κs = lead-low (c .before .before .before .is-first .result) (c .before .before .chosen .ensures)
+    (c .before .before .before .before .number-at .ensures .1) (c .before .before .before .before .before .before .loop .inv .1 .0)
 
 put-mark-requires : tie.Need-put-mark-requires Inv-loop μ-loop
-put-mark-requires c κs = omega (arith, c .before .before .before .before .before .before .before .before .before .before .before .before .pre .1 .0, c .before .before .before .before .before .before .before .loop .inv .1 .1 .0)
+put-mark-requires c κs = omega (
+  arith,
+  c .before .before .before .before .before .before .before .before .before .before .before .before .pre .1 .0,
+  c .before .before .before .before .before .before .before .loop .inv .1 .1 .0,
+)
 
 add-p : tie.Need-add-p Inv-loop μ-loop
-add-p c = omega (arith, c .before .before .before .before .before .before .before .before .before .loop-test .taken, c .before .before .before .before .before .before .before .before .before .before .loop .inv .1 .1 .1, c .before .before .before .before .before .before .before .before .before .before .before .before .before .before .before .good)
+add-p c = omega (
+  arith,
+  c .before .before .before .before .before .before .before .before .before .loop-test .taken,
+  c .before .before .before .before .before .before .before .before .before .before .loop .inv .1 .1 .1,
+  c .before .before .before .before .before .before .before .before .before .before .before .before .before .before .before .good,
+)
 
 loop-less : tie.Need-loop-less Inv-loop μ-loop
 loop-less c = omega (arith, c .before .before .before .before .before .before .before .before .before .loop-test .taken)
@@ -51,13 +62,19 @@ loop-again c =
     let pre = c .before .before .before .before .before .before .before .before .before .before .before .before .before .before .before .pre in
     let i = c .before .before .before .before .before .before .before .before .before .before .loop .inv in
     let p = c .before .before .before .before .before .before .before .before .before .before .loop .p in
-    let h : p < length (numbersIn (s .bytes .now)) = omega (arith, c .before .before .before .before .before .before .before .before .before .loop-test .taken, i .1 .1 .1, length-numbers (s .bytes .now)) in
+    let h : p < length (numbersIn (s .bytes .now)) =
+    omega (arith, c .before .before .before .before .before .before .before .before .before .loop-test .taken, i .1 .1 .1, length-numbers (s .bytes .now)) in
     let e = c .before .before .before .before .wide .ensures ∙ c .before .before .before .before .before .before .before .before .number-at .ensures .0 in (
       marks-put (s .attributes .now) (s .source .now) (c .before .before .before .before .before .before .before .before .before .before .loop .words) (i .0) (omega (arith, pre .1 .0, i .1 .1 .0))
           (λ m f o. leads-new (s .attributes .now) (s .source .now) (numbersIn (s .bytes .now)) (s .first) (s .end) (pre .0) (pre .1 .1 .0)
-          (c .before .before .before .before .wide .result) p f o h (sym e) (c .before .before .before .before .before .before .before .is-first .ensures (c .before .before .before .mark-of .ensures m)))
+          (c .before .before .before .before .wide .result) p f o h (sym e)
+          (c .before .before .before .before .before .before .before .is-first .ensures (c .before .before .before .mark-of .ensures m)))
           (c .before .before .put-mark .ensures),
-      (lead-low (c .before .before .before .before .before .before .before .is-first .result) (c .before .before .before .before .before .before .chosen .ensures) (c .before .before .before .before .before .before .before .before .number-at .ensures .1) (i .1 .0), (c .before .before .put-mark .kept .0 ∙ i .1 .1 .0, i .1 .1 .1)),
+      (
+        lead-low (c .before .before .before .before .before .before .before .is-first .result) (c .before .before .before .before .before .before .chosen .ensures)
+            (c .before .before .before .before .before .before .before .before .number-at .ensures .1) (i .1 .0),
+        (c .before .before .put-mark .kept .0 ∙ i .1 .1 .0, i .1 .1 .1),
+      ),
     )
 
 same-length : tie.Need-same-length Inv-loop μ-loop

@@ -116,7 +116,8 @@ step-ready-requires c κs =
     let x = c .before .before .before .before .before .before .before .before .before .plan in
     let f = c .before .before .before .before .range-at in
     let y = c .before .before .before .plain in
-    let piece = sym (c .before .before .before .before .before .before .before .before .before .before .before .is-piece .ensures) ∙ c .before .before .before .before .before .before .before .before .before .before .if1 .left in
+    let piece = sym (c .before .before .before .before .before .before .before .before .before .before .before .is-piece .ensures)
+    ∙ c .before .before .before .before .before .before .before .before .before .before .if1 .left in
     let skip = sym (c .before .before .before .before .before .before .before .before .is-skip .ensures) ∙ c .before .before .before .before .before .before .before .if2 .left in
     let stop = sym (c .before .before .before .before .before .before .is-stop .ensures) ∙ c .before .before .before .before .before .if3 .left in
     let known : Known (now (a .events)) = λ i h. event (now (a .events)) (now (a .attributes)) (now (a .source)) (p .0) i h .kind in (
@@ -152,13 +153,18 @@ has-content-requires c κs = search needs
 
 pass-content-requires : tie.Need-pass-content-requires
 pass-content-requires c κs =
-    let a = c .before .before .before .before .before .before .before .before .before .before .before .before .before .before .before .before .before .before .before .before .before .before .before .before .before .before .before .before .before .before .args in
-    let p = c .before .before .before .before .before .before .before .before .before .before .before .before .before .before .before .before .before .before .before .before .before .before .before .before .before .before .before .before .before .before .pre in
-    let k = c .before .before .before .before .before .before .before .before .before .before .before .before .before .before .before .before .before .before .before .before .before .before .kind-at in
+    let a = c .before .before .before .before .before .before .before .before .before .before .before .before .before .before .before
+    .before .before .before .before .before .before .before .before .before .before .before .before .before .before .before .args in
+    let p = c .before .before .before .before .before .before .before .before .before .before .before .before .before .before .before
+    .before .before .before .before .before .before .before .before .before .before .before .before .before .before .before .pre in
+    let k =
+    c .before .before .before .before .before .before .before .before .before .before .before .before .before .before .before .before .before .before .before .before .before .before .kind-at in
     let b = c .before .before .before .before .before .before .before .before .before .before .before .before .before .before .before .before .before .before .before .before .before .bytes-at in
     let x = c .before .before .before .before .before .before .before .before .before .before .before .before .before .before .before .before .before .before .plan in
     let f = c .before .before .before .before .before .before .before .before .before .before .before .before .before .range-at in
-    let piece = sym (c .before .before .before .before .before .before .before .before .before .before .before .before .before .before .before .before .before .before .before .before .is-piece .ensures) ∙ c .before .before .before .before .before .before .before .before .before .before .before .before .before .before .before .before .before .before .before .if1 .left in
+    let piece =
+    sym (c .before .before .before .before .before .before .before .before .before .before .before .before .before .before .before .before .before .before .before .before .is-piece .ensures)
+    ∙ c .before .before .before .before .before .before .before .before .before .before .before .before .before .before .before .before .before .before .before .if1 .left in
     let o = sym (c .before .has-content .ensures) ∙ c .if4 .taken in
     let w = property-way unlimited (now (a .events)) (now (a .attributes)) (now (a .source)) (p .0) (a .st) (p .1 .1 .1 .1 .content) (k .result) (now (b .result)) (k .ensures) (b .ensures)
     piece (reads (a .st .control) (k .result) (now (b .result)) (x .result) (x .ensures .0) o)
@@ -176,16 +182,22 @@ same-length-4 c = search needs
 
 returns-4 : tie.Need-returns-4
 returns-4 c =
-    let a = c .before .before .before .before .before .before .before .before .before .before .before .before .before .before .before .before .before .before .before .before .before .before .before .before .before .before .before .before .before .before .before .args in
-    let p = c .before .before .before .before .before .before .before .before .before .before .before .before .before .before .before .before .before .before .before .before .before .before .before .before .before .before .before .before .before .before .before .pre in
-    let k = c .before .before .before .before .before .before .before .before .before .before .before .before .before .before .before .before .before .before .before .before .before .before .before .kind-at in
-    let b = c .before .before .before .before .before .before .before .before .before .before .before .before .before .before .before .before .before .before .before .before .before .before .bytes-at in
+    let a = c .before .before .before .before .before .before .before .before .before .before .before .before .before .before .before .before
+    .before .before .before .before .before .before .before .before .before .before .before .before .before .before .before .args in
+    let p = c .before .before .before .before .before .before .before .before .before .before .before .before .before .before .before .before
+    .before .before .before .before .before .before .before .before .before .before .before .before .before .before .before .pre in
+    let k = c .before .before .before .before .before .before .before .before .before .before .before .before
+    .before .before .before .before .before .before .before .before .before .before .before .kind-at in
+    let b =
+    c .before .before .before .before .before .before .before .before .before .before .before .before .before .before .before .before .before .before .before .before .before .before .bytes-at in
     let x = c .before .before .before .before .before .before .before .before .before .before .before .before .before .before .before .before .before .before .before .plan in
     let f = c .before .before .before .before .before .before .before .before .before .before .before .before .before .before .range-at in
     let y = c .before .before .before .before .before .before .before .before .before .before .before .before .before .plain in
     let s = c .before .before .before .before .before .before .before .before .before .step-ready in
     let z = c .pass-content in
-    let piece = sym (c .before .before .before .before .before .before .before .before .before .before .before .before .before .before .before .before .before .before .before .before .before .is-piece .ensures) ∙ c .before .before .before .before .before .before .before .before .before .before .before .before .before .before .before .before .before .before .before .before .if1 .left in
+    let piece = sym
+    (c .before .before .before .before .before .before .before .before .before .before .before .before .before .before .before .before .before .before .before .before .before .is-piece .ensures)
+    ∙ c .before .before .before .before .before .before .before .before .before .before .before .before .before .before .before .before .before .before .before .before .if1 .left in
     let o = sym (c .before .before .has-content .ensures) ∙ c .before .if4 .taken in
     let e = y .ensures ∙ plain-read (x .result) o in
     let n = bytesAt (now (a .events)) (now (a .source)) (a .st .marks .event) in
@@ -212,16 +224,22 @@ same-length-7 c = search needs
 
 returns-5 : tie.Need-returns-5
 returns-5 c =
-    let a = c .before .before .before .before .before .before .before .before .before .before .before .before .before .before .before .before .before .before .before .before .before .before .before .before .before .before .before .before .before .before .args in
-    let p = c .before .before .before .before .before .before .before .before .before .before .before .before .before .before .before .before .before .before .before .before .before .before .before .before .before .before .before .before .before .before .pre in
-    let k = c .before .before .before .before .before .before .before .before .before .before .before .before .before .before .before .before .before .before .before .before .before .before .kind-at in
+    let a = c .before .before .before .before .before .before .before .before .before .before .before .before .before .before .before
+    .before .before .before .before .before .before .before .before .before .before .before .before .before .before .before .args in
+    let p = c .before .before .before .before .before .before .before .before .before .before .before .before .before .before .before
+    .before .before .before .before .before .before .before .before .before .before .before .before .before .before .before .pre in
+    let k =
+    c .before .before .before .before .before .before .before .before .before .before .before .before .before .before .before .before .before .before .before .before .before .before .kind-at in
     let b = c .before .before .before .before .before .before .before .before .before .before .before .before .before .before .before .before .before .before .before .before .before .bytes-at in
     let x = c .before .before .before .before .before .before .before .before .before .before .before .before .before .before .before .before .before .before .plan in
     let f = c .before .before .before .before .before .before .before .before .before .before .before .before .before .range-at in
     let y = c .before .before .before .before .before .before .before .before .before .before .before .before .plain in
     let s = c .before .before .before .before .before .before .before .before .step-ready in
-    let piece = sym (c .before .before .before .before .before .before .before .before .before .before .before .before .before .before .before .before .before .before .before .before .is-piece .ensures) ∙ c .before .before .before .before .before .before .before .before .before .before .before .before .before .before .before .before .before .before .before .if1 .left in
-    let stop = sym (c .before .before .before .before .before .before .before .before .before .before .before .before .before .before .before .is-stop .ensures) ∙ c .before .before .before .before .before .before .before .before .before .before .before .before .before .before .if3 .left in
+    let piece =
+    sym (c .before .before .before .before .before .before .before .before .before .before .before .before .before .before .before .before .before .before .before .before .is-piece .ensures)
+    ∙ c .before .before .before .before .before .before .before .before .before .before .before .before .before .before .before .before .before .before .before .if1 .left in
+    let stop = sym (c .before .before .before .before .before .before .before .before .before .before .before .before .before .before .before .is-stop .ensures)
+    ∙ c .before .before .before .before .before .before .before .before .before .before .before .before .before .before .if3 .left in
     let e = y .ensures ∙ plain-same (x .result) (sym (c .before .has-content .ensures) ∙ c .if4 .left) in
     let n = nameIn (k .result) (now (b .result)) in
     let q = ap (λ (v : CodedAct). actOf (a .st .control) n v) e ∙ x .ensures .0 in
