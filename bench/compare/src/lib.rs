@@ -1,0 +1,21 @@
+//! The comparison of the proved library with quick-junit 0.8.0 and with expat, in one process. See README.md beside this.
+pub mod calls;
+pub mod compare;
+pub mod explain;
+pub mod generator;
+pub mod random;
+pub mod reference;
+pub mod report;
+pub mod respelling;
+pub mod shrink;
+#[path = "../../../ports/rust/src/sys.rs"]
+#[allow(dead_code)]
+pub mod sys;
+pub mod table;
+#[cfg(writes_xml)]
+pub mod write_xml;
+
+/// What the requests that have landed changed (docs/DIFFERENCES.md); 3 and 7 stand in `respelling`.
+pub fn changes() -> quick_xml::replay::Changes {
+    quick_xml::replay::Changes { scratch_alone: false, hostname: false }
+}
