@@ -154,7 +154,8 @@ impl Bench {
                 self.tally.accepted += 1;
                 self.listing(input, read, areas, words, &mut r)?;
                 self.starts(read)?;
-                self.writing(read, &mut r)
+                self.writing(read, &mut r)?;
+                if r.one(4) { self.spoiled(input, areas, words, &mut r) } else { Ok(()) }
             }
             Err(refused) => {
                 self.tally.refused += 1;
@@ -292,8 +293,14 @@ impl Bench {
         self.explaining(input, refused, areas, words, r)
     }
 
-    /// The line of a refusal (rules E1 to E6).
+    /// The line of a refusal (rules E1 to E6), and now and then of one that no call gives.
     fn explaining(&mut self, input: &Input, refused: &Refused, areas: Areas, words: usize, r: &mut Random) -> Compared {
+        let mut refused = refused.clone();
+        if r.one(8) && !refused.path.is_empty() && refused.number != 11 {
+            let (i, word) = (r.index(refused.path.len()), r.index(3));
+            refused.path[i][word] = [0, 2, 3, 5, 13, 16, 17, 99, r.index(input.table.events.len() + 2) as u32, NONE][r.index(10)];
+        }
+        let refused = &refused;
         let lent = match refused.number {
             12 => words,
             13 => areas.text,
@@ -377,6 +384,47 @@ impl Bench {
         check(is_zero(&events[5 * n..]) && is_zero(&attributes[5 * m..]) && is_clear(&bytes[k..]), || "writing: zeros behind the table".into())?;
         self.document(read, &document, r)?;
         if r.one(4) { self.round_trip(read, Input::new(want)) } else { Ok(()) }
+    }
+
+    /// Trees that reading never leaves: with a dead record more, which changes nothing (rule M13), and with a word or byte changed, which is
+    /// no layout or one whose fields can be told (M10); listing, writing and starts refuse what is no layout.
+    fn spoiled(&mut self, input: &Input, areas: Areas, words: usize, r: &mut Random) -> Compared {
+        self.lend(words, areas.text, areas.scratch, 3);
+        sys::read(&input.events(), &input.attributes(), &input.table.source, &mut self.records, &mut self.text, &mut self.scratch);
+        let (mut records, mut text) = (self.records.clone(), self.text.clone());
+        let taken = (0..records.len() / 32).position(|i| records[32 * i] == 0).unwrap_or(records.len() / 32);
+        let list = |records: &[u32], text: &[u8]| {
+            let mut out = vec![7u8; 40_000 + 8 * text.len() * (taken + 2)];
+            let l = sys::list(records, text, &mut out);
+            (l.refusal.number, out[..l.length].to_vec())
+        };
+        if r.one(2) {
+            let before = list(&records, &text);
+            let mut dead: Vec<u32> = (0..32).map(|_| r.next() as u32).collect();
+            dead[0] = 17 + r.below(14) as u32;
+            let at = 32 * r.index(taken + 1);
+            records.truncate(32 * taken);
+            records.splice(at..at, dead);
+            hit!("M13", "a dead record anywhere");
+            let good = sys::is_layout(&records, &text) && list(&records, &text) == before;
+            return check(good, || format!("a dead record of kind {} before record {} changes something", records[at], at / 32));
+        }
+        if text.is_empty() || r.below(4) > 0 {
+            let at = 32 * r.index(taken) + r.index(32);
+            records[at] = [0, 1, 2, 3, 6, 8, 9, 11, 13, 14, 17, records[at] ^ 1, records[at] ^ 1 << r.below(32), u32::MAX][r.index(14)];
+        } else {
+            let at = r.index(text.len());
+            text[at] = [0, 1, 0x80, 0xc3, 0xff, b'a'][r.index(6)];
+        }
+        let good = sys::is_layout(&records, &text);
+        hit_if!(good, "M10", "a changed tree that is a layout", "a changed tree that is none");
+        let told = tree_fields(&records, &text);
+        check(!good || told.is_ok(), || format!("a layout by the call, but {}", told.as_ref().unwrap_err()))?;
+        let (listed, starts) = (list(&records, &text).0, sys::starts(&records, &text).refusal.number);
+        let (mut e, mut a, mut b) = (vec![7; 400 * (taken + 2)], vec![7; 200 * (taken + 2)], vec![7; 4000 + 50 * text.len() * (taken + 2)]);
+        let written = sys::write(&records, &text, &mut e, &mut a, &mut b).refusal.number;
+        let want = if good { 0 } else { 15 };
+        check((listed, starts, written) == (want, want, want), || format!("a tree that {} a layout: listing {listed}, starts {starts}, writing {written}", if good { "is" } else { "isn't" }))
     }
 
     /// The written table read again, here and by the crate; of a plain report it is the report.

@@ -12,6 +12,8 @@ use std::collections::HashMap;
 pub struct Sentences {
     of_cause: Vec<(String, Option<String>)>,
     pub of_document: HashMap<String, String>,
+    /// How many attributes have a name in paths: 16 where `hostname` is one.
+    pub attributes: usize,
 }
 
 const CAUSES: [&str; 25] = [
@@ -54,16 +56,16 @@ impl Sentences {
         }
         match of_cause.iter().position(|s| s.0.is_empty()) {
             Some(i) => Err(format!("docs/REFUSALS.md has no sentence of {}", CAUSES[i])),
-            None => Ok(Sentences { of_cause, of_document }),
+            None => Ok(Sentences { of_cause, of_document, attributes: 15 }),
         }
     }
 
     pub fn line(&self, r: &Refused, lent: usize, table: &Table) -> String {
         let mut out = format!("refused {}", r.number);
         hit_if!(r.path.is_empty(), "E1", "without a path", "with a path");
-        for (i, element) in r.path.iter().enumerate() {
+        for (i, element) in r.path.iter().take(6).enumerate() {
             out.push_str(if i == 0 { " at " } else { "/" });
-            put_element(&mut out, element, table);
+            put_element(&mut out, element, table, self.attributes);
         }
         out.push_str(": ");
         let limit = if r.number == 12 { 65_536 * 32 } else { 16_777_216 };
@@ -119,7 +121,7 @@ impl Sentences {
 }
 
 /// Rules E2 and E3.
-fn put_element(out: &mut String, [kind, index, event]: &[u32; 3], table: &Table) {
+fn put_element(out: &mut String, [kind, index, event]: &[u32; 3], table: &Table, attributes: usize) {
     const NAMES: [&str; 16] = [
         "testsuites", "testsuite", "testcase", "properties", "property", "failure", "error", "skipped", "flakyFailure", "flakyError", "rerunFailure",
         "rerunError", "?", "system-out", "system-err", "@",
@@ -128,7 +130,11 @@ fn put_element(out: &mut String, [kind, index, event]: &[u32; 3], table: &Table)
         "name", "classname", "uuid", "timestamp", "time", "tests", "failures", "errors", "skipped", "disabled", "assertions", "message", "type",
         "value", "stackTrace", "hostname",
     ];
-    out.push_str(NAMES[*kind as usize - 1]);
+    let known = (1..=16).contains(kind) && *kind != 13;
+    if !known {
+        hit!("E4", "a kind that isn't there");
+    }
+    out.push_str(if known { NAMES[*kind as usize - 1] } else { "?" });
     match kind {
         2 | 3 | 5 => {
             hit!("E2", "an index");
@@ -136,11 +142,15 @@ fn put_element(out: &mut String, [kind, index, event]: &[u32; 3], table: &Table)
         }
         16 => {
             hit!("E2", "an attribute");
-            out.push_str(KEYS[*index as usize - 1])
+            let there = (1..=attributes as u32).contains(index);
+            if !there {
+                hit!("E4", "an attribute that isn't there");
+            }
+            out.push_str(if there { KEYS[*index as usize - 1] } else { "?" })
         }
         _ => hit!("E2", "a name alone"),
     }
-    if matches!(kind, 2 | 3) && *event != NONE {
+    if matches!(kind, 2 | 3) {
         match name_of(*event, table) {
             Some(name) => {
                 hit!("E3", "a name");
@@ -155,8 +165,9 @@ fn put_element(out: &mut String, [kind, index, event]: &[u32; 3], table: &Table)
 
 fn name_of(event: u32, table: &Table) -> Option<String> {
     let [_, _, _, first, count] = *table.events.get(event as usize)?;
-    let attributes = &table.attributes[first as usize..(first + count) as usize];
-    let name = attributes.iter().find(|a| table.part(a[1], a[2]) == b"name")?;
-    let value = std::str::from_utf8(table.part(name[3], name[4])).ok()?;
+    let part = |start: u32, length: u32| table.source.get(start as usize..(start as u64 + length as u64) as usize);
+    let attributes = table.attributes.get(first as usize..(first as u64 + count as u64) as usize)?;
+    let name = attributes.iter().find(|a| part(a[1], a[2]) == Some(b"name"))?;
+    let value = std::str::from_utf8(part(name[3], name[4])?).ok()?;
     decoded(value).map(|v| filtered(&v))
 }

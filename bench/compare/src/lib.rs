@@ -1,8 +1,16 @@
 //! The comparison of the proved library with quick-junit 0.8.0 and with expat, in one process. See README.md beside this.
+pub mod builders;
 pub mod calls;
 pub mod compare;
+pub mod coverage;
+pub mod documents;
+#[cfg(has_expat)]
+pub mod expat;
 pub mod explain;
+pub mod fixed;
 pub mod generator;
+pub mod lenient;
+pub mod numbers;
 pub mod random;
 pub mod reference;
 pub mod report;
@@ -12,6 +20,8 @@ pub mod shrink;
 #[allow(dead_code)]
 pub mod sys;
 pub mod table;
+#[cfg(has_expat)]
+pub mod tokens;
 #[cfg(writes_xml)]
 pub mod write_xml;
 

@@ -1,21 +1,385 @@
-use compare::{changes, compare::Bench, explain::Sentences, generator::Generator, random::Random, shrink::shrunk};
-fn main() {
-    let n: u64 = std::env::args().nth(1).unwrap().parse().unwrap();
-    if let Some(w) = std::env::args().nth(2) { assert!(compare::calls::ask_for(&w)); }
-    let page = std::fs::read_to_string(concat!(env!("CARGO_MANIFEST_DIR"), "/../../docs/REFUSALS.md")).unwrap();
-    let mut bench = Bench::new(changes(), Sentences::from_page(&page).unwrap());
-    let began = std::time::Instant::now();
-    let mut bad = 0;
-    for seed in 0..n {
-        let input = Generator::new(Random::new(seed), "mix").table();
-        if let Err(e) = bench.table(&input, seed) {
-            println!("seed {seed}: {e}");
-            let small = shrunk(&input, &mut |i| bench.table(i, seed).is_err());
-            println!("{}", small.shown());
-            println!("{}", bench.table(&small, seed).unwrap_err());
-            bad += 1;
-            if bad > 3 { break; }
+//! See ../README.md.
+use compare::{
+    changes,
+    compare::Bench,
+    coverage::Coverage,
+    explain::Sentences,
+    fixed,
+    generator::{Generator, PROFILES},
+    random::Random,
+    shrink::shrunk,
+    table::Input,
+};
+use std::{
+    collections::BTreeMap,
+    env, fs,
+    io::{BufRead, BufReader, Write},
+    path::{Path, PathBuf},
+    process::{exit, Command, Stdio},
+    time::Instant,
+};
+
+const USAGE: &str = "usage: compare N                 N tables against the crate
+       compare --xml N           N documents against expat
+       compare --mutate N PATH.. N changed copies of the tables and documents in these files and folders, against both
+       compare --file FILE       one table (as the program `list` takes it) or document, compared and shown
+       compare --tables N        N tables to standard output, each behind its length as a word
+options: --seed S (the first seed, 0), --profile P, --jobs J (processes, 2), --most D (differences to be shown, 5),
+         --rules (every counter), --allow-unreached (rules that are never reached are no failure),
+         --wrong W (the library's answers are spoiled; `--wrong list` names the ways)";
+
+#[derive(Clone, PartialEq)]
+enum Mode {
+    Tables,
+    Documents,
+    Mutate(Vec<PathBuf>),
+}
+
+struct Options {
+    mode: Mode,
+    count: u64,
+    seed: u64,
+    profile: String,
+    jobs: u64,
+    part: Option<u64>,
+    most: u64,
+    rules: bool,
+    allow_unreached: bool,
+}
+
+fn usage() -> ! {
+    eprintln!("{USAGE}");
+    exit(2)
+}
+
+fn page(name: &str) -> String {
+    let path = Path::new(env!("CARGO_MANIFEST_DIR")).join("../../docs").join(name);
+    fs::read_to_string(&path).unwrap_or_else(|e| panic!("{}: {e}", path.display()))
+}
+
+fn bench() -> Bench {
+    let sentences = Sentences::from_page(&page("REFUSALS.md")).unwrap_or_else(|e| panic!("{e}"));
+    Bench::new(changes(), sentences)
+}
+
+fn number(word: Option<String>) -> u64 {
+    word.and_then(|w| w.replace(['_', ','], "").parse().ok()).unwrap_or_else(|| usage())
+}
+
+fn options() -> Options {
+    let mut o = Options {
+        mode: Mode::Tables,
+        count: 0,
+        seed: 0,
+        profile: "mix".into(),
+        jobs: 2,
+        part: None,
+        most: 5,
+        rules: false,
+        allow_unreached: false,
+    };
+    let mut words = env::args().skip(1);
+    let mut paths = vec![];
+    while let Some(word) = words.next() {
+        match word.as_str() {
+            "--xml" => o.mode = Mode::Documents,
+            "--mutate" => o.mode = Mode::Mutate(vec![]),
+            "--seed" => o.seed = number(words.next()),
+            "--jobs" => o.jobs = number(words.next()).max(1),
+            "--part" => o.part = Some(number(words.next())),
+            "--most" => o.most = number(words.next()),
+            "--rules" => o.rules = true,
+            "--allow-unreached" => o.allow_unreached = true,
+            "--profile" => o.profile = words.next().filter(|p| PROFILES.contains(&p.as_str())).unwrap_or_else(|| usage()),
+            "--file" => exit(show_file(&PathBuf::from(words.next().unwrap_or_else(|| usage())))),
+            "--tables" => exit(put_tables(number(words.next()))),
+            "--wrong" => {
+                let name = words.next().unwrap_or_default();
+                if name == "list" {
+                    compare::calls::WRONG.iter().for_each(|(n, what)| println!("{n}: {what}"));
+                    exit(0);
+                }
+                if !compare::calls::ask_for(&name) {
+                    usage();
+                }
+            }
+            w if w.starts_with("--") => usage(),
+            w if w.bytes().all(|b| b.is_ascii_digit() || b == b',' || b == b'_') && o.count == 0 => o.count = number(Some(word)),
+            _ => paths.push(PathBuf::from(word)),
         }
     }
-    println!("{:?} in {:.1} s", bench.tally, began.elapsed().as_secs_f64());
+    if let Mode::Mutate(list) = &mut o.mode {
+        *list = paths.clone();
+    }
+    if o.count == 0 || (paths.is_empty() == matches!(o.mode, Mode::Mutate(_))) {
+        usage();
+    }
+    o
+}
+
+/// So many tables, each behind its length, for programs in other languages.
+fn put_tables(n: u64) -> i32 {
+    let mut out = std::io::BufWriter::new(std::io::stdout().lock());
+    for seed in 0..n {
+        let bytes = Generator::new(Random::new(seed), "mix").table().to_bytes();
+        let done = out.write_all(&(bytes.len() as u32).to_le_bytes()).and_then(|_| out.write_all(&bytes));
+        if done.is_err() {
+            return 1;
+        }
+    }
+    out.flush().is_err() as i32
+}
+
+fn show_file(path: &Path) -> i32 {
+    let bytes = fs::read(path).unwrap_or_else(|e| panic!("{}: {e}", path.display()));
+    let mut bench = bench();
+    let result = match Input::from_bytes(&bytes) {
+        Some(input) => {
+            print!("{}", input.shown());
+            (0..64).try_for_each(|how| bench.table(&input, how))
+        }
+        None => document(&bytes, &mut bench),
+    };
+    match result {
+        Ok(()) => println!("no difference"),
+        Err(e) => println!("{e}"),
+    }
+    0
+}
+
+#[cfg(has_expat)]
+fn document(bytes: &[u8], bench: &mut Bench) -> Result<(), String> {
+    let mut tokens = compare::tokens::Tokens::new();
+    (0..64).try_for_each(|how| tokens.document(bytes, how, bench))
+}
+
+#[cfg(not(has_expat))]
+fn document(_: &[u8], _: &mut Bench) -> Result<(), String> {
+    Err("this was built without expat (libexpat1-dev)".into())
+}
+
+// ---- one part of a run
+
+struct Part {
+    bench: Bench,
+    differences: u64,
+    most: u64,
+}
+
+impl Part {
+    /// A difference in a table, shrunk to the smallest one that still differs.
+    fn differs(&mut self, what: &str, input: &Input, how: u64) {
+        let small = shrunk(input, &mut |i| self.bench.table(i, how).is_err());
+        let why = self.bench.table(&small, how).err().unwrap_or_default();
+        self.tell(format!("{what} differs; the smallest table that does:\n{}{why}", small.shown()));
+    }
+
+    fn tell(&mut self, text: String) {
+        self.differences += 1;
+        if self.differences <= self.most {
+            println!("{text}\n");
+        }
+    }
+}
+
+fn run_tables(o: &Options, from: u64, to: u64, part: &mut Part) {
+    if from == o.seed {
+        for (name, input) in fixed::tables() {
+            if let Err(e) = (0..8).try_for_each(|how| part.bench.table(&input, how)) {
+                part.tell(format!("{name} differs: {e}"));
+            }
+        }
+    }
+    for seed in from..to {
+        let input = Generator::new(Random::new(seed), &o.profile).table();
+        if part.bench.table(&input, seed).is_err() {
+            part.differs(&format!("seed {seed}"), &input, seed);
+        }
+        if seed % 4 == 0 {
+            if let Err(e) = part.bench.building(seed) {
+                part.tell(format!("seed {seed}: {e}"));
+            }
+        }
+        if seed % 8 == 1 {
+            let (a, b) = Generator::new(Random::new(seed ^ 0x5555_0000_0000), &o.profile).pair();
+            if let Err(e) = part.bench.pair(&a, &b, seed) {
+                part.tell(format!("seed {seed}: {e}\n{}{}", a.shown(), b.shown()));
+            }
+        }
+        if seed % 8 == 2 {
+            if let Err(e) = part.bench.numbers(seed) {
+                part.tell(format!("seed {seed}: {e}"));
+            }
+        }
+    }
+}
+
+#[cfg(not(has_expat))]
+fn run_documents(_: &Options, _: u64, _: u64, _: &mut Part) -> Vec<(&'static str, u64)> {
+    eprintln!("this was built without expat: install libexpat1-dev and build again");
+    exit(2)
+}
+
+#[cfg(has_expat)]
+fn run_documents(o: &Options, from: u64, to: u64, part: &mut Part) -> Vec<(&'static str, u64)> {
+    use compare::{documents::Documents, shrink::shrunk_bytes, table::quoted, tokens::Tokens};
+    let files = match &o.mode {
+        Mode::Mutate(paths) => files_of(paths),
+        _ => vec![],
+    };
+    let mut tokens = Tokens::new();
+    if from == o.seed {
+        let mut big = b"<a>".to_vec();
+        big.resize(16_777_217, b'x');
+        let t = compare::sys::tokenize(&big, &mut [7; 5], &mut []);
+        cover::hit!("N8", "a document that is too long");
+        if (t.number, t.byte) != (11, u32::MAX) {
+            part.tell("a document of 16,777,217 bytes isn't refused with 11".into());
+        }
+    }
+    for seed in from..to {
+        let mut d = Documents { r: Random::new(seed) };
+        let source = match files.is_empty() {
+            true => d.document(),
+            false => {
+                let mut bytes = d.r.pick(&files).clone();
+                for _ in 0..d.r.below(4) {
+                    d.change(&mut bytes);
+                }
+                bytes
+            }
+        };
+        // a changed table is a table, too, if its three numbers still fit
+        if let (false, Some(input)) = (files.is_empty(), Input::from_bytes(&source)) {
+            if part.bench.table(&input, seed).is_err() {
+                part.differs(&format!("seed {seed}"), &input, seed);
+            }
+            continue;
+        }
+        if tokens.document(&source, seed, &mut part.bench).is_err() {
+            let small = shrunk_bytes(&source, &mut |s| tokens.document(s, seed, &mut part.bench).is_err());
+            let why = tokens.document(&small, seed, &mut part.bench).err().unwrap_or_default();
+            part.tell(format!("seed {seed} differs; the smallest document that does:\n{}\n{why}", quoted(&small)));
+        }
+        if !files.is_empty() && std::str::from_utf8(&source).is_err() || seed % 16 == 0 {
+            // what isn't well formed as a parser that doesn't check would read it
+            let input = Input::new(compare::lenient::tokenized(&source));
+            if part.bench.table(&input, seed).is_err() {
+                part.differs(&format!("seed {seed}, read leniently,"), &input, seed);
+            }
+        }
+    }
+    tokens.tally.rows().to_vec()
+}
+
+fn files_of(paths: &[PathBuf]) -> Vec<Vec<u8>> {
+    let (mut out, mut todo) = (vec![], paths.to_vec());
+    while let Some(path) = todo.pop() {
+        if path.is_dir() {
+            let mut inside: Vec<PathBuf> = fs::read_dir(&path).map(|d| d.flatten().map(|e| e.path()).collect()).unwrap_or_default();
+            inside.sort();
+            todo.extend(inside);
+        } else if let Ok(bytes) = fs::read(&path) {
+            let document = bytes.strip_prefix(b"\xef\xbb\xbf").unwrap_or(&bytes).trim_ascii_start().starts_with(b"<");
+            if bytes.len() < 200_000 && (document || Input::from_bytes(&bytes).is_some()) {
+                out.push(bytes);
+            }
+        }
+    }
+    if out.is_empty() {
+        eprintln!("there are no tables and no documents in {paths:?}");
+        exit(2);
+    }
+    out
+}
+
+fn run_part(o: &Options, number: u64) {
+    let share = |i: u64| o.seed + (o.count as u128 * i as u128 / o.jobs as u128) as u64;
+    let mut part = Part { bench: bench(), differences: 0, most: o.most };
+    let (from, to) = (share(number), share(number + 1));
+    let mut rows = match o.mode {
+        Mode::Tables => {
+            run_tables(o, from, to, &mut part);
+            vec![]
+        }
+        _ => run_documents(o, from, to, &mut part),
+    };
+    rows.extend(part.bench.tally.rows());
+    rows.push(("differences", part.differences));
+    for (name, n) in rows {
+        println!("#tally\t{name}\t{n}");
+    }
+    for (rule, branch, n) in Coverage::here().rows() {
+        println!("#rule\t{rule}\t{branch}\t{n}");
+    }
+    println!("#end");
+}
+
+// ---- the whole run: a process for each part
+
+fn main() {
+    let o = options();
+    if let Some(part) = o.part {
+        return run_part(&o, part);
+    }
+    let began = Instant::now();
+    let me = env::current_exe().expect("this program");
+    let parts: Vec<_> = (0..o.jobs)
+        .map(|i| {
+            let child = Command::new(&me).args(env::args().skip(1)).args(["--jobs", &o.jobs.to_string(), "--part", &i.to_string()]).stdout(Stdio::piped()).spawn();
+            child.expect("a part of the run")
+        })
+        .collect();
+    let (mut order, mut tally, mut coverage) = (vec![], BTreeMap::new(), Coverage::default());
+    let mut broken = 0;
+    // each is read in a thread of its own, so that none waits for another
+    let readers: Vec<_> = parts
+        .into_iter()
+        .map(|mut child| {
+            std::thread::spawn(move || {
+                let mut kept = vec![];
+                for line in BufReader::new(child.stdout.take().unwrap()).lines().map_while(Result::ok) {
+                    if line.starts_with('#') { kept.push(line) } else { println!("{line}") }
+                }
+                (kept, child.wait())
+            })
+        })
+        .collect();
+    for (i, reader) in readers.into_iter().enumerate() {
+        let (kept, status) = reader.join().expect("a reader");
+        if kept.last().map(String::as_str) != Some("#end") {
+            println!("part {i} of the run broke off: {status:?}");
+            broken += 1;
+        }
+        for line in kept {
+            let cells: Vec<&str> = line.split('\t').collect();
+            match cells[..] {
+                ["#tally", name, n] => {
+                    if !order.contains(&name.to_string()) {
+                        order.push(name.to_string());
+                    }
+                    *tally.entry(name.to_string()).or_insert(0u64) += n.parse::<u64>().unwrap_or(0);
+                }
+                ["#rule", rule, branch, n] => coverage.add(rule, branch, n.parse().unwrap_or(0)),
+                _ => {}
+            }
+        }
+    }
+    let (rules, never) = coverage.told(&page("RULES.md"), o.mode != Mode::Tables, o.rules);
+    print!("{rules}");
+    let judged = o.mode == Mode::Tables && o.profile == "mix" || o.mode == Mode::Documents;
+    if judged {
+        never.iter().for_each(|n| println!("{n}"));
+    }
+    for name in order {
+        let n = tally[&name];
+        if n > 0 || name == "differences" {
+            println!("{name}: {n}");
+        }
+    }
+    let seconds = began.elapsed().as_secs_f64();
+    println!("{:.1} s, {:.0} a second", seconds, o.count as f64 / seconds);
+    let differences = tally.get("differences").copied().unwrap_or(0);
+    let unreached = judged && !never.is_empty() && !o.allow_unreached;
+    exit((differences > 0 || broken > 0 || unreached) as i32)
 }

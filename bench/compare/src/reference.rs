@@ -70,6 +70,7 @@ pub struct Outcome {
 pub fn read(input: &Input, areas: Areas, changes: Changes) -> Outcome {
     hit!("T1", "a table");
     if let Err((event, attribute)) = input.check() {
+        hit!("F1", "BadTable");
         if event == NONE {
             hit!("F10", "no event");
         }
@@ -257,8 +258,12 @@ fn count_attribute(number: u32, state: &State, table: &Table, path: &[[u32; 3]])
         (2, ..) => count_utf8(bytes),
         _ => {}
     }
-    if matches!(number, 2 | 10 | 21) && state.areas.text < bytes.len() && state.areas.scratch < bytes.len() {
-        hit!("M7", "what is wrong with the text itself comes before room");
+    let (room, used) = if state.attribute == NONE { (state.areas.scratch, 0) } else { (state.areas.text, state.text.len()) };
+    match number {
+        2 | 10 | 21 if used + bytes.len() > room => hit!("M7", "what is wrong with a text itself comes before room for it"),
+        13 => hit!("M7", "13"),
+        14 => hit!("M7", "14"),
+        _ => {}
     }
 }
 

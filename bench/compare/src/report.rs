@@ -29,6 +29,15 @@ pub fn put_quoted(out: &mut String, s: &str) {
     out.push('"');
 }
 
+/// A text of the listing, or `-`.
+fn list_text(out: &mut String, s: Option<&str>) {
+    match s {
+        Some(s) => hit_if!(s.contains(['"', '\\', '\n', '\t', '\r']), "L8", "an escaped text", "a text without escapes"),
+        None => hit!("L8", "a missing text"),
+    }
+    put_text(out, s);
+}
+
 fn put_text(out: &mut String, s: Option<&str>) {
     match s {
         Some(s) => put_quoted(out, s),
@@ -81,11 +90,15 @@ fn list_counts(out: &mut String, counts: [usize; 4], disabled: Option<usize>) {
 
 pub fn listing(r: &Report) -> String {
     let mut out = String::from("(report ");
-    put_text(&mut out, r.name.as_deref());
+    hit!("L6", "a report");
+    hit!("L10", "a report");
+    list_text(&mut out, r.name.as_deref());
     list_counts(&mut out, [r.tests, r.failures, r.errors, r.skipped], r.disabled);
     for s in &r.test_suites {
         out.push_str("\n(suite ");
-        put_quoted(&mut out, &s.name);
+        hit!("L6", "a suite");
+        hit!("L10", "a suite");
+        list_text(&mut out, Some(&s.name));
         list_counts(&mut out, [s.tests, s.failures, s.errors, s.skipped], s.disabled);
         for c in &s.test_cases {
             list_case(&mut out, c);
@@ -99,13 +112,22 @@ pub fn listing(r: &Report) -> String {
 fn list_case(out: &mut String, c: &TestCase) {
     let (status, kind, runs) = status_of(c);
     out.push_str("\n(case ");
-    put_quoted(out, &c.name);
+    hit!("L5", "a case");
+    hit!("L10", "a case");
+    match (status, kind) {
+        ("success", _) => hit_if!(runs.is_empty(), "L7", "a success without runs", "a success with runs"),
+        ("skipped", _) => hit!("L7", "skipped"),
+        (_, "flaky") => hit!("L7", "a failure or error with flaky runs"),
+        _ => hit_if!(runs.is_empty(), "L7", "a failure or error without runs", "a failure or error with reruns"),
+    }
+    list_text(out, Some(&c.name));
     out.push(' ');
-    put_text(out, c.classname.as_deref());
+    list_text(out, c.classname.as_deref());
     out.push(' ');
     list_time(out, c.time);
     write!(out, " {status} {kind} {}", runs.len()).unwrap();
     for run in runs {
+        hit_if!(run.time.is_some(), "L10", "a run with a time", "a run without a time");
         write!(out, "\n(run {} ", kind_word(run.kind)).unwrap();
         list_time(out, run.time);
         out.push(')');
@@ -262,11 +284,22 @@ impl<'a> Words<'a> {
     fn number(&mut self, at: usize, bit: u32) -> Option<u64> {
         if self.bit(bit) { self.count(at) } else { None }
     }
-    fn moment(&mut self) -> Option<[u32; 8]> {
-        self.bit(3).then(|| self.use_words(8, 8).try_into().unwrap())
+    fn moment(&mut self) -> Result<Option<[u32; 8]>, String> {
+        if !self.bit(3) {
+            return Ok(None);
+        }
+        let words: [u32; 8] = self.use_words(8, 8).try_into().unwrap();
+        let [y, mo, d, h, mi, s, ns, offset] = words;
+        let good = offset <= 2878 && Moment::new(y, mo, d, h, mi, s, ns, offset as i32 - 1439).is_some();
+        if good { Ok(Some(words)) } else { Err(format!("a timestamp of {words:?}")) }
     }
-    fn time(&mut self) -> Option<(u64, u32)> {
-        self.bit(4).then(|| (self.use_words(16, 2)[0] as u64, self.words[17]))
+    fn time(&mut self) -> Result<Option<(u64, u32)>, String> {
+        if !self.bit(4) {
+            return Ok(None);
+        }
+        let (seconds, nanos) = (self.use_words(16, 2)[0], self.words[17]);
+        let good = seconds < 8_388_608 && nanos < 1_000_000_000;
+        if good { Ok(Some((seconds as u64, nanos))) } else { Err(format!("a time of {seconds}.{nanos:09}")) }
     }
     fn uuid(&mut self) -> Option<[u8; 16]> {
         self.bit(1).then(|| {
@@ -292,6 +325,7 @@ struct CaseLines {
     extras: String,
     properties: String,
     main: Option<(u32, String)>,
+    bit_9: bool,
     runs: Vec<(u32, String)>,
 }
 
@@ -353,6 +387,7 @@ pub fn tree_fields(records: &[u32], text: &[u8]) -> Result<(String, Vec<Record>)
                         if !case.runs.is_empty() {
                             hit!("S11", "the main behind its runs");
                         }
+                        case.bit_9 = words[1] & 0x200 != 0;
                         case.main = Some((kind, line))
                     }
                     _ => case.runs.push((kind, line)),
@@ -374,7 +409,8 @@ fn put_case(out: &mut String, c: &CaseLines) {
     for part in [&c.head, &c.extras, &c.properties] {
         *out += part;
     }
-    let flaky = c.runs.first().is_some_and(|r| r.0 <= 10);
+    // bit 9: a failure or error without runs whose kind is Flaky, which reading never leaves
+    let flaky = c.runs.first().map_or(c.bit_9, |r| r.0 <= 10);
     let none = " message=- type=- description=-".to_string();
     let (status, texts, kind) = match &c.main {
         None => ("success", &none, "flaky"),
@@ -405,20 +441,20 @@ fn record_line(w: &mut Words<'_>, kind: u32) -> Result<String, String> {
     let mut o = Lines(String::new());
     match kind {
         1 => {
-            o.line("report").text("name", w.text(2, 0)?).uuid(w.uuid()).moment(w.moment()).time(w.time());
+            o.line("report").text("name", w.text(2, 0)?).uuid(w.uuid()).moment(w.moment()?).time(w.time()?);
             o.number("tests", w.count(18)).number("failures", w.count(20)).number("errors", w.count(22)).number("skipped", w.count(24));
             o.number("disabled", w.number(26, 8));
             w.done(0x11b)?;
         }
         2 => {
-            o.line(" suite").text("name", w.always(2, 0)?).moment(w.moment()).time(w.time());
+            o.line(" suite").text("name", w.always(2, 0)?).moment(w.moment()?).time(w.time()?);
             o.number("tests", w.count(18)).number("failures", w.count(20)).number("errors", w.count(22)).number("skipped", w.count(24));
             o.number("disabled", w.number(26, 8)).text("out", w.text(4, 1)?).text("err", w.text(6, 2)?).text("hostname", w.text(28, 10)?);
             w.done(0x51f)?;
         }
         3 => {
             o.line("  case").text("name", w.always(2, 0)?).text("classname", w.text(18, 5)?).number("assertions", w.number(20, 6));
-            o.moment(w.moment()).time(w.time()).text("out", w.text(4, 1)?).text("err", w.text(6, 2)?);
+            o.moment(w.moment()?).time(w.time()?).text("out", w.text(4, 1)?).text("err", w.text(6, 2)?);
             w.done(0x7f)?;
         }
         4 | 5 | 13 | 14 => {
@@ -429,12 +465,11 @@ fn record_line(w: &mut Words<'_>, kind: u32) -> Result<String, String> {
         }
         6..=8 => {
             o.text("message", w.text(2, 0)?).text("type", w.text(18, 5)?).text("description", w.text(20, 6)?);
-            // bit 9: a failure or error without runs whose kind is Flaky, which reading never leaves
-            w.done(0x61)?;
+            w.done(if kind == 8 { 0x61 } else { 0x261 })?;
         }
         _ => {
             o.line("    run ").0.push_str(if matches!(kind, 9 | 11) { "failure" } else { "error" });
-            o.moment(w.moment()).time(w.time()).text("message", w.text(2, 0)?).text("type", w.text(18, 5)?).text("description", w.text(20, 6)?);
+            o.moment(w.moment()?).time(w.time()?).text("message", w.text(2, 0)?).text("type", w.text(18, 5)?).text("description", w.text(20, 6)?);
             o.text("trace", w.text(22, 7)?).text("out", w.text(4, 1)?).text("err", w.text(6, 2)?);
             w.done(0xff)?;
         }

@@ -271,7 +271,8 @@ pub mod events {
                     Some(form) => hit_of!(form, "V5", "without a fraction, Z", "without a fraction, an offset", "with a fraction, Z", "with a fraction, an offset"),
                     None => hit!("V5", "another form"),
                 },
-                b"uuid" => hit_of!(value.iter().any(u8::is_ascii_uppercase) as usize + 2 * (value.len() != 36) as usize, "V9", "36 bytes", "36 bytes with capitals", "another length", "another length with capitals"),
+                b"uuid" if value.len() != 36 => hit!("V9", "another length"),
+                b"uuid" => hit_if!(value.iter().any(u8::is_ascii_uppercase), "V9", "36 bytes with capitals", "36 bytes without"),
                 _ => match value {
                     [b'+', ..] => hit!("V2", "a plus sign"),
                     [b'0', _, ..] => hit!("V2", "leading zeros"),

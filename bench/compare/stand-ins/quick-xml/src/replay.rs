@@ -201,6 +201,7 @@ impl State {
             }
         }
         if kind == INDENT {
+            hit_if!(length == 0, "T4", "an Indent without bytes", "an Indent that names bytes");
             return Raw { kind: TEXT, bytes: b"\n", first, count };
         }
         Raw { kind, bytes, first, count }
@@ -318,6 +319,7 @@ impl State {
 
     /// The attributes of an element are about to be read.
     pub(crate) fn begin_attributes(&mut self, name: &[u8]) -> bool {
+        hit!("A1", "attributes that are read");
         self.extras.clear();
         self.current = None;
         self.attribute = NONE;
@@ -470,6 +472,9 @@ impl State {
     }
 
     pub(crate) fn count_skip(&self, deep: bool, same: bool, raw: &Raw) {
+        if raw.count > 0 {
+            hit!("A1", "attributes in a skip");
+        }
         match (raw.kind, same) {
             (START, true) => hit!("R11", "a Start of the same name inside"),
             (EMPTY, true) => hit!("R11", "an Empty of the same name inside"),
@@ -520,6 +525,9 @@ fn count_in_list(raw: &Raw) {
 }
 
 fn count_in_text(name: &[u8], raw: &Raw) {
+    if raw.count > 0 {
+        hit!("A1", "attributes in a gathered text");
+    }
     match raw.kind {
         START if raw.bytes == name => hit!("R14", "a Start of the same name"),
         EMPTY if raw.bytes == name => hit!("R14", "an Empty of the same name"),
