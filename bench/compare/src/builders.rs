@@ -577,22 +577,18 @@ fn is_clean(built: &sys::Built, number: u32, records: &[u32], text: &[u8]) -> bo
 
 impl Bench {
     /// The script of a seed, shrunk where it differs.
-    pub fn building(&mut self, seed: u64) -> Compared {
-        let mut r = Random::new(seed ^ 0xb1d);
-        let calls = script(&mut r);
+    pub fn building(&mut self, r: &mut Random) -> Compared {
+        let calls = script(r);
         let how = r.next();
         self.tally.reports_built += 1;
-        let Err(first) = self.built(&calls, how) else { return self.made_up(&mut r) };
+        let Err(first) = self.built(&calls, how) else { return self.made_up(r) };
         let mut best = calls;
-        let mut at = 1;
+        let mut at = 0;
         while at < best.len() {
-            let mut next = best.clone();
-            next.remove(at);
-            if self.built(&next, how).is_err() {
-                best = next;
-                at = 1;
-            } else {
-                at += 1;
+            let shorter = smaller(&best, at).into_iter().find(|next| self.built(next, how).is_err());
+            match shorter {
+                Some(next) => (best, at) = (next, 0),
+                None => at += 1,
             }
         }
         let why = self.built(&best, how).err().unwrap_or(first);
@@ -719,6 +715,32 @@ impl Bench {
         let clean = number == 0 || is_clean(&got, number, &area, &text);
         if clean && (marks != [NONE; 4] || number == 15) { Ok(()) } else { Err(format!("a made-up builder {b:?}, {call:?}: got {number}")) }
     }
+}
+
+/// Scripts that are smaller by a call, or by a text of it.
+fn smaller(calls: &[Call], at: usize) -> Vec<Vec<Call>> {
+    let mut out = vec![];
+    if at > 0 {
+        out.push([&calls[..at], &calls[at + 1..]].concat());
+    }
+    for n in 0..2 {
+        for half in [true, false] {
+            let mut call = calls[at].clone();
+            let text = match &mut call {
+                Call::New(Some(a)) | Call::Suite(a) | Call::Case(a, _) | Call::Text(_, _, a) | Call::Lossy(_, _, a) if n == 0 => a,
+                Call::Property(_, a, _) | Call::Extra(_, a, _) if n == 0 => a,
+                Call::Property(_, _, b) | Call::Extra(_, _, b) => b,
+                _ => continue,
+            };
+            if text.is_empty() {
+                continue;
+            }
+            let keep = if half { text.len() / 2 } else { text.len() - 1 };
+            text.truncate(keep);
+            out.push([&calls[..at], &[call], &calls[at + 1..]].concat());
+        }
+    }
+    out
 }
 
 /// The call at which an area is too short, and the number.

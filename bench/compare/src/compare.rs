@@ -148,6 +148,12 @@ impl Bench {
         }
         let want = if fits { full } else { reference::read(input, areas, self.changes) };
         self.tally.short += !fits as u64;
+        if let Err(Refused { number: 2 | 10 | 21, attribute, .. }) = &want.result {
+            let full = if *attribute == NONE { areas.scratch == want.used.scratch } else { areas.text == want.used.text };
+            if full {
+                hit!("M7", "what is wrong with a text itself comes before room for it");
+            }
+        }
         self.reading(input, &want, areas, words, r.next() as u8 | 1).map_err(|e| format!("reading, areas {room:?} {areas:?}: {e}"))?;
         match &want.result {
             Ok(read) => {

@@ -7,6 +7,8 @@ pub mod documents;
 #[cfg(has_expat)]
 pub mod expat;
 pub mod explain;
+#[cfg(fuzzing)]
+pub mod fuzz;
 pub mod fixed;
 pub mod generator;
 pub mod lenient;

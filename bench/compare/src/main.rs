@@ -10,6 +10,7 @@ use compare::{
     shrink::shrunk,
     table::Input,
 };
+use quick_xml::replay::Changes;
 use std::{
     collections::BTreeMap,
     env, fs,
@@ -26,6 +27,7 @@ const USAGE: &str = "usage: compare N                 N tables against the crate
        compare --tables N        N tables to standard output, each behind its length as a word
 options: --seed S (the first seed, 0), --profile P, --jobs J (processes, 2), --most D (differences to be shown, 5),
          --rules (every counter), --allow-unreached (rules that are never reached are no failure),
+         --with R (the archive has request R: 8, a gathered text alone in scratch; 12, a suite's hostname),
          --wrong W (the library's answers are spoiled; `--wrong list` names the ways)";
 
 #[derive(Clone, PartialEq)]
@@ -45,6 +47,7 @@ struct Options {
     most: u64,
     rules: bool,
     allow_unreached: bool,
+    changes: Changes,
 }
 
 fn usage() -> ! {
@@ -57,9 +60,10 @@ fn page(name: &str) -> String {
     fs::read_to_string(&path).unwrap_or_else(|e| panic!("{}: {e}", path.display()))
 }
 
-fn bench() -> Bench {
-    let sentences = Sentences::from_page(&page("REFUSALS.md")).unwrap_or_else(|e| panic!("{e}"));
-    Bench::new(changes(), sentences)
+fn bench(changes: Changes) -> Bench {
+    let mut sentences = Sentences::from_page(&page("REFUSALS.md")).unwrap_or_else(|e| panic!("{e}"));
+    sentences.attributes += changes.hostname as usize;
+    Bench::new(changes, sentences)
 }
 
 fn number(word: Option<String>) -> u64 {
@@ -77,6 +81,7 @@ fn options() -> Options {
         most: 5,
         rules: false,
         allow_unreached: false,
+        changes: changes(),
     };
     let mut words = env::args().skip(1);
     let mut paths = vec![];
@@ -91,11 +96,16 @@ fn options() -> Options {
             "--rules" => o.rules = true,
             "--allow-unreached" => o.allow_unreached = true,
             "--profile" => o.profile = words.next().filter(|p| PROFILES.contains(&p.as_str())).unwrap_or_else(|| usage()),
-            "--file" => exit(show_file(&PathBuf::from(words.next().unwrap_or_else(|| usage())))),
+            "--file" => exit(show_file(&PathBuf::from(words.next().unwrap_or_else(|| usage())), o.changes)),
             "--tables" => exit(put_tables(number(words.next()))),
+            "--with" => match number(words.next()) {
+                8 => o.changes.scratch_alone = true,
+                12 => o.changes.hostname = true,
+                _ => usage(),
+            },
             "--wrong" => {
                 let name = words.next().unwrap_or_default();
-                if name == "list" {
+                if name == "list" || name.is_empty() {
                     compare::calls::WRONG.iter().for_each(|(n, what)| println!("{n}: {what}"));
                     exit(0);
                 }
@@ -130,9 +140,9 @@ fn put_tables(n: u64) -> i32 {
     out.flush().is_err() as i32
 }
 
-fn show_file(path: &Path) -> i32 {
+fn show_file(path: &Path, changes: Changes) -> i32 {
     let bytes = fs::read(path).unwrap_or_else(|e| panic!("{}: {e}", path.display()));
-    let mut bench = bench();
+    let mut bench = bench(changes);
     let result = match Input::from_bytes(&bytes) {
         Some(input) => {
             print!("{}", input.shown());
@@ -140,11 +150,11 @@ fn show_file(path: &Path) -> i32 {
         }
         None => document(&bytes, &mut bench),
     };
-    match result {
+    match &result {
         Ok(()) => println!("no difference"),
         Err(e) => println!("{e}"),
     }
-    0
+    result.is_err() as i32
 }
 
 #[cfg(has_expat)]
@@ -196,7 +206,7 @@ fn run_tables(o: &Options, from: u64, to: u64, part: &mut Part) {
             part.differs(&format!("seed {seed}"), &input, seed);
         }
         if seed % 4 == 0 {
-            if let Err(e) = part.bench.building(seed) {
+            if let Err(e) = part.bench.building(&mut Random::new(seed ^ 0xb1d)) {
                 part.tell(format!("seed {seed}: {e}"));
             }
         }
@@ -295,7 +305,7 @@ fn files_of(paths: &[PathBuf]) -> Vec<Vec<u8>> {
 
 fn run_part(o: &Options, number: u64) {
     let share = |i: u64| o.seed + (o.count as u128 * i as u128 / o.jobs as u128) as u64;
-    let mut part = Part { bench: bench(), differences: 0, most: o.most };
+    let mut part = Part { bench: bench(o.changes), differences: 0, most: o.most };
     let (from, to) = (share(number), share(number + 1));
     let mut rows = match o.mode {
         Mode::Tables => {
@@ -306,6 +316,7 @@ fn run_part(o: &Options, number: u64) {
     };
     rows.extend(part.bench.tally.rows());
     rows.push(("differences", part.differences));
+    rows.push(("milliseconds of processor time", processor_time()));
     for (name, n) in rows {
         println!("#tally\t{name}\t{n}");
     }
@@ -313,6 +324,14 @@ fn run_part(o: &Options, number: u64) {
         println!("#rule\t{rule}\t{branch}\t{n}");
     }
     println!("#end");
+}
+
+/// Milliseconds that this process has had of a processor.
+fn processor_time() -> u64 {
+    let stat = fs::read_to_string("/proc/self/stat").unwrap_or_default();
+    let behind = stat.rsplit(')').next().unwrap_or("");
+    let ticks: u64 = behind.split_whitespace().skip(11).take(2).filter_map(|n| n.parse::<u64>().ok()).sum();
+    ticks * 10
 }
 
 // ---- the whole run: a process for each part
@@ -373,12 +392,13 @@ fn main() {
     }
     for name in order {
         let n = tally[&name];
-        if n > 0 || name == "differences" {
+        if n > 0 && !name.starts_with("milli") || name == "differences" {
             println!("{name}: {n}");
         }
     }
     let seconds = began.elapsed().as_secs_f64();
-    println!("{:.1} s, {:.0} a second", seconds, o.count as f64 / seconds);
+    let busy = tally.get("milliseconds of processor time").copied().unwrap_or(0) as f64 / 1e3;
+    println!("{seconds:.1} s, {busy:.1} s of processor time: {:.0} for each second of it", o.count as f64 / busy.max(0.01));
     let differences = tally.get("differences").copied().unwrap_or(0);
     let unreached = judged && !never.is_empty() && !o.allow_unreached;
     exit((differences > 0 || broken > 0 || unreached) as i32)

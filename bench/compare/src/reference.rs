@@ -258,9 +258,7 @@ fn count_attribute(number: u32, state: &State, table: &Table, path: &[[u32; 3]])
         (2, ..) => count_utf8(bytes),
         _ => {}
     }
-    let (room, used) = if state.attribute == NONE { (state.areas.scratch, 0) } else { (state.areas.text, state.text.len()) };
     match number {
-        2 | 10 | 21 if used + bytes.len() > room => hit!("M7", "what is wrong with a text itself comes before room for it"),
         13 => hit!("M7", "13"),
         14 => hit!("M7", "14"),
         _ => {}

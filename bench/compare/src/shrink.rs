@@ -147,6 +147,44 @@ fn compact(t: &Table) -> Option<Table> {
 /// The same for a document: the bytes that still differ.
 pub fn shrunk_bytes(bytes: &[u8], differs: &mut dyn FnMut(&[u8]) -> bool) -> Vec<u8> {
     let mut best = bytes.to_vec();
+    loop {
+        let before = best.len();
+        best = fewer_bytes(&best, differs);
+        best = fewer_tokens(&best, differs);
+        if best.len() == before {
+            return best;
+        }
+    }
+}
+
+/// Two tokens at once, such as a tag and its End.
+fn fewer_tokens(bytes: &[u8], differs: &mut dyn FnMut(&[u8]) -> bool) -> Vec<u8> {
+    let mut tokens: Vec<Vec<u8>> = vec![];
+    for &b in bytes {
+        let ends = tokens.last().is_none_or(|t| t.last() == Some(&b'>')) || b == b'<';
+        if ends { tokens.push(vec![b]) } else { tokens.last_mut().unwrap().push(b) }
+    }
+    let (mut i, mut j) = (0, 1);
+    while i + 1 < tokens.len() {
+        let mut next = tokens.clone();
+        next.remove(j);
+        next.remove(i);
+        if differs(&next.concat()) {
+            tokens = next;
+            j = i + 1;
+        } else {
+            j += 1;
+        }
+        if j >= tokens.len() {
+            i += 1;
+            j = i + 1;
+        }
+    }
+    tokens.concat()
+}
+
+fn fewer_bytes(bytes: &[u8], differs: &mut dyn FnMut(&[u8]) -> bool) -> Vec<u8> {
+    let mut best = bytes.to_vec();
     let mut step = (best.len() / 2).max(1);
     loop {
         let (mut i, mut gone) = (0, false);
