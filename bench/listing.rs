@@ -1,5 +1,5 @@
 // Times reading and listing of a report of 11,000 cases, and of tables that are hard on reading; with `--cfg with_crate` also the
-// crate's own code at event level on the same table, through a library `oracle` that replays tables.
+// crate's own code at event level on the same table, through the library `compare`, which replays tables.
 // Build and run: see README.md beside this file.
 use std::time::Instant;
 
@@ -109,12 +109,11 @@ fn with_crate(t: &Table, listing: &[u8], ours: f64) {
     for n in [t.events.len() / 5, t.attributes.len() / 5, t.source.len()] { input.extend_from_slice(&(n as u32).to_le_bytes()); }
     for w in t.events.iter().chain(t.attributes.iter()) { input.extend_from_slice(&w.to_le_bytes()); }
     input.extend_from_slice(&t.source);
-    let table = oracle::parse_input(&input, false).unwrap();
-    let sizes = oracle::Sizes::limits();
-    // what the library's `read` does besides: refusal 11 and a copy of the table
+    let table = compare::table::Input::from_bytes(&input).unwrap();
+    // what the library does besides: it counts what the areas would hold
     let theirs = best("the crate, 11,000 cases", 20, || {
-        let r = oracle::read(&table, sizes.areas).result.unwrap_or_else(|_| panic!());
-        let l = oracle::listing(&r);
+        let r = compare::reference::read_whole(&table).unwrap_or_else(|| panic!());
+        let l = compare::report::listing(&r);
         assert!(l.as_bytes() == listing);
         l.len()
     });

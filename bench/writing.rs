@@ -1,5 +1,5 @@
 // Times writing of the tree of a report of 11,000 cases; with `--cfg with_crate` also the crate's `serialize_report` at event level on
-// the same report, through a library `oracle` that replays tables and records what is written, and compares the two tables word by word
+// the same report, through the library `compare`, which replays tables and records what is written, and compares the two tables word by word
 // and byte by byte.
 // Build and run: see README.md beside this file.
 use std::time::Instant;
@@ -122,11 +122,11 @@ fn with_crate(w: &Written, ours: f64) {
     for x in [n, m, k] { input.extend_from_slice(&(x as u32).to_le_bytes()); }
     for x in w.events[..n * 5].iter().chain(w.attributes[..m * 5].iter()) { input.extend_from_slice(&x.to_le_bytes()); }
     input.extend_from_slice(&w.bytes[..k]);
-    let table = oracle::parse_input(&input, false).unwrap();
-    let report = oracle::read(&table, oracle::Sizes::limits().areas).result.unwrap_or_else(|_| panic!());
+    let table = compare::table::Input::from_bytes(&input).unwrap();
+    let report = compare::reference::read_whole(&table).unwrap_or_else(|| panic!());
     // events recorded by a stand-in for quick_xml's writer; the table is laid out behind the time
-    let theirs = best("the crate, 11,000 cases", 20, || oracle::write_events(&report).0.len());
-    let laid = oracle::to_input(&oracle::layout(&oracle::write_events(&report).0));
+    let theirs = best("the crate, 11,000 cases", 20, || compare::report::serialized(&report).0.len());
+    let laid = compare::table::Input::new(compare::report::written(&report, false).0).to_bytes();
     assert!(laid == input);
     println!("ratio ours / crate: {:.3}", ours / theirs);
 }

@@ -724,7 +724,7 @@ fn smaller(calls: &[Call], at: usize) -> Vec<Vec<Call>> {
         out.push([&calls[..at], &calls[at + 1..]].concat());
     }
     for n in 0..2 {
-        for half in [true, false] {
+        for part in 0..3 {
             let mut call = calls[at].clone();
             let text = match &mut call {
                 Call::New(Some(a)) | Call::Suite(a) | Call::Case(a, _) | Call::Text(_, _, a) | Call::Lossy(_, _, a) if n == 0 => a,
@@ -735,7 +735,7 @@ fn smaller(calls: &[Call], at: usize) -> Vec<Vec<Call>> {
             if text.is_empty() {
                 continue;
             }
-            let keep = if half { text.len() / 2 } else { text.len() - 1 };
+            let keep = [0, text.len() / 2, text.len() - 1][part];
             text.truncate(keep);
             out.push([&calls[..at], &[call], &calls[at + 1..]].concat());
         }

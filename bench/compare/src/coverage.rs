@@ -7,6 +7,14 @@ pub struct Coverage {
     counts: BTreeMap<(String, String), u64>,
 }
 
+/// What was run.
+#[derive(Clone, Copy, PartialEq)]
+pub enum Kind {
+    Tables,
+    Documents,
+    Programs,
+}
+
 /// The rules that documents reach, and tables don't; and those of the programs, which are no calls of the archive.
 const OF_DOCUMENTS: [&str; 14] = ["N1", "N2", "N3", "N4", "N5", "N6", "N7", "N8", "N9", "N10", "N11", "N13", "N14", "N15"];
 const OF_PROGRAMS: [&str; 6] = ["P1", "P2", "P3", "P4", "P5", "N12"];
@@ -27,13 +35,18 @@ impl Coverage {
     }
 
     /// The rules in the page's order, each with its branches; and what is never reached, which is to be nothing.
-    pub fn told(&self, page: &str, documents: bool, whole: bool) -> (String, Vec<String>) {
+    pub fn told(&self, page: &str, kind: Kind, whole: bool) -> (String, Vec<String>) {
         let rules: Vec<&str> = page.lines().filter_map(|l| l.strip_prefix("**")?.split_once("** ").map(|p| p.0)).filter(|r| is_rule(r)).collect();
         let (mut out, mut never) = (String::new(), vec![]);
         let (mut reached, mut branches, mut met) = (0, 0, 0);
         for rule in &rules {
             let of: Vec<(&str, u64)> = self.rows().filter(|r| r.0 == *rule).map(|r| (r.1, r.2)).collect();
-            let elsewhere = OF_PROGRAMS.contains(rule) || OF_DOCUMENTS.contains(rule) != documents;
+            let of_kind = match (OF_PROGRAMS.contains(rule), OF_DOCUMENTS.contains(rule)) {
+                (true, _) => Kind::Programs,
+                (_, true) => Kind::Documents,
+                _ => Kind::Tables,
+            };
+            let elsewhere = of_kind != kind;
             let total: u64 = of.iter().map(|b| b.1).sum();
             reached += (total > 0) as usize;
             if elsewhere && total == 0 {

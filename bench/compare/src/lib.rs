@@ -13,6 +13,7 @@ pub mod fixed;
 pub mod generator;
 pub mod lenient;
 pub mod numbers;
+pub mod programs;
 pub mod random;
 pub mod reference;
 pub mod report;

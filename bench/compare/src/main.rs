@@ -2,7 +2,7 @@
 use compare::{
     changes,
     compare::Bench,
-    coverage::Coverage,
+    coverage::{Coverage, Kind},
     explain::Sentences,
     fixed,
     generator::{Generator, PROFILES},
@@ -23,6 +23,7 @@ use std::{
 const USAGE: &str = "usage: compare N                 N tables against the crate
        compare --xml N           N documents against expat
        compare --mutate N PATH.. N changed copies of the tables and documents in these files and folders, against both
+       compare --programs N DIR  N tables and documents through the programs list, write and list_xml of a folder
        compare --file FILE       one table (as the program `list` takes it) or document, compared and shown
        compare --tables N        N tables to standard output, each behind its length as a word
 options: --seed S (the first seed, 0), --profile P, --jobs J (processes, 2), --most D (differences to be shown, 5),
@@ -35,6 +36,7 @@ enum Mode {
     Tables,
     Documents,
     Mutate(Vec<PathBuf>),
+    Programs(PathBuf),
 }
 
 struct Options {
@@ -89,6 +91,7 @@ fn options() -> Options {
         match word.as_str() {
             "--xml" => o.mode = Mode::Documents,
             "--mutate" => o.mode = Mode::Mutate(vec![]),
+            "--programs" => o.mode = Mode::Programs(PathBuf::new()),
             "--seed" => o.seed = number(words.next()),
             "--jobs" => o.jobs = number(words.next()).max(1),
             "--part" => o.part = Some(number(words.next())),
@@ -118,10 +121,13 @@ fn options() -> Options {
             _ => paths.push(PathBuf::from(word)),
         }
     }
-    if let Mode::Mutate(list) = &mut o.mode {
-        *list = paths.clone();
+    match &mut o.mode {
+        Mode::Mutate(list) => *list = paths.clone(),
+        Mode::Programs(folder) if paths.len() == 1 => *folder = paths[0].clone(),
+        Mode::Programs(_) => usage(),
+        _ => {}
     }
-    if o.count == 0 || (paths.is_empty() == matches!(o.mode, Mode::Mutate(_))) {
+    if o.count == 0 || (paths.is_empty() == matches!(o.mode, Mode::Mutate(_) | Mode::Programs(_))) {
         usage();
     }
     o
@@ -195,8 +201,8 @@ impl Part {
 fn run_tables(o: &Options, from: u64, to: u64, part: &mut Part) {
     if from == o.seed {
         for (name, input) in fixed::tables() {
-            if let Err(e) = (0..8).try_for_each(|how| part.bench.table(&input, how)) {
-                part.tell(format!("{name} differs: {e}"));
+            if let Some(how) = (0..8).find(|how| part.bench.table(&input, *how).is_err()) {
+                part.differs(name, &input, how);
             }
         }
     }
@@ -312,6 +318,14 @@ fn run_part(o: &Options, number: u64) {
             run_tables(o, from, to, &mut part);
             vec![]
         }
+        Mode::Programs(ref folder) => {
+            for seed in from..to {
+                if let Err(e) = part.bench.programs(seed, folder) {
+                    part.tell(format!("seed {seed}: {e}"));
+                }
+            }
+            vec![]
+        }
         _ => run_documents(o, from, to, &mut part),
     };
     rows.extend(part.bench.tally.rows());
@@ -384,9 +398,14 @@ fn main() {
             }
         }
     }
-    let (rules, never) = coverage.told(&page("RULES.md"), o.mode != Mode::Tables, o.rules);
+    let kind = match o.mode {
+        Mode::Tables => Kind::Tables,
+        Mode::Programs(_) => Kind::Programs,
+        _ => Kind::Documents,
+    };
+    let (rules, never) = coverage.told(&page("RULES.md"), kind, o.rules);
     print!("{rules}");
-    let judged = o.mode == Mode::Tables && o.profile == "mix" || o.mode == Mode::Documents;
+    let judged = o.profile == "mix" && !matches!(o.mode, Mode::Mutate(_));
     if judged {
         never.iter().for_each(|n| println!("{n}"));
     }

@@ -95,6 +95,11 @@ pub fn read(input: &Input, areas: Areas, changes: Changes) -> Outcome {
     Outcome { result, used }
 }
 
+/// The report of a sound table as the crate reads it, without respelling, for measurements: in areas of the limits' size.
+pub fn read_whole(input: &Input) -> Option<Report> {
+    replaying(&input.table, Areas::limits(), crate::changes(), || Report::deserialize(&b""[..])).0.ok()
+}
+
 fn refused(e: &DeserializeError, state: &State, table: &Table, old: impl Fn(u32) -> u32) -> Refused {
     let (number, cause) = number_of(e.kind());
     let start = |place: Place| {

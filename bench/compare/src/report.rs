@@ -479,20 +479,26 @@ fn record_line(w: &mut Words<'_>, kind: u32) -> Result<String, String> {
 
 // ---- writing
 
-/// What `serialize_report` writes: the table, and the document's bytes. Where `hostname` is a field it stands before a suite's extras.
-pub fn written(r: &Report, hostname: bool) -> (Table, Vec<u8>) {
+/// What `serialize_report` writes: the events, and the document's bytes.
+pub fn serialized(r: &Report) -> (Vec<Written>, Vec<u8>) {
     take_written();
     let mut document = Vec::new();
-    if hostname {
+    r.serialize(&mut document).unwrap();
+    (take_written(), document)
+}
+
+/// The same with the events as a table. Where `hostname` is a field it stands before a suite's extras.
+pub fn written(r: &Report, hostname: bool) -> (Table, Vec<u8>) {
+    let (events, document) = if hostname {
         let mut first = r.clone();
         for suite in &mut first.test_suites {
             suite.extra = hostname_first(&suite.extra);
         }
-        first.serialize(&mut document).unwrap();
+        serialized(&first)
     } else {
-        r.serialize(&mut document).unwrap();
-    }
-    let events: Vec<Event> = take_written().into_iter().map(event_of).collect();
+        serialized(r)
+    };
+    let events: Vec<Event> = events.into_iter().map(event_of).collect();
     (laid_out(&events), document)
 }
 

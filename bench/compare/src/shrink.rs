@@ -164,8 +164,27 @@ fn fewer_tokens(bytes: &[u8], differs: &mut dyn FnMut(&[u8]) -> bool) -> Vec<u8>
         let ends = tokens.last().is_none_or(|t| t.last() == Some(&b'>')) || b == b'<';
         if ends { tokens.push(vec![b]) } else { tokens.last_mut().unwrap().push(b) }
     }
+    for i in 0..tokens.len() {
+        for other in [&b"<a/>"[..], b"<a>", b"</a>"] {
+            let mut next = tokens.clone();
+            next[i] = other.to_vec();
+            if tokens[i].len() > other.len() && differs(&next.concat()) {
+                tokens = next;
+            }
+        }
+    }
     let (mut i, mut j) = (0, 1);
     while i + 1 < tokens.len() {
+        let mut both = tokens.clone();
+        both[i] = b"<a/>".to_vec();
+        both.remove(j);
+        if tokens[i].len() + tokens[j].len() > 4 && differs(&both.concat()) {
+            tokens = both;
+            j = i + 1;
+            if j >= tokens.len() {
+                break;
+            }
+        }
         let mut next = tokens.clone();
         next.remove(j);
         next.remove(i);

@@ -16,6 +16,7 @@ impl Slot {
     /// One thread counts; loading and storing is cheaper than adding.
     #[inline(always)]
     pub fn hit(&self) {
+        #[cfg(not(uncounted))]
         self.count.store(self.count.load(Relaxed) + 1, Relaxed);
     }
     pub fn count(&self) -> u64 {
