@@ -403,12 +403,9 @@ impl<'a> Generator<'a> {
     }
 
     fn name_but(&mut self, known: &[&str]) -> &'static str {
-        loop {
-            let name = *self.r.pick(&TAGS);
-            if !known.contains(&name) {
-                return name;
-            }
-        }
+        let from = self.r.index(TAGS.len());
+        let names = TAGS[from..].iter().chain(&TAGS[..from]);
+        names.copied().find(|name| !known.contains(name)).expect("a name that isn't known")
     }
 
     fn stray_end(&mut self, but: &[&str]) {

@@ -23,6 +23,8 @@ pub mod shrink;
 #[allow(dead_code)]
 pub mod sys;
 pub mod table;
+#[cfg(test)]
+mod tests;
 #[cfg(has_expat)]
 pub mod tokens;
 #[cfg(writes_xml)]

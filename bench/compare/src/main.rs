@@ -245,12 +245,8 @@ fn run_documents(o: &Options, from: u64, to: u64, part: &mut Part) -> Vec<(&'sta
     };
     let mut tokens = Tokens::new();
     if from == o.seed {
-        let mut big = b"<a>".to_vec();
-        big.resize(16_777_217, b'x');
-        let t = compare::sys::tokenize(&big, &mut [7; 5], &mut []);
-        cover::hit!("N8", "a document that is too long");
-        if (t.number, t.byte) != (11, u32::MAX) {
-            part.tell("a document of 16,777,217 bytes isn't refused with 11".into());
+        if let Err(e) = compare::tokens::limits() {
+            part.tell(e);
         }
     }
     for seed in from..to {

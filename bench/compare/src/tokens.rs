@@ -325,7 +325,7 @@ impl Tokens {
             return Ok(());
         }
         // a letter that every edition has in names, for each that isn't ASCII
-        let text = String::from_utf8_lossy(before).replace('\u{feff}', "");
+        let text = String::from_utf8_lossy(before.strip_prefix(b"\xef\xbb\xbf").unwrap_or(before));
         let letters: String = text.chars().map(|c| if c.is_ascii() { c } else { 'é' }).collect();
         let (_, verdict) = self.expat.parse(&[letters.as_bytes()], false);
         let good = verdict.is_ok() || matches!(verdict, Err(DUPLICATE_ATTRIBUTE | UNDEFINED_ENTITY | BAD_CHAR_REF)) || in_declaration(before, before.len());
@@ -381,6 +381,20 @@ impl Tokens {
         let clear = events.iter().chain(&attributes).all(|w| *w == 0);
         check((got.number, got.byte, got.events, got.attributes) == (16, NONE, 0, 0) && clear, || "16 and areas of zero are wanted".into())
     }
+}
+
+/// Rule N8, with the longest document that isn't too long.
+pub fn limits() -> Compared {
+    let mut source = b"<a>".to_vec();
+    source.resize(16_777_217, b'x');
+    for (length, want) in [(16_777_217, (11, NONE)), (16_777_216, (18, 16_777_216))] {
+        let (mut events, mut attributes) = ([7; 10], [7; 5]);
+        let t = sys::tokenize(&source[..length], &mut events, &mut attributes);
+        hit_if!(want.0 == 11, "N8", "a document that is too long", "a document of the limit's length");
+        let clear = events.iter().chain(&attributes).all(|w| *w == 0);
+        check((t.number, t.byte) == want && clear, || format!("a document of {length} bytes: refused {} at {}", t.number, t.byte))?;
+    }
+    Ok(())
 }
 
 /// Whether a byte stands in the document's declaration.
