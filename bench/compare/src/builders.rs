@@ -63,7 +63,8 @@ fn made(call: &Call, b: sys::Builder, records: &mut [u32], text: &mut [u8]) -> s
         Call::Lossy(element, field, s) => sys::set_output_lossy(b, records, text, *element, *field, s),
         Call::Moment(element, [year, month, day, hour, minute, second, nanos, offset]) => {
             let (month, day, hour, minute, second) = (*month as u8, *day as u8, *hour as u8, *minute as u8, *second as u8);
-            let moment = sys::Moment { year: *year as u16, month, day, hour, minute, second, nanos: *nanos, offset: *offset as u16 };
+            let moment =
+                sys::Moment { year: *year as u16, month, day, hour, minute, second, nanos: *nanos, offset: *offset as u16 };
             sys::set_timestamp(b, records, text, *element, moment)
         }
         Call::Time(element, seconds, nanos) => sys::set_time(b, records, text, *element, *seconds, *nanos),
@@ -188,7 +189,11 @@ impl Script {
             Call::Number(..) => Said::Refused(15),
             Call::Finish => {
                 self.over = true;
-                if self.close_suite() { Said::Done } else { Said::Refused(17) }
+                if self.close_suite() {
+                    Said::Done
+                } else {
+                    Said::Refused(17)
+                }
             }
             Call::New(_) => Said::Unsaid,
         }
@@ -308,7 +313,8 @@ impl Script {
         self.store(at, &value);
         let main = self.last == Some(STATUS) && holder == 1 && extra;
         if extra {
-            let extras = if holder == 0 { &mut self.suite.as_mut().unwrap().0.extra } else { &mut self.case.as_mut().unwrap().0.extra };
+            let extras =
+                if holder == 0 { &mut self.suite.as_mut().unwrap().0.extra } else { &mut self.case.as_mut().unwrap().0.extra };
             let new = extras.insert(XmlString::new(&key), XmlString::new(&value)).is_none();
             hit_if!(new, "B7", "a new extra", "an extra whose key is there");
             if new {
@@ -345,7 +351,11 @@ impl Script {
             _ => false,
         };
         hit_if!(good, "B3", "a setter of an open element", "a setter that doesn't fit");
-        if good { Said::Done } else { Said::Refused(15) }
+        if good {
+            Said::Done
+        } else {
+            Said::Refused(15)
+        }
     }
 
     fn last_run(&mut self) -> &mut TestRerun {
@@ -433,8 +443,8 @@ impl Script {
 
 fn text(r: &mut Random) -> Vec<u8> {
     const POOL: [&str; 25] = [
-        "a", "b", "Z", "0", " ", "\n", "\t", "&", "<", ">", "\"", "'", "\u{1}", "\u{8}", "\u{b}", "\u{1f}", "é", "\u{7f}", "\u{85}", "€", "\u{2028}", "😀",
-        "\u{fffd}", "\\", "\r",
+        "a", "b", "Z", "0", " ", "\n", "\t", "&", "<", ">", "\"", "'", "\u{1}", "\u{8}", "\u{b}", "\u{1f}", "é", "\u{7f}",
+        "\u{85}", "€", "\u{2028}", "😀", "\u{fffd}", "\\", "\r",
     ];
     let n = match r.below(6) {
         0 => 0,
@@ -446,7 +456,8 @@ fn text(r: &mut Random) -> Vec<u8> {
 }
 
 fn any_bytes(r: &mut Random) -> Vec<u8> {
-    const POOL: [&[u8]; 8] = [b"a", "é€😀".as_bytes(), b"\xe2", b"\xe2\x82", b"\xff", b"\xf0\x9f\x98", b"\xed\xa0\x80", b"\xc0\x80"];
+    const POOL: [&[u8]; 8] =
+        [b"a", "é€😀".as_bytes(), b"\xe2", b"\xe2\x82", b"\xff", b"\xf0\x9f\x98", b"\xed\xa0\x80", b"\xc0\x80"];
     (0..r.below(8)).flat_map(|_| r.pick(&POOL).to_vec()).collect()
 }
 
@@ -486,7 +497,11 @@ fn any_call(r: &mut Random) -> Call {
             words[r.index(8)] = [0, 60, 61, 13, 32, 10_000, 2879, 255][r.index(8)];
             Call::Moment(element, words.map(|w| w.min(65_535)))
         }
-        8 => Call::Time(element, [0, 8_388_607, 8_388_608, u32::MAX][r.index(4)], [0, 999_999_999, 1_000_000_000, u32::MAX][r.index(4)]),
+        8 => Call::Time(
+            element,
+            [0, 8_388_607, 8_388_608, u32::MAX][r.index(4)],
+            [0, 999_999_999, 1_000_000_000, u32::MAX][r.index(4)],
+        ),
         9 => Call::Uuid([1, 2, 3, r.next() as u32]),
         10 => Call::Number(r.below(3) as u32, r.next()),
         11 => Call::Finish,
@@ -639,7 +654,25 @@ impl Bench {
                 _ => 0,
             };
             if want > 0 {
-                hit_of!(match want { 2 => 0, 4 => 1, 5 => 2, 12 => 3, 13 => 4, 15 => 5, _ => 6 }, "B11", "2", "4", "5", "12", "13", "15", "17");
+                hit_of!(
+                    match want {
+                        2 => 0,
+                        4 => 1,
+                        5 => 2,
+                        12 => 3,
+                        13 => 4,
+                        15 => 5,
+                        _ => 6,
+                    },
+                    "B11",
+                    "2",
+                    "4",
+                    "5",
+                    "12",
+                    "13",
+                    "15",
+                    "17"
+                );
                 if want == 17 {
                     hit!("C3", "refused");
                     hit!("F11", "17");
@@ -652,12 +685,16 @@ impl Bench {
             b = got.builder;
         }
         match due {
-            None if calls.last() == Some(&Call::Finish) => self.finished(s.report.as_ref().unwrap(), b, (records, bytes), &area, &text, &mut r),
+            None if calls.last() == Some(&Call::Finish) => {
+                self.finished(s.report.as_ref().unwrap(), b, (records, bytes), &area, &text, &mut r)
+            }
             _ => Ok(()),
         }
     }
 
-    fn finished(&mut self, report: &Report, b: sys::Builder, used: (usize, usize), area: &[u32], text: &[u8], r: &mut Random) -> Compared {
+    fn finished(
+        &mut self, report: &Report, b: sys::Builder, used: (usize, usize), area: &[u32], text: &[u8], r: &mut Random,
+    ) -> Compared {
         hit!("B2", "a report that is listed and written");
         if area.len() / 32 == used.0 && text.len() == used.1 {
             hit!("M9", "a report in areas that it just fits");
@@ -673,22 +710,22 @@ impl Bench {
             return Err(format!("the listing:\n{}", differing(&want, &String::from_utf8_lossy(&out))));
         }
         let (table, _) = written(report, false);
-        let (mut e, mut a, mut s) = (vec![7u32; 5 * table.events.len()], vec![7u32; 5 * table.attributes.len()], vec![7u8; table.source.len()]);
+        let (mut e, mut a, mut s) =
+            (vec![7u32; 5 * table.events.len()], vec![7u32; 5 * table.attributes.len()], vec![7u8; table.source.len()]);
         let w = sys::write(area, text, &mut e, &mut a, &mut s);
         if w.refusal.number != 0 || e != table.events.as_flattened() || a != table.attributes.as_flattened() || s != table.source {
             return Err("the table that is written".into());
         }
-        if report.test_suites.iter().flat_map(|s| &s.test_cases).any(|c| matches!(&c.status, TestCaseStatus::NonSuccess { reruns, .. } if reruns.runs.is_empty() && reruns.kind == FlakyOrRerun::Flaky)) {
-            hit!("W14", "a failure or error without runs whose kind is Flaky");
-        }
-        if report.test_suites.iter().flat_map(|s| &s.test_cases).any(|c| matches!(&c.status, TestCaseStatus::NonSuccess { description: Some(d), .. } | TestCaseStatus::Skipped { description: Some(d), .. } if d.is_empty())) {
-            hit!("W14", "an empty description");
-        }
+        report.test_suites.iter().flat_map(|s| &s.test_cases).for_each(count_odd);
         // behind the end
         let (mut area, mut text, call) = (area.to_vec(), text.to_vec(), any_call(r));
         let got = made(&call, b, &mut area, &mut text);
         hit!("B12", "a call behind the end");
-        if is_clean(&got, 15, &area, &text) { Ok(()) } else { Err(format!("behind the end {call:?}: wanted 15 and areas of zero")) }
+        if is_clean(&got, 15, &area, &text) {
+            Ok(())
+        } else {
+            Err(format!("behind the end {call:?}: wanted 15 and areas of zero"))
+        }
     }
 
     /// A call with a builder that is made up, in areas that hold anything: an answer, or a refusal with areas of zero; 15 where nothing is open.
@@ -704,7 +741,14 @@ impl Bench {
         if r.one(4) {
             marks = [NONE; 4];
         }
-        let b = sys::Builder { records, bytes: [0, 1, bytes as u32, bytes as u32 + 1, r.next() as u32][r.index(5)], report: marks[0], suite: marks[1], case: marks[2], main: marks[3] };
+        let b = sys::Builder {
+            records,
+            bytes: [0, 1, bytes as u32, bytes as u32 + 1, r.next() as u32][r.index(5)],
+            report: marks[0],
+            suite: marks[1],
+            case: marks[2],
+            main: marks[3],
+        };
         let call = any_call(r);
         let got = made(&call, b, &mut area, &mut text);
         self.tally.calls_built += 1;
@@ -713,7 +757,28 @@ impl Bench {
             hit!("B4", "a made-up builder");
         }
         let clean = number == 0 || is_clean(&got, number, &area, &text);
-        if clean && (marks != [NONE; 4] || number == 15) { Ok(()) } else { Err(format!("a made-up builder {b:?}, {call:?}: got {number}")) }
+        if clean && (marks != [NONE; 4] || number == 15) {
+            Ok(())
+        } else {
+            Err(format!("a made-up builder {b:?}, {call:?}: got {number}"))
+        }
+    }
+}
+
+/// What reading never leaves, and a builder does.
+fn count_odd(case: &TestCase) {
+    let description = match &case.status {
+        TestCaseStatus::Success { .. } => return,
+        TestCaseStatus::NonSuccess { description, reruns, .. } => {
+            if reruns.runs.is_empty() && reruns.kind == FlakyOrRerun::Flaky {
+                hit!("W14", "a failure or error without runs whose kind is Flaky");
+            }
+            description
+        }
+        TestCaseStatus::Skipped { description, .. } => description,
+    };
+    if description.as_deref() == Some("") {
+        hit!("W14", "an empty description");
     }
 }
 

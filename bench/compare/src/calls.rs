@@ -31,7 +31,9 @@ fn wrong(name: &str) -> bool {
     asked > 0 && WRONG[asked - 1].0 == name
 }
 
-pub fn read(events: &[u32], attributes: &[u32], source: &[u8], records: &mut [u32], text: &mut [u8], scratch: &mut [u8]) -> sys::Refusal {
+pub fn read(
+    events: &[u32], attributes: &[u32], source: &[u8], records: &mut [u32], text: &mut [u8], scratch: &mut [u8],
+) -> sys::Refusal {
     let before = scratch.first().copied();
     let mut r = sys::read(events, attributes, source, records, text, scratch);
     if ASKED.load(Relaxed) == 0 {
@@ -51,7 +53,8 @@ pub fn read(events: &[u32], attributes: &[u32], source: &[u8], records: &mut [u3
     }
     let accepted = r.number == 0;
     if wrong("tree") && accepted {
-        if let Some(run) = records.chunks_mut(32).find(|c| c.len() == 32 && (9..=12).contains(&c[0]) && c[1] & 16 != 0 && c[17] > 0) {
+        if let Some(run) = records.chunks_mut(32).find(|c| c.len() == 32 && (9..=12).contains(&c[0]) && c[1] & 16 != 0 && c[17] > 0)
+        {
             run[17] -= 1;
         }
     }

@@ -55,9 +55,22 @@ impl Tally {
     }
     pub fn slots(&mut self) -> [&mut u64; 16] {
         [
-            &mut self.tables, &mut self.accepted, &mut self.refused, &mut self.short, &mut self.listings, &mut self.tables_written,
-            &mut self.documents_written, &mut self.round_trips, &mut self.plain, &mut self.explained, &mut self.pairs,
-            &mut self.reports_built, &mut self.calls_built, &mut self.orders, &mut self.sheets, &mut self.starts,
+            &mut self.tables,
+            &mut self.accepted,
+            &mut self.refused,
+            &mut self.short,
+            &mut self.listings,
+            &mut self.tables_written,
+            &mut self.documents_written,
+            &mut self.round_trips,
+            &mut self.plain,
+            &mut self.explained,
+            &mut self.pairs,
+            &mut self.reports_built,
+            &mut self.calls_built,
+            &mut self.orders,
+            &mut self.sheets,
+            &mut self.starts,
         ]
     }
 }
@@ -99,7 +112,11 @@ fn is_clear(bytes: &[u8]) -> bool {
 }
 
 fn check(test: bool, what: impl FnOnce() -> String) -> Compared {
-    if test { Ok(()) } else { Err(what()) }
+    if test {
+        Ok(())
+    } else {
+        Err(what())
+    }
 }
 
 fn accepted(r: &sys::Refusal) -> bool {
@@ -154,14 +171,19 @@ impl Bench {
                 hit!("M7", "what is wrong with a text itself comes before room for it");
             }
         }
-        self.reading(input, &want, areas, words, r.next() as u8 | 1).map_err(|e| format!("reading, areas {room:?} {areas:?}: {e}"))?;
+        self.reading(input, &want, areas, words, r.next() as u8 | 1)
+            .map_err(|e| format!("reading, areas {room:?} {areas:?}: {e}"))?;
         match &want.result {
             Ok(read) => {
                 self.tally.accepted += 1;
                 self.listing(input, read, areas, words, &mut r)?;
                 self.starts(read)?;
                 self.writing(read, &mut r)?;
-                if r.one(4) { self.spoiled(input, areas, words, &mut r) } else { Ok(()) }
+                if r.one(4) {
+                    self.spoiled(input, areas, words, &mut r)
+                } else {
+                    Ok(())
+                }
             }
             Err(refused) => {
                 self.tally.refused += 1;
@@ -172,7 +194,14 @@ impl Bench {
 
     fn reading(&mut self, input: &Input, want: &Outcome, areas: Areas, words: usize, dirt: u8) -> Compared {
         self.lend(words, areas.text, areas.scratch, dirt);
-        let got = calls::read(&input.events(), &input.attributes(), &input.table.source, &mut self.records, &mut self.text, &mut self.scratch);
+        let got = calls::read(
+            &input.events(),
+            &input.attributes(),
+            &input.table.source,
+            &mut self.records,
+            &mut self.text,
+            &mut self.scratch,
+        );
         check(is_clear(&self.scratch), || "scratch isn't zero behind it".into())?;
         hit!("M11", "areas that held other bytes");
         match &want.result {
@@ -195,7 +224,9 @@ impl Bench {
         check(got == want, || format!("the tree:\n{}", differing(&want, &got)))?;
         check(kinds == read.records, || format!("records taken:\n  wanted {:?}\n  got    {kinds:?}", read.records))?;
         let n = read.text.len();
-        check(self.text[..n] == read.text[..] && is_clear(&self.text[n..]), || "the text area, or what is behind its texts".into())?;
+        check(self.text[..n] == read.text[..] && is_clear(&self.text[n..]), || {
+            "the text area, or what is behind its texts".into()
+        })?;
         hit!("M8", "a layout");
         check(sys::is_layout(&self.records, &self.text), || "what reading leaves is no layout".into())
     }
@@ -243,12 +274,22 @@ impl Bench {
 
     /// Reading and listing in one call, and what is printed of it.
     #[allow(clippy::too_many_arguments)]
-    fn in_one_call(&mut self, input: &Input, want: Option<&String>, refused: &Refused, areas: Areas, words: usize, length: usize, dirt: u8) -> Compared {
+    fn in_one_call(
+        &mut self, input: &Input, want: Option<&String>, refused: &Refused, areas: Areas, words: usize, length: usize, dirt: u8,
+    ) -> Compared {
         let (events, attributes) = (input.events(), input.attributes());
         self.lend(words, areas.text, areas.scratch, dirt);
         self.out.clear();
         self.out.resize(length, dirt);
-        let got = sys::read_and_list(&events, &attributes, &input.table.source, &mut self.records, &mut self.text, &mut self.scratch, &mut self.out);
+        let got = sys::read_and_list(
+            &events,
+            &attributes,
+            &input.table.source,
+            &mut self.records,
+            &mut self.text,
+            &mut self.scratch,
+            &mut self.out,
+        );
         let none = is_zero(&self.records) && is_clear(&self.text) && is_clear(&self.scratch);
         check(none, || "reading and listing in one call leaves something in its areas".into())?;
         match want {
@@ -259,13 +300,23 @@ impl Bench {
             None => {
                 hit_if!(refused.number == 16, "L13", "16", "a refusal of reading");
                 let same = refused.is(&got.refusal) && got.length == 0 && is_clear(&self.out);
-                check(same, || format!("in one call:\n  wanted {}\n  got    {}", refused.shown(), Refused::given(&got.refusal).shown()))?
+                check(same, || {
+                    format!("in one call:\n  wanted {}\n  got    {}", refused.shown(), Refused::given(&got.refusal).shown())
+                })?
             }
         }
         self.lend(words, areas.text, areas.scratch, dirt);
         self.out.clear();
         self.out.resize(length, dirt);
-        let n = sys::public_listing(&events, &attributes, &input.table.source, &mut self.records, &mut self.text, &mut self.scratch, &mut self.out);
+        let n = sys::public_listing(
+            &events,
+            &attributes,
+            &input.table.source,
+            &mut self.records,
+            &mut self.text,
+            &mut self.scratch,
+            &mut self.out,
+        );
         let shown = want.map_or(&b"(refused)\n"[..], |w| w.as_bytes());
         hit_if!(want.is_some(), "L3", "a listing", "(refused)");
         let shown = &shown[..shown.len().min(length)];
@@ -273,7 +324,9 @@ impl Bench {
             hit!("L12", "a part of (refused)");
         }
         let none = is_zero(&self.records) && is_clear(&self.text) && is_clear(&self.scratch);
-        check(none && n == shown.len() && &self.out[..n] == shown && is_clear(&self.out[n..]), || "the public listing, or its areas".into())
+        check(none && n == shown.len() && &self.out[..n] == shown && is_clear(&self.out[n..]), || {
+            "the public listing, or its areas".into()
+        })
     }
 
     fn refusing(&mut self, input: &Input, refused: &Refused, areas: Areas, words: usize, r: &mut Random) -> Compared {
@@ -293,7 +346,9 @@ impl Bench {
             let got = sys::write(&self.records, &self.text, &mut [7; 5], &mut [], &mut []);
             check(late.is(&got.refusal), || "writing of areas without a report".into())?;
             let got = sys::starts(&self.records, &self.text);
-            check(late.is(&got.refusal) && !got.found && got.seconds == 0 && got.nanos == 0, || "starts of areas without a report".into())?;
+            check(late.is(&got.refusal) && !got.found && got.seconds == 0 && got.nanos == 0, || {
+                "starts of areas without a report".into()
+            })?;
             hit!("F11", "15");
         }
         self.explaining(input, refused, areas, words, r)
@@ -336,7 +391,9 @@ impl Bench {
     fn starts(&mut self, read: &Read) -> Compared {
         self.tally.starts += 1;
         let got = sys::starts(&self.records, &self.text);
-        let words = |m: &sys::Moment| [m.year as u32, m.month as u32, m.day as u32, m.hour as u32, m.minute as u32, m.second as u32, m.nanos, m.offset as u32];
+        let words = |m: &sys::Moment| {
+            [m.year as u32, m.month as u32, m.day as u32, m.hour as u32, m.minute as u32, m.second as u32, m.nanos, m.offset as u32]
+        };
         let span = (got.seconds as i128) * 1_000_000_000 + got.nanos as i128;
         match starts(&read.report) {
             Some((first, last, between)) => {
@@ -345,8 +402,14 @@ impl Bench {
                 hit!("D3", "an instant");
                 hit!("D4", "a first and a last start");
                 hit!("D5", "a span");
-                let same = got.found && words(&got.first) == first && words(&got.last) == last && span == between && accepted(&got.refusal);
-                check(same && got.nanos < 1_000_000_000, || format!("first and last start: wanted {first:?}, {last:?}, {between} ns"))
+                let same = got.found
+                    && words(&got.first) == first
+                    && words(&got.last) == last
+                    && span == between
+                    && accepted(&got.refusal);
+                check(same && got.nanos < 1_000_000_000, || {
+                    format!("first and last start: wanted {first:?}, {last:?}, {between} ns")
+                })
             }
             None => {
                 hit!("D6", "no case has a timestamp");
@@ -376,7 +439,10 @@ impl Bench {
         let got = calls::write(&self.records, &self.text, &mut events, &mut attributes, &mut bytes);
         check(records == self.records && text == self.text, || "writing changes its tree".into())?;
         if !fits {
-            let none = (got.events, got.attributes, got.bytes) == (0, 0, 0) && is_zero(&events) && is_zero(&attributes) && is_clear(&bytes);
+            let none = (got.events, got.attributes, got.bytes) == (0, 0, 0)
+                && is_zero(&events)
+                && is_zero(&attributes)
+                && is_clear(&bytes);
             return check(Refused::late(16, 21).is(&got.refusal) && none, || "writing: 16 and areas of zero are wanted".into());
         }
         self.tally.tables_written += 1;
@@ -385,11 +451,19 @@ impl Bench {
         let differs = events[..5 * n].chunks(5).zip(&want.events).position(|(g, w)| g != w);
         check(differs.is_none(), || format!("writing: event {}\nwanted\n{}", differs.unwrap(), Input::new(want.clone()).shown()))?;
         let differs = attributes[..5 * m].chunks(5).zip(&want.attributes).position(|(g, w)| g != w);
-        check(differs.is_none(), || format!("writing: attribute {}\nwanted\n{}", differs.unwrap(), Input::new(want.clone()).shown()))?;
+        check(differs.is_none(), || {
+            format!("writing: attribute {}\nwanted\n{}", differs.unwrap(), Input::new(want.clone()).shown())
+        })?;
         check(bytes[..k] == want.source[..], || "writing: the bytes".into())?;
-        check(is_zero(&events[5 * n..]) && is_zero(&attributes[5 * m..]) && is_clear(&bytes[k..]), || "writing: zeros behind the table".into())?;
+        check(is_zero(&events[5 * n..]) && is_zero(&attributes[5 * m..]) && is_clear(&bytes[k..]), || {
+            "writing: zeros behind the table".into()
+        })?;
         self.document(read, &document, r)?;
-        if r.one(4) { self.round_trip(read, Input::new(want)) } else { Ok(()) }
+        if r.one(4) {
+            self.round_trip(read, Input::new(want))
+        } else {
+            Ok(())
+        }
     }
 
     /// Trees that reading never leaves: with a dead record more, which changes nothing (rule M13), and with a word or byte changed, which is
@@ -417,7 +491,8 @@ impl Bench {
         }
         if text.is_empty() || r.below(4) > 0 {
             let at = 32 * r.index(taken) + r.index(32);
-            records[at] = [0, 1, 2, 3, 6, 8, 9, 11, 13, 14, 17, records[at] ^ 1, records[at] ^ 1 << r.below(32), u32::MAX][r.index(14)];
+            records[at] =
+                [0, 1, 2, 3, 6, 8, 9, 11, 13, 14, 17, records[at] ^ 1, records[at] ^ 1 << r.below(32), u32::MAX][r.index(14)];
         } else {
             let at = r.index(text.len());
             text[at] = [0, 1, 0x80, 0xc3, 0xff, b'a'][r.index(6)];
@@ -427,10 +502,16 @@ impl Bench {
         let told = tree_fields(&records, &text);
         check(!good || told.is_ok(), || format!("a layout by the call, but {}", told.as_ref().unwrap_err()))?;
         let (listed, starts) = (list(&records, &text).0, sys::starts(&records, &text).refusal.number);
-        let (mut e, mut a, mut b) = (vec![7; 400 * (taken + 2)], vec![7; 200 * (taken + 2)], vec![7; 4000 + 50 * text.len() * (taken + 2)]);
+        let (mut e, mut a, mut b) =
+            (vec![7; 400 * (taken + 2)], vec![7; 200 * (taken + 2)], vec![7; 4000 + 50 * text.len() * (taken + 2)]);
         let written = sys::write(&records, &text, &mut e, &mut a, &mut b).refusal.number;
         let want = if good { 0 } else { 15 };
-        check((listed, starts, written) == (want, want, want), || format!("a tree that {} a layout: listing {listed}, starts {starts}, writing {written}", if good { "is" } else { "isn't" }))
+        check((listed, starts, written) == (want, want, want), || {
+            format!(
+                "a tree that {} a layout: listing {listed}, starts {starts}, writing {written}",
+                if good { "is" } else { "isn't" }
+            )
+        })
     }
 
     /// The written table read again, here and by the crate; of a plain report it is the report.
@@ -483,7 +564,11 @@ impl Bench {
             return Ok(());
         }
         let five = |words: &[u32], n: u32| words.chunks(5).take(n as usize).map(|c| c.try_into().unwrap()).collect();
-        let table = crate::table::Table { events: five(&events, t.events), attributes: five(&attributes, t.attributes), source: want.to_vec() };
+        let table = crate::table::Table {
+            events: five(&events, t.events),
+            attributes: five(&attributes, t.attributes),
+            source: want.to_vec(),
+        };
         let back = reference::read(&Input::new(table), Areas::limits(), self.changes);
         let first = fields(&read.report, self.changes.hostname);
         let back = back.result.map(|b| fields(&b.report, self.changes.hostname)).unwrap_or_default();
@@ -506,11 +591,20 @@ impl Bench {
         let mut said = vec![];
         for t in [a, b] {
             self.lend(words, areas.text, areas.scratch, 5);
-            let read = calls::read(&t.events(), &t.attributes(), &t.table.source, &mut self.records, &mut self.text, &mut self.scratch);
+            let read =
+                calls::read(&t.events(), &t.attributes(), &t.table.source, &mut self.records, &mut self.text, &mut self.scratch);
             self.lend(words, areas.text, areas.scratch, 5);
             self.out.clear();
             self.out.resize(length, 5);
-            sys::public_listing(&t.events(), &t.attributes(), &t.table.source, &mut self.records, &mut self.text, &mut self.scratch, &mut self.out);
+            sys::public_listing(
+                &t.events(),
+                &t.attributes(),
+                &t.table.source,
+                &mut self.records,
+                &mut self.text,
+                &mut self.scratch,
+                &mut self.out,
+            );
             said.push((read.number == 0, self.out.clone()));
         }
         hit!("L1", "private values changed");
@@ -535,12 +629,16 @@ fn choose(r: &mut Random, need: Areas) -> (Areas, usize, Room) {
         _ => Room::Cut,
     };
     match room {
-        Room::Full => areas = Areas { records: need.records + r.index(4), text: need.text + r.index(90), scratch: need.scratch + r.index(90) },
+        Room::Full => {
+            areas = Areas { records: need.records + r.index(4), text: need.text + r.index(90), scratch: need.scratch + r.index(90) }
+        }
         Room::Exact | Room::Odd => {}
         Room::Less(0) => areas.records = need.records.saturating_sub(1),
         Room::Less(1) => areas.text = need.text.saturating_sub(1),
         Room::Less(_) => areas.scratch = need.scratch.saturating_sub(1),
-        Room::Cut => areas = Areas { records: r.index(need.records + 2), text: r.index(need.text + 2), scratch: r.index(need.scratch + 2) },
+        Room::Cut => {
+            areas = Areas { records: r.index(need.records + 2), text: r.index(need.text + 2), scratch: r.index(need.scratch + 2) }
+        }
     }
     let odd = if matches!(room, Room::Odd | Room::Cut) { r.index(32) } else { 0 };
     (areas, 32 * areas.records + odd, room)
@@ -548,7 +646,19 @@ fn choose(r: &mut Random, need: Areas) -> (Areas, usize, Room) {
 
 /// Rule L2.
 fn agree(a: &Input, b: &Input) -> bool {
-    const PUBLIC: [&[u8]; 11] = [b"name", b"classname", b"uuid", b"timestamp", b"time", b"tests", b"failures", b"errors", b"skipped", b"disabled", b"assertions"];
+    const PUBLIC: [&[u8]; 11] = [
+        b"name",
+        b"classname",
+        b"uuid",
+        b"timestamp",
+        b"time",
+        b"tests",
+        b"failures",
+        b"errors",
+        b"skipped",
+        b"disabled",
+        b"assertions",
+    ];
     if a.check().is_err() || b.check().is_err() {
         hit!("L2", "a table that 11 refuses agrees with any");
         return true;
@@ -565,14 +675,16 @@ fn agree(a: &Input, b: &Input) -> bool {
                 g[0] == h[0] && key == b.part(h[1], h[2]) && value
             })
     };
-    let same = |e: &[u32; 5], f: &[u32; 5]| e[0] == f[0] && (e[0] > 2 || a.part(e[1], e[2]) == b.part(f[1], f[2])) && attributes(e, f);
+    let same =
+        |e: &[u32; 5], f: &[u32; 5]| e[0] == f[0] && (e[0] > 2 || a.part(e[1], e[2]) == b.part(f[1], f[2])) && attributes(e, f);
     x.len() == y.len() && x.iter().zip(&y).all(|(e, f)| same(e, f))
 }
 
 /// Request 12 lets crate and product differ where another key is cleaned to `hostname`.
 fn cleans_to_hostname(input: &Input) -> bool {
     let t = &input.table;
-    let cleaned = |key: &[u8]| std::str::from_utf8(key).ok().and_then(quick_xml::rules::decoded).map(|k| quick_xml::rules::filtered(&k));
+    let cleaned =
+        |key: &[u8]| std::str::from_utf8(key).ok().and_then(quick_xml::rules::decoded).map(|k| quick_xml::rules::filtered(&k));
     t.attributes.iter().any(|a| {
         let inside = (a[1] as u64 + a[2] as u64) <= t.source.len() as u64;
         inside && t.part(a[1], a[2]) != b"hostname" && cleaned(t.part(a[1], a[2])).as_deref() == Some("hostname")

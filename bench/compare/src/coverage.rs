@@ -36,7 +36,8 @@ impl Coverage {
 
     /// The rules in the page's order, each with its branches; and what is never reached, which is to be nothing.
     pub fn told(&self, page: &str, kind: Kind, whole: bool) -> (String, Vec<String>) {
-        let rules: Vec<&str> = page.lines().filter_map(|l| l.strip_prefix("**")?.split_once("** ").map(|p| p.0)).filter(|r| is_rule(r)).collect();
+        let rules: Vec<&str> =
+            page.lines().filter_map(|l| l.strip_prefix("**")?.split_once("** ").map(|p| p.0)).filter(|r| is_rule(r)).collect();
         let (mut out, mut never) = (String::new(), vec![]);
         let (mut reached, mut branches, mut met) = (0, 0, 0);
         for rule in &rules {

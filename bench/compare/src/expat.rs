@@ -16,8 +16,12 @@ extern "C" {
     );
     fn XML_SetCharacterDataHandler(parser: Parser, handler: Option<extern "C" fn(*mut c_void, *const c_char, c_int)>);
     fn XML_SetCommentHandler(parser: Parser, handler: Option<extern "C" fn(*mut c_void, *const c_char)>);
-    fn XML_SetProcessingInstructionHandler(parser: Parser, handler: Option<extern "C" fn(*mut c_void, *const c_char, *const c_char)>);
-    fn XML_SetCdataSectionHandler(parser: Parser, start: Option<extern "C" fn(*mut c_void)>, end: Option<extern "C" fn(*mut c_void)>);
+    fn XML_SetProcessingInstructionHandler(
+        parser: Parser, handler: Option<extern "C" fn(*mut c_void, *const c_char, *const c_char)>,
+    );
+    fn XML_SetCdataSectionHandler(
+        parser: Parser, start: Option<extern "C" fn(*mut c_void)>, end: Option<extern "C" fn(*mut c_void)>,
+    );
     fn XML_SetXmlDeclHandler(parser: Parser, handler: Option<extern "C" fn(*mut c_void, *const c_char, *const c_char, c_int)>);
     fn XML_Parse(parser: Parser, bytes: *const c_char, length: c_int, last: c_int) -> c_int;
     fn XML_GetErrorCode(parser: Parser) -> c_int;
@@ -63,7 +67,11 @@ impl Seen {
 
 /// What expat is handed is alive as long as the handler runs.
 unsafe fn bytes<'a>(p: *const c_char) -> &'a [u8] {
-    if p.is_null() { b"" } else { CStr::from_ptr(p).to_bytes() }
+    if p.is_null() {
+        b""
+    } else {
+        CStr::from_ptr(p).to_bytes()
+    }
 }
 
 unsafe fn seen<'a>(data: *mut c_void) -> &'a mut Seen {

@@ -17,9 +17,31 @@ pub struct Sentences {
 }
 
 const CAUSES: [&str; 25] = [
-    "XmlFault", "EofInSkip", "NotUtf8", "BadInteger", "BadTimestamp", "BadTime", "BadUuid", "MissingAttribute", "MissingReport", "EofInElement",
-    "StatusRule", "UnknownEntity", "FaultyAttribute", "RepeatedKey", "BadReference", "BadTable", "RecordsSpent", "TextFull", "ScratchFull",
-    "NotLayout", "OutputFull", "CountLimit", "TooManyCases", "NoSuchReport", "TooManyReports",
+    "XmlFault",
+    "EofInSkip",
+    "NotUtf8",
+    "BadInteger",
+    "BadTimestamp",
+    "BadTime",
+    "BadUuid",
+    "MissingAttribute",
+    "MissingReport",
+    "EofInElement",
+    "StatusRule",
+    "UnknownEntity",
+    "FaultyAttribute",
+    "RepeatedKey",
+    "BadReference",
+    "BadTable",
+    "RecordsSpent",
+    "TextFull",
+    "ScratchFull",
+    "NotLayout",
+    "OutputFull",
+    "CountLimit",
+    "TooManyCases",
+    "NoSuchReport",
+    "TooManyReports",
 ];
 
 /// What stands between the first and the last backtick of a table's cell.
@@ -123,12 +145,40 @@ impl Sentences {
 /// Rules E2 and E3.
 fn put_element(out: &mut String, [kind, index, event]: &[u32; 3], table: &Table, attributes: usize) {
     const NAMES: [&str; 16] = [
-        "testsuites", "testsuite", "testcase", "properties", "property", "failure", "error", "skipped", "flakyFailure", "flakyError", "rerunFailure",
-        "rerunError", "?", "system-out", "system-err", "@",
+        "testsuites",
+        "testsuite",
+        "testcase",
+        "properties",
+        "property",
+        "failure",
+        "error",
+        "skipped",
+        "flakyFailure",
+        "flakyError",
+        "rerunFailure",
+        "rerunError",
+        "?",
+        "system-out",
+        "system-err",
+        "@",
     ];
     const KEYS: [&str; 16] = [
-        "name", "classname", "uuid", "timestamp", "time", "tests", "failures", "errors", "skipped", "disabled", "assertions", "message", "type",
-        "value", "stackTrace", "hostname",
+        "name",
+        "classname",
+        "uuid",
+        "timestamp",
+        "time",
+        "tests",
+        "failures",
+        "errors",
+        "skipped",
+        "disabled",
+        "assertions",
+        "message",
+        "type",
+        "value",
+        "stackTrace",
+        "hostname",
     ];
     let known = (1..=16).contains(kind) && *kind != 13;
     if !known {

@@ -6,7 +6,8 @@ fn event(kind: u32, name: &str) -> Event {
 }
 
 fn named(kind: u32, name: &str, keys: &[(&str, &str)]) -> Event {
-    let attributes = keys.iter().map(|(k, v)| Attribute { mark: 0, key: k.as_bytes().to_vec(), value: v.as_bytes().to_vec() }).collect();
+    let attributes =
+        keys.iter().map(|(k, v)| Attribute { mark: 0, key: k.as_bytes().to_vec(), value: v.as_bytes().to_vec() }).collect();
     Event { attributes, ..event(kind, name) }
 }
 
@@ -50,8 +51,19 @@ pub fn tables() -> Vec<(&'static str, Input)> {
         ("a bad attribute that two events share", Input::new(shared)),
         ("an Empty output in a failure", in_case(&[event(0, "failure"), event(1, "system-out"), event(2, "failure")])),
         ("an unknown Empty in a failure", in_case(&[event(0, "failure"), event(1, "x"), event(2, "failure")])),
-        ("a Start property", in_case(&[event(0, "properties"), named(0, "property", &[("name", "a"), ("value", "b")]), event(2, "property"), event(2, "properties")])),
-        ("a Start property without attributes", in_case(&[event(0, "properties"), event(0, "property"), event(2, "property"), event(2, "properties")])),
+        (
+            "a Start property",
+            in_case(&[
+                event(0, "properties"),
+                named(0, "property", &[("name", "a"), ("value", "b")]),
+                event(2, "property"),
+                event(2, "properties"),
+            ]),
+        ),
+        (
+            "a Start property without attributes",
+            in_case(&[event(0, "properties"), event(0, "property"), event(2, "property"), event(2, "properties")]),
+        ),
         ("a Ref of a number", in_case(&[event(0, "system-out"), event(5, "#233"), event(2, "system-out")])),
         ("a Ref of a bad number", in_case(&[event(0, "system-out"), event(5, "#"), event(2, "system-out")])),
     ]

@@ -11,96 +11,352 @@ use std::collections::HashMap;
 
 pub const PROFILES: [&str; 8] = ["mix", "clean", "bad", "mutate", "table", "stress", "short", "words"];
 
-const STATUS: [&str; 7] =
-    ["failure", "error", "skipped", "flakyFailure", "flakyError", "rerunFailure", "rerunError"];
+const STATUS: [&str; 7] = ["failure", "error", "skipped", "flakyFailure", "flakyError", "rerunFailure", "rerunError"];
 const TAGS: [&str; 22] = [
-    "testsuites", "testsuite", "testcase", "properties", "property", "system-out", "system-err",
-    "stackTrace", "failure", "error", "skipped", "flakyFailure", "flakyError", "rerunFailure",
-    "rerunError", "foo", "x", "foo:bar", "Failure", "test", "testsuitesx", "",
+    "testsuites",
+    "testsuite",
+    "testcase",
+    "properties",
+    "property",
+    "system-out",
+    "system-err",
+    "stackTrace",
+    "failure",
+    "error",
+    "skipped",
+    "flakyFailure",
+    "flakyError",
+    "rerunFailure",
+    "rerunError",
+    "foo",
+    "x",
+    "foo:bar",
+    "Failure",
+    "test",
+    "testsuitesx",
+    "",
 ];
-const PUBLIC: [&str; 11] = [
-    "name", "classname", "uuid", "timestamp", "time", "tests", "failures", "errors", "skipped",
-    "disabled", "assertions",
-];
+const PUBLIC: [&str; 11] =
+    ["name", "classname", "uuid", "timestamp", "time", "tests", "failures", "errors", "skipped", "disabled", "assertions"];
 
 const GOOD_TEXT: &[&str] = &[
-    "", "a", "b", "ab", "test_one", "mod::tests::it works", " lead", "trail ", "  ", "\n", "é",
-    "日本語", "😀", "a\nb", "tab\tq", "ret\rx", "quote\"q", "back\\slash", "&amp;", "&lt;t&gt;",
-    "&#65;", "&#x1F600;", "&#x9;&#10;&#13;", "&quot;x&apos;", "&#x10FFFF;", "&#xFFFD;", "&#xD7FF;",
-    "&#xE000;", "&#0000000000000000065;", "&#x00000000000041;", "&#xaBc;", "\u{1}", "\u{1} a",
-    " \u{1} ", "\u{1f}x\u{8}", "\u{1b}[31mred\u{1b}[0m", "\u{b}\u{c}", "\u{b}v\u{c}", "\u{85}nel\u{85}",
-    "\u{a0}nbsp\u{2003}", "\u{1680}o\u{205f}", "\u{2028}l\u{2029}", "\u{202f}\u{3000}", "\u{feff}bom",
-    "\u{200b}zw", "\u{180e}m", "\u{7f}del", "]]>", "<b>", "a;b", "&amp;amp;", "&#32;pad&#x20;",
-    "&#x85;x", "\0", "a\0b", "\u{10ffff}", "\u{fffe}", "long long long long long long long text",
-    "(report", "0.5", "-", "\"\\\n\t\r",
+    "",
+    "a",
+    "b",
+    "ab",
+    "test_one",
+    "mod::tests::it works",
+    " lead",
+    "trail ",
+    "  ",
+    "\n",
+    "é",
+    "日本語",
+    "😀",
+    "a\nb",
+    "tab\tq",
+    "ret\rx",
+    "quote\"q",
+    "back\\slash",
+    "&amp;",
+    "&lt;t&gt;",
+    "&#65;",
+    "&#x1F600;",
+    "&#x9;&#10;&#13;",
+    "&quot;x&apos;",
+    "&#x10FFFF;",
+    "&#xFFFD;",
+    "&#xD7FF;",
+    "&#xE000;",
+    "&#0000000000000000065;",
+    "&#x00000000000041;",
+    "&#xaBc;",
+    "\u{1}",
+    "\u{1} a",
+    " \u{1} ",
+    "\u{1f}x\u{8}",
+    "\u{1b}[31mred\u{1b}[0m",
+    "\u{b}\u{c}",
+    "\u{b}v\u{c}",
+    "\u{85}nel\u{85}",
+    "\u{a0}nbsp\u{2003}",
+    "\u{1680}o\u{205f}",
+    "\u{2028}l\u{2029}",
+    "\u{202f}\u{3000}",
+    "\u{feff}bom",
+    "\u{200b}zw",
+    "\u{180e}m",
+    "\u{7f}del",
+    "]]>",
+    "<b>",
+    "a;b",
+    "&amp;amp;",
+    "&#32;pad&#x20;",
+    "&#x85;x",
+    "\0",
+    "a\0b",
+    "\u{10ffff}",
+    "\u{fffe}",
+    "long long long long long long long text",
+    "(report",
+    "0.5",
+    "-",
+    "\"\\\n\t\r",
 ];
 const BAD_TEXT: &[&[u8]] = &[
-    b"&", b"&x;", b"&#0;", b"&#x0;", b"&#1;", b"&#x110000;", b"&#xD800;", b"&#xDFFF;", b"&#;",
-    b"&#x;", b"&amp", b"a&", b"&;", b"&#X41;", b"&#+65;", b"&#-1;", b"&#99999999999999999999999;",
-    b"&lt&gt;", b"& amp;", b"&amp ;", b"&#xFFFE;", b"&#65535;", b"&#x1F;", b"&AMP;", b"&nbsp;",
-    b"&#6 5;", b"&#x4G;", b"&#4294967361;", b"&#x100000041;", b"\xff", b"a\x80", b"\xc0\x80",
-    b"\xc1\xbf", b"\xed\xa0\x80", b"\xf4\x90\x80\x80", b"\xe2\x82", b"\xf0\x9f\x98",
-    b"\xe0\x80\x80", b"\xf5\x80\x80\x80", b"\xf8\x88\x80\x80\x80", b"&\xff;", b"ok\xffno",
+    b"&",
+    b"&x;",
+    b"&#0;",
+    b"&#x0;",
+    b"&#1;",
+    b"&#x110000;",
+    b"&#xD800;",
+    b"&#xDFFF;",
+    b"&#;",
+    b"&#x;",
+    b"&amp",
+    b"a&",
+    b"&;",
+    b"&#X41;",
+    b"&#+65;",
+    b"&#-1;",
+    b"&#99999999999999999999999;",
+    b"&lt&gt;",
+    b"& amp;",
+    b"&amp ;",
+    b"&#xFFFE;",
+    b"&#65535;",
+    b"&#x1F;",
+    b"&AMP;",
+    b"&nbsp;",
+    b"&#6 5;",
+    b"&#x4G;",
+    b"&#4294967361;",
+    b"&#x100000041;",
+    b"\xff",
+    b"a\x80",
+    b"\xc0\x80",
+    b"\xc1\xbf",
+    b"\xed\xa0\x80",
+    b"\xf4\x90\x80\x80",
+    b"\xe2\x82",
+    b"\xf0\x9f\x98",
+    b"\xe0\x80\x80",
+    b"\xf5\x80\x80\x80",
+    b"\xf8\x88\x80\x80\x80",
+    b"&\xff;",
+    b"ok\xffno",
 ];
 const GOOD_INT: &[&str] = &[
-    "0", "1", "2", "10", "+5", "007", "+0", "18446744073709551615", "+18446744073709551615",
-    "00000000000000000000000000018446744073709551615", "9223372036854775808", "42",
+    "0",
+    "1",
+    "2",
+    "10",
+    "+5",
+    "007",
+    "+0",
+    "18446744073709551615",
+    "+18446744073709551615",
+    "00000000000000000000000000018446744073709551615",
+    "9223372036854775808",
+    "42",
 ];
 const BAD_INT: &[&[u8]] = &[
-    b"", b"-0", b"-1", b"+", b"++1", b"+-1", b"1 ", b" 1", b"18446744073709551616", b"1e3", b"1.0",
-    b"0x10", b"\xef\xbc\x99", b"999999999999999999999999", b"1_0", b"\xff", b"&#49;", b"1\n",
-    b"18446744073709551620", b"20000000000000000000", b"-", b"/", b":",
+    b"",
+    b"-0",
+    b"-1",
+    b"+",
+    b"++1",
+    b"+-1",
+    b"1 ",
+    b" 1",
+    b"18446744073709551616",
+    b"1e3",
+    b"1.0",
+    b"0x10",
+    b"\xef\xbc\x99",
+    b"999999999999999999999999",
+    b"1_0",
+    b"\xff",
+    b"&#49;",
+    b"1\n",
+    b"18446744073709551620",
+    b"20000000000000000000",
+    b"-",
+    b"/",
+    b":",
 ];
 const EDGE_TIME: &[&str] = &[
-    "0", "0.", ".0", "0.5", ".5", "5.", "8388607.999999999", "8388607.9999", "0.000000001",
-    "0.0005", "0.0015", "0.0625", "0.1875", "1.0005", "2.0005", "0.4995", "0.9995", "0.9994999",
-    "0.999500001", "0008388607", "00000000000000000000000000000000001.5", "8388607", "1.000000000",
-    "123456.7895", "4194304.0005", "4194303.999999999", "1048576.0625", "8388607.0625", "0.0004999",
-    "0.000500001", "8388607.9995", "8388607.999499999", "8388607.9994", "2097151.062500000",
+    "0",
+    "0.",
+    ".0",
+    "0.5",
+    ".5",
+    "5.",
+    "8388607.999999999",
+    "8388607.9999",
+    "0.000000001",
+    "0.0005",
+    "0.0015",
+    "0.0625",
+    "0.1875",
+    "1.0005",
+    "2.0005",
+    "0.4995",
+    "0.9995",
+    "0.9994999",
+    "0.999500001",
+    "0008388607",
+    "00000000000000000000000000000000001.5",
+    "8388607",
+    "1.000000000",
+    "123456.7895",
+    "4194304.0005",
+    "4194303.999999999",
+    "1048576.0625",
+    "8388607.0625",
+    "0.0004999",
+    "0.000500001",
+    "8388607.9995",
+    "8388607.999499999",
+    "8388607.9994",
+    "2097151.062500000",
 ];
 const BAD_TIME: &[&[u8]] = &[
-    b"8388608", b"", b".", b"1e3", b"1E0", b"-1", b"-0", b"+1", b"inf", b"NaN", b"infinity",
-    b"1.0000000000", b"8388607.9999999999", b"1,5", b" 1", b"1 ", b"1_0", b"0x1", b"1.2.3",
-    b"99999999999999999999999999", b"8388608.0", b"..", b"1..", b"\xff", b"&#49;", b"16777216",
-    b"18446744073709551617", b"\xd9\xa1", b"1s", b".0000000001", b"8388608.",
+    b"8388608",
+    b"",
+    b".",
+    b"1e3",
+    b"1E0",
+    b"-1",
+    b"-0",
+    b"+1",
+    b"inf",
+    b"NaN",
+    b"infinity",
+    b"1.0000000000",
+    b"8388607.9999999999",
+    b"1,5",
+    b" 1",
+    b"1 ",
+    b"1_0",
+    b"0x1",
+    b"1.2.3",
+    b"99999999999999999999999999",
+    b"8388608.0",
+    b"..",
+    b"1..",
+    b"\xff",
+    b"&#49;",
+    b"16777216",
+    b"18446744073709551617",
+    b"\xd9\xa1",
+    b"1s",
+    b".0000000001",
+    b"8388608.",
 ];
 const EDGE_STAMP: &[&str] = &[
-    "2023-02-28T00:00:00Z", "2024-02-29T23:59:59z", "2000-02-29t12:00:00.5+01:00",
-    "0000-01-01T00:00:00Z", "9999-12-31T23:59:59.999999999-23:59", "0000-01-01T00:00:00+23:59",
-    "2023-01-01T00:00:00-00:00", "2023-01-01T00:00:00.123456789+23:59", "1999-12-31T23:59:59.9994Z",
-    "2023-06-30T10:20:30.000Z", "0000-02-29T00:00:00Z", "2400-02-29T00:00:00Z",
-    "2023-01-31T00:00:00+05:30", "2023-11-30T00:00:00.1-00:01", "2004-02-29T00:00:00Z",
+    "2023-02-28T00:00:00Z",
+    "2024-02-29T23:59:59z",
+    "2000-02-29t12:00:00.5+01:00",
+    "0000-01-01T00:00:00Z",
+    "9999-12-31T23:59:59.999999999-23:59",
+    "0000-01-01T00:00:00+23:59",
+    "2023-01-01T00:00:00-00:00",
+    "2023-01-01T00:00:00.123456789+23:59",
+    "1999-12-31T23:59:59.9994Z",
+    "2023-06-30T10:20:30.000Z",
+    "0000-02-29T00:00:00Z",
+    "2400-02-29T00:00:00Z",
+    "2023-01-31T00:00:00+05:30",
+    "2023-11-30T00:00:00.1-00:01",
+    "2004-02-29T00:00:00Z",
 ];
 const BAD_STAMP: &[&[u8]] = &[
-    b"2023-02-29T00:00:00Z", b"1900-02-29T00:00:00Z", b"2100-02-29T00:00:00Z", b"",
-    b"2023-01-01T00:00:60Z", b"2016-12-31T23:59:60Z", b"2023-01-01T24:00:00Z",
-    b"2023-01-01T00:60:00Z", b"2023-00-01T00:00:00Z", b"2023-13-01T00:00:00Z",
-    b"2023-01-00T00:00:00Z", b"2023-01-32T00:00:00Z", b"2023-04-31T00:00:00Z",
-    b"2023-01-01 00:00:00Z", b"2023-01-01T00:00:00", b"2023-01-01T00:00:00.Z",
-    b"2023-01-01T00:00:00.1234567890Z", b"2023-01-01T00:00:00+24:00", b"2023-01-01T00:00:00+00:60",
-    b"2023-01-01T00:00:00+0000", b"2023-01-01T00:00:00+00", b"2023-01-01T00:00:00ZZ",
-    b"2023-01-01T00:00:00Z ", b" 2023-01-01T00:00:00Z", b"2023-1-01T00:00:00Z",
-    b"23-01-01T00:00:00Z", b"+2023-01-01T00:00:00Z", b"12023-01-01T00:00:00Z",
-    b"2023-01-01T00:00Z", b"2023-01-01", b"2023-01-01T00:00:00,5Z", b"\xff",
-    b"2023-01-01T00:00:00\xe2\x88\x9200:00", b"2023-01-01T00:00:00+ 1:00", b"2023-01-01T00:00:00+1:00",
-    b"2023/01/01T00:00:00Z", b"2023-01-01T00:00:00-24:00", b"2023-06-31T00:00:00Z",
-    b"2023-01-01T00:00:00+00:00:00", b"2023-01-01T00:00:00 Z", b"-001-01-01T00:00:00Z",
+    b"2023-02-29T00:00:00Z",
+    b"1900-02-29T00:00:00Z",
+    b"2100-02-29T00:00:00Z",
+    b"",
+    b"2023-01-01T00:00:60Z",
+    b"2016-12-31T23:59:60Z",
+    b"2023-01-01T24:00:00Z",
+    b"2023-01-01T00:60:00Z",
+    b"2023-00-01T00:00:00Z",
+    b"2023-13-01T00:00:00Z",
+    b"2023-01-00T00:00:00Z",
+    b"2023-01-32T00:00:00Z",
+    b"2023-04-31T00:00:00Z",
+    b"2023-01-01 00:00:00Z",
+    b"2023-01-01T00:00:00",
+    b"2023-01-01T00:00:00.Z",
+    b"2023-01-01T00:00:00.1234567890Z",
+    b"2023-01-01T00:00:00+24:00",
+    b"2023-01-01T00:00:00+00:60",
+    b"2023-01-01T00:00:00+0000",
+    b"2023-01-01T00:00:00+00",
+    b"2023-01-01T00:00:00ZZ",
+    b"2023-01-01T00:00:00Z ",
+    b" 2023-01-01T00:00:00Z",
+    b"2023-1-01T00:00:00Z",
+    b"23-01-01T00:00:00Z",
+    b"+2023-01-01T00:00:00Z",
+    b"12023-01-01T00:00:00Z",
+    b"2023-01-01T00:00Z",
+    b"2023-01-01",
+    b"2023-01-01T00:00:00,5Z",
+    b"\xff",
+    b"2023-01-01T00:00:00\xe2\x88\x9200:00",
+    b"2023-01-01T00:00:00+ 1:00",
+    b"2023-01-01T00:00:00+1:00",
+    b"2023/01/01T00:00:00Z",
+    b"2023-01-01T00:00:00-24:00",
+    b"2023-06-31T00:00:00Z",
+    b"2023-01-01T00:00:00+00:00:00",
+    b"2023-01-01T00:00:00 Z",
+    b"-001-01-01T00:00:00Z",
 ];
 const BAD_UUID: &[&[u8]] = &[
-    b"1", b"", b"0123456789abcdef0123456789abcdef", b"{01234567-89ab-cdef-0123-456789abcdef}",
-    b"urn:uuid:01234567-89ab-cdef-0123-456789abcdef", b"01234567-89ab-cdef-0123-456789abcde",
-    b"01234567-89ab-cdef-0123-456789abcdef0", b"0123456789ab-cdef--0123-456789abcdef",
-    b"g1234567-89ab-cdef-0123-456789abcdef", b"01234567_89ab_cdef_0123_456789abcdef", b"\xff",
-    b"0123456-789ab-cdef-0123-456789abcdef", b"01234567-89ab-cdef-0123-456789abcd\xc3\xa9",
-    b"01234567-89ab-cdef-0123-456789abcde ", b"+1234567-89ab-cdef-0123-456789abcdef",
+    b"1",
+    b"",
+    b"0123456789abcdef0123456789abcdef",
+    b"{01234567-89ab-cdef-0123-456789abcdef}",
+    b"urn:uuid:01234567-89ab-cdef-0123-456789abcdef",
+    b"01234567-89ab-cdef-0123-456789abcde",
+    b"01234567-89ab-cdef-0123-456789abcdef0",
+    b"0123456789ab-cdef--0123-456789abcdef",
+    b"g1234567-89ab-cdef-0123-456789abcdef",
+    b"01234567_89ab_cdef_0123_456789abcdef",
+    b"\xff",
+    b"0123456-789ab-cdef-0123-456789abcdef",
+    b"01234567-89ab-cdef-0123-456789abcd\xc3\xa9",
+    b"01234567-89ab-cdef-0123-456789abcde ",
+    b"+1234567-89ab-cdef-0123-456789abcdef",
 ];
 
-
 /// Names of Refs in gathered text.
-const GOOD_REF: &[&[u8]] = &[b"amp", b"lt", b"gt", b"apos", b"quot", b"#65", b"#x41", b"#xe9", b"#0000065", b"#x1F600", b"#9", b"#x10FFFF", b"#32"];
+const GOOD_REF: &[&[u8]] =
+    &[b"amp", b"lt", b"gt", b"apos", b"quot", b"#65", b"#x41", b"#xe9", b"#0000065", b"#x1F600", b"#9", b"#x10FFFF", b"#32"];
 const BAD_REF: &[&[u8]] = &[
-    b"nbsp", b"", b"\xff", b"AMP", b"amp;", b"#", b"#x", b"#0", b"#x110000", b"#xD800", b"#1", b"#X41", b"#65;", b"#\xff", b"#6 5", b"#xFFFE",
-    b"x#65", b"#99999999999999999999", b"#-1", b"#65;&#66",
+    b"nbsp",
+    b"",
+    b"\xff",
+    b"AMP",
+    b"amp;",
+    b"#",
+    b"#x",
+    b"#0",
+    b"#x110000",
+    b"#xD800",
+    b"#1",
+    b"#X41",
+    b"#65;",
+    b"#\xff",
+    b"#6 5",
+    b"#xFFFE",
+    b"x#65",
+    b"#99999999999999999999",
+    b"#-1",
+    b"#65;&#66",
 ];
 
 pub struct Generator<'a> {
@@ -139,7 +395,11 @@ impl<'a> Generator<'a> {
     }
 
     fn events(&mut self) -> Vec<Event> {
-        if self.profile == "short" { self.short() } else { self.document() }
+        if self.profile == "short" {
+            self.short()
+        } else {
+            self.document()
+        }
         if self.profile == "mutate" {
             self.mutate();
         }
@@ -197,19 +457,31 @@ impl<'a> Generator<'a> {
             return self.good_text();
         }
         let bad = self.r.pick(BAD_TEXT).to_vec();
-        if self.r.one(3) { [self.good_text(), bad].concat() } else { bad }
+        if self.r.one(3) {
+            [self.good_text(), bad].concat()
+        } else {
+            bad
+        }
     }
 
     /// Bytes that nobody reads.
     fn any_bytes(&mut self) -> Vec<u8> {
-        if self.r.one(2) { self.r.pick(BAD_TEXT).to_vec() } else { self.good_text() }
+        if self.r.one(2) {
+            self.r.pick(BAD_TEXT).to_vec()
+        } else {
+            self.good_text()
+        }
     }
 
     fn count(&mut self) -> Vec<u8> {
         if self.is_bad() {
             return self.r.pick(BAD_INT).to_vec();
         }
-        if self.r.one(3) { self.r.pick(GOOD_INT).as_bytes().to_vec() } else { self.r.below(20).to_string().into_bytes() }
+        if self.r.one(3) {
+            self.r.pick(GOOD_INT).as_bytes().to_vec()
+        } else {
+            self.r.below(20).to_string().into_bytes()
+        }
     }
 
     fn time(&mut self) -> Vec<u8> {
@@ -241,7 +513,8 @@ impl<'a> Generator<'a> {
         let r = &mut self.r;
         let (year, month) = (if r.one(2) { 1990 + r.below(40) } else { r.below(10_000) }, 1 + r.below(12));
         let t = if r.one(4) { 't' } else { 'T' };
-        let mut s = format!("{year:04}-{month:02}-{:02}{t}{:02}:{:02}:{:02}", 1 + r.below(28), r.below(24), r.below(60), r.below(60));
+        let mut s =
+            format!("{year:04}-{month:02}-{:02}{t}{:02}:{:02}:{:02}", 1 + r.below(28), r.below(24), r.below(60), r.below(60));
         let digits = r.index(10);
         if digits > 0 {
             s.push('.');
@@ -260,8 +533,13 @@ impl<'a> Generator<'a> {
             return self.r.pick(BAD_UUID).to_vec();
         }
         let (a, b) = (self.r.next(), self.r.next());
-        let s = format!("{:08x}-{:04x}-{:04x}-{:04x}-{:012x}", a >> 32, a >> 16 & 0xffff, a & 0xffff, b >> 48, b & 0xffff_ffff_ffff);
-        if self.r.one(3) { s.to_uppercase().into_bytes() } else { s.into_bytes() }
+        let s =
+            format!("{:08x}-{:04x}-{:04x}-{:04x}-{:012x}", a >> 32, a >> 16 & 0xffff, a & 0xffff, b >> 48, b & 0xffff_ffff_ffff);
+        if self.r.one(3) {
+            s.to_uppercase().into_bytes()
+        } else {
+            s.into_bytes()
+        }
     }
 
     fn value(&mut self, element: &str, key: &[u8]) -> Vec<u8> {
@@ -314,7 +592,8 @@ impl<'a> Generator<'a> {
         if self.r.one(2) {
             self.r.shuffle(&mut keys);
         }
-        let mut out: Vec<Attribute> = keys.into_iter().map(|key| Attribute { mark: 0, value: self.value(element, &key), key }).collect();
+        let mut out: Vec<Attribute> =
+            keys.into_iter().map(|key| Attribute { mark: 0, value: self.value(element, &key), key }).collect();
         if self.is_bad() && !out.is_empty() {
             let i = self.r.index(out.len());
             if self.r.one(2) {
@@ -329,10 +608,28 @@ impl<'a> Generator<'a> {
     /// A key of an extra, or one that is passed over; some are cleaned to the same, or to a key that the element has.
     fn other_key(&mut self) -> Vec<u8> {
         const KEYS: [&[u8]; 16] = [
-            b"hostname", b"package", b"a", b"&#97;", b"\x01a", b"&#110;ame", b"n\x02ame", b"uuid", b"message", b"", b"assertions", b"\x1f",
-            b"\xc3\xa9&lt;", b"Name", b"classname", b"TIME",
+            b"hostname",
+            b"package",
+            b"a",
+            b"&#97;",
+            b"\x01a",
+            b"&#110;ame",
+            b"n\x02ame",
+            b"uuid",
+            b"message",
+            b"",
+            b"assertions",
+            b"\x1f",
+            b"\xc3\xa9&lt;",
+            b"Name",
+            b"classname",
+            b"TIME",
         ];
-        if self.is_bad() { self.r.pick(BAD_TEXT).to_vec() } else { self.r.pick(&KEYS).to_vec() }
+        if self.is_bad() {
+            self.r.pick(BAD_TEXT).to_vec()
+        } else {
+            self.r.pick(&KEYS).to_vec()
+        }
     }
 
     /// Attributes of an element whose attributes nobody reads.
@@ -603,7 +900,16 @@ impl<'a> Generator<'a> {
 
     fn case(&mut self) {
         const KNOWN: [&str; 10] = [
-            "failure", "error", "skipped", "flakyFailure", "flakyError", "rerunFailure", "rerunError", "properties", "system-out", "system-err",
+            "failure",
+            "error",
+            "skipped",
+            "flakyFailure",
+            "flakyError",
+            "rerunFailure",
+            "rerunError",
+            "properties",
+            "system-out",
+            "system-err",
         ];
         let attributes = self.attributes("testcase");
         if self.r.one(4) {
@@ -709,7 +1015,9 @@ impl<'a> Generator<'a> {
 
     /// A few events in one of eight places, and the Ends that close all.
     fn short(&mut self) {
-        let named = |keys: &[&str]| keys.iter().map(|k| Attribute { mark: 0, key: k.as_bytes().to_vec(), value: b"v".to_vec() }).collect::<Vec<_>>();
+        let named = |keys: &[&str]| {
+            keys.iter().map(|k| Attribute { mark: 0, key: k.as_bytes().to_vec(), value: b"v".to_vec() }).collect::<Vec<_>>()
+        };
         let place = self.r.below(8);
         let mut ends: Vec<&str> = vec![];
         for (i, name) in ["testsuites", "testsuite", "testcase"].into_iter().enumerate().take(place.min(3) as usize) {
@@ -884,7 +1192,9 @@ impl<'a> Generator<'a> {
         let any = |r: &mut Random, most: u64| if r.one(30) { r.next() as u32 } else { r.below(most.max(1)) as u32 };
         let attributes: Vec<[u32; 5]> = (0..r.index(6)).map(|_| [any(r, 2), any(r, n), any(r, 6), any(r, n), any(r, 6)]).collect();
         let m = attributes.len() as u64 + 1;
-        let events = (0..r.index(12)).map(|_| [any(r, 10), any(r, n), any(r, 12), any(r, m), if r.one(2) { 0 } else { any(r, m) }]).collect();
+        let events = (0..r.index(12))
+            .map(|_| [any(r, 10), any(r, n), any(r, 12), any(r, m), if r.one(2) { 0 } else { any(r, m) }])
+            .collect();
         Input::new(Table { events, attributes, source })
     }
 

@@ -26,7 +26,11 @@ pub fn tokenized(source: &[u8]) -> Table {
 }
 
 fn part(start: usize, end: usize) -> (u32, u32) {
-    if end > start { (start as u32, (end - start) as u32) } else { (0, 0) }
+    if end > start {
+        (start as u32, (end - start) as u32)
+    } else {
+        (0, 0)
+    }
 }
 
 impl Lenient<'_> {
@@ -40,8 +44,14 @@ impl Lenient<'_> {
     }
 
     fn step(&mut self) -> Option<()> {
-        const MARKS: [(&[u8], &[u8], u32); 6] =
-            [(b"<!--", b"-->", 6), (b"<![CDATA[", b"]]>", 4), (b"<?", b"?>", 6), (b"<!", b">", 6), (b"</", b">", 2), (b"&", b";", 5)];
+        const MARKS: [(&[u8], &[u8], u32); 6] = [
+            (b"<!--", b"-->", 6),
+            (b"<![CDATA[", b"]]>", 4),
+            (b"<?", b"?>", 6),
+            (b"<!", b">", 6),
+            (b"</", b">", 2),
+            (b"&", b";", 5),
+        ];
         let rest = &self.source[self.at..];
         if let Some((open, close, kind)) = MARKS.into_iter().find(|m| rest.starts_with(m.0)) {
             let start = self.at + open.len();

@@ -7,9 +7,8 @@ pub mod documents;
 #[cfg(has_expat)]
 pub mod expat;
 pub mod explain;
-#[cfg(fuzzing)]
-pub mod fuzz;
 pub mod fixed;
+pub mod fuzz;
 pub mod generator;
 pub mod lenient;
 pub mod numbers;

@@ -12,7 +12,6 @@ use compare::{
 };
 use quick_xml::replay::Changes;
 use std::{
-    collections::BTreeMap,
     env, fs,
     io::{BufRead, BufReader, Write},
     path::{Path, PathBuf},
@@ -26,10 +25,15 @@ const USAGE: &str = "usage: compare N                 N tables against the crate
        compare --programs N DIR  N tables and documents through the programs list, write and list_xml of a folder
        compare --file FILE       one table (as the program `list` takes it) or document, compared and shown
        compare --tables N        N tables to standard output, each behind its length as a word
+       compare --replay DIR      the fuzzer's inputs in a folder
+       compare --select FROM TO  of the fuzzer's inputs in a folder, those that reach a branch of a rule first, the shortest of them
 options: --seed S (the first seed, 0), --profile P, --jobs J (processes, 2), --most D (differences to be shown, 5),
          --rules (every counter), --allow-unreached (rules that are never reached are no failure),
          --with R (the archive has request R: 8, a gathered text alone in scratch; 12, a suite's hostname),
          --wrong W (the library's answers are spoiled; `--wrong list` names the ways)";
+
+/// The row with the milliseconds of processor time.
+const TIME: &str = "time";
 
 #[derive(Clone, PartialEq)]
 enum Mode {
@@ -101,6 +105,11 @@ fn options() -> Options {
             "--profile" => o.profile = words.next().filter(|p| PROFILES.contains(&p.as_str())).unwrap_or_else(|| usage()),
             "--file" => exit(show_file(&PathBuf::from(words.next().unwrap_or_else(|| usage())), o.changes)),
             "--tables" => exit(put_tables(number(words.next()))),
+            "--replay" => exit(replay(&PathBuf::from(words.next().unwrap_or_else(|| usage())), None)),
+            "--select" => {
+                let (from, to) = (words.next().unwrap_or_else(|| usage()), words.next().unwrap_or_else(|| usage()));
+                exit(replay(&PathBuf::from(from), Some(&PathBuf::from(to))))
+            }
             "--with" => match number(words.next()) {
                 8 => o.changes.scratch_alone = true,
                 12 => o.changes.hostname = true,
@@ -144,6 +153,38 @@ fn put_tables(n: u64) -> i32 {
         }
     }
     out.flush().is_err() as i32
+}
+
+/// The fuzzer's inputs in a folder, from the shortest on; those that are the first to reach a branch of a rule are put into another.
+fn replay(from: &Path, to: Option<&Path>) -> i32 {
+    let mut inputs: Vec<(Vec<u8>, PathBuf)> = vec![];
+    for file in fs::read_dir(from).unwrap_or_else(|e| panic!("{}: {e}", from.display())).flatten() {
+        if let Ok(bytes) = fs::read(file.path()) {
+            inputs.push((bytes, file.path()));
+        }
+    }
+    inputs.sort_by(|a, b| (a.0.len(), &a.0).cmp(&(b.0.len(), &b.0)));
+    let mut fuzzed = compare::fuzz::Fuzzed::new();
+    let reached = || cover::slots().iter().filter(|s| s.count() > 0).count();
+    let (mut differences, mut kept) = (0, 0);
+    for (bytes, path) in &inputs {
+        let before = reached();
+        if let Err(e) = fuzzed.one(bytes) {
+            println!("{} differs: {e}", path.display());
+            differences += 1;
+        }
+        if let (Some(to), true) = (to, reached() > before) {
+            kept += 1;
+            fs::write(to.join(format!("{kept:03}")), bytes).unwrap_or_else(|e| panic!("{}: {e}", to.display()));
+        }
+    }
+    println!(
+        "{} inputs, {} branches of rules reached, {differences} differ{}",
+        inputs.len(),
+        reached(),
+        if to.is_some() { format!("; {kept} kept") } else { String::new() }
+    );
+    (differences > 0) as i32
 }
 
 fn show_file(path: &Path, changes: Changes) -> i32 {
@@ -326,7 +367,7 @@ fn run_part(o: &Options, number: u64) {
     };
     rows.extend(part.bench.tally.rows());
     rows.push(("differences", part.differences));
-    rows.push(("milliseconds of processor time", processor_time()));
+    rows.push((TIME, processor_time()));
     for (name, n) in rows {
         println!("#tally\t{name}\t{n}");
     }
@@ -346,75 +387,89 @@ fn processor_time() -> u64 {
 
 // ---- the whole run: a process for each part
 
+/// What the parts of a run said, summed.
+#[derive(Default)]
+struct Whole {
+    rows: Vec<(String, u64)>,
+    coverage: Coverage,
+    broken: u64,
+}
+
+impl Whole {
+    fn add(&mut self, line: &str) {
+        let cells: Vec<&str> = line.split('\t').collect();
+        match cells[..] {
+            ["#tally", name, n] => {
+                let n = n.parse().unwrap_or(0);
+                match self.rows.iter_mut().find(|r| r.0 == name) {
+                    Some(row) => row.1 += n,
+                    None => self.rows.push((name.to_string(), n)),
+                }
+            }
+            ["#rule", rule, branch, n] => self.coverage.add(rule, branch, n.parse().unwrap_or(0)),
+            _ => {}
+        }
+    }
+    fn row(&self, name: &str) -> u64 {
+        self.rows.iter().find(|r| r.0 == name).map_or(0, |r| r.1)
+    }
+}
+
+/// A process for each part; each is read in a thread of its own, so that none waits for another.
+fn run_parts(o: &Options) -> Whole {
+    let me = env::current_exe().expect("this program");
+    let read = |i: u64| {
+        let mut command = Command::new(&me);
+        command.args(env::args().skip(1)).args(["--jobs", &o.jobs.to_string(), "--part", &i.to_string()]);
+        let mut child = command.stdout(Stdio::piped()).spawn().expect("a part of the run");
+        std::thread::spawn(move || {
+            let mut kept = vec![];
+            for line in BufReader::new(child.stdout.take().unwrap()).lines().map_while(Result::ok) {
+                if line.starts_with('#') {
+                    kept.push(line)
+                } else {
+                    println!("{line}")
+                }
+            }
+            (kept, child.wait())
+        })
+    };
+    let readers: Vec<_> = (0..o.jobs).map(read).collect();
+    let mut whole = Whole::default();
+    for (i, reader) in readers.into_iter().enumerate() {
+        let (kept, status) = reader.join().expect("a reader");
+        if kept.last().map(String::as_str) != Some("#end") {
+            println!("part {i} of the run broke off: {status:?}");
+            whole.broken += 1;
+        }
+        kept.iter().for_each(|line| whole.add(line));
+    }
+    whole
+}
+
 fn main() {
     let o = options();
     if let Some(part) = o.part {
         return run_part(&o, part);
     }
     let began = Instant::now();
-    let me = env::current_exe().expect("this program");
-    let parts: Vec<_> = (0..o.jobs)
-        .map(|i| {
-            let child = Command::new(&me).args(env::args().skip(1)).args(["--jobs", &o.jobs.to_string(), "--part", &i.to_string()]).stdout(Stdio::piped()).spawn();
-            child.expect("a part of the run")
-        })
-        .collect();
-    let (mut order, mut tally, mut coverage) = (vec![], BTreeMap::new(), Coverage::default());
-    let mut broken = 0;
-    // each is read in a thread of its own, so that none waits for another
-    let readers: Vec<_> = parts
-        .into_iter()
-        .map(|mut child| {
-            std::thread::spawn(move || {
-                let mut kept = vec![];
-                for line in BufReader::new(child.stdout.take().unwrap()).lines().map_while(Result::ok) {
-                    if line.starts_with('#') { kept.push(line) } else { println!("{line}") }
-                }
-                (kept, child.wait())
-            })
-        })
-        .collect();
-    for (i, reader) in readers.into_iter().enumerate() {
-        let (kept, status) = reader.join().expect("a reader");
-        if kept.last().map(String::as_str) != Some("#end") {
-            println!("part {i} of the run broke off: {status:?}");
-            broken += 1;
-        }
-        for line in kept {
-            let cells: Vec<&str> = line.split('\t').collect();
-            match cells[..] {
-                ["#tally", name, n] => {
-                    if !order.contains(&name.to_string()) {
-                        order.push(name.to_string());
-                    }
-                    *tally.entry(name.to_string()).or_insert(0u64) += n.parse::<u64>().unwrap_or(0);
-                }
-                ["#rule", rule, branch, n] => coverage.add(rule, branch, n.parse().unwrap_or(0)),
-                _ => {}
-            }
-        }
-    }
+    let whole = run_parts(&o);
     let kind = match o.mode {
         Mode::Tables => Kind::Tables,
         Mode::Programs(_) => Kind::Programs,
         _ => Kind::Documents,
     };
-    let (rules, never) = coverage.told(&page("RULES.md"), kind, o.rules);
+    let (rules, never) = whole.coverage.told(&page("RULES.md"), kind, o.rules);
     print!("{rules}");
     let judged = o.profile == "mix" && !matches!(o.mode, Mode::Mutate(_));
     if judged {
         never.iter().for_each(|n| println!("{n}"));
     }
-    for name in order {
-        let n = tally[&name];
-        if n > 0 && !name.starts_with("milli") || name == "differences" {
-            println!("{name}: {n}");
-        }
+    for (name, n) in whole.rows.iter().filter(|r| r.0 != TIME && (r.1 > 0 || r.0 == "differences")) {
+        println!("{name}: {n}");
     }
-    let seconds = began.elapsed().as_secs_f64();
-    let busy = tally.get("milliseconds of processor time").copied().unwrap_or(0) as f64 / 1e3;
+    let (seconds, busy) = (began.elapsed().as_secs_f64(), whole.row(TIME) as f64 / 1e3);
     println!("{seconds:.1} s, {busy:.1} s of processor time: {:.0} for each second of it", o.count as f64 / busy.max(0.01));
-    let differences = tally.get("differences").copied().unwrap_or(0);
     let unreached = judged && !never.is_empty() && !o.allow_unreached;
-    exit((differences > 0 || broken > 0 || unreached) as i32)
+    exit((whole.row("differences") > 0 || whole.broken > 0 || unreached) as i32)
 }

@@ -31,7 +31,11 @@ fn words(c: &sys::Counts) -> ([u64; 4], Option<u64>) {
 }
 
 fn expect(good: bool, what: impl FnOnce() -> String) -> Compared {
-    if good { Ok(()) } else { Err(what()) }
+    if good {
+        Ok(())
+    } else {
+        Err(what())
+    }
 }
 
 impl Bench {
@@ -51,11 +55,20 @@ impl Bench {
         let (a, b, outcome) = (counts(r, small), counts(r, small), r.below(5) as u32);
         let got = sys::add_case(a, outcome);
         let (old, disabled) = words(&a);
-        let raised: Option<Vec<u64>> = old.iter().enumerate().map(|(i, n)| n.checked_add((i == 0 || i == outcome as usize) as u64)).collect();
-        let number = if outcome > 3 { 15 } else if raised.is_none() { 17 } else { 0 };
+        let raised: Option<Vec<u64>> =
+            old.iter().enumerate().map(|(i, n)| n.checked_add((i == 0 || i == outcome as usize) as u64)).collect();
+        let number = if outcome > 3 {
+            15
+        } else if raised.is_none() {
+            17
+        } else {
+            0
+        };
         let want = if number == 0 { raised.unwrap() } else { old.to_vec() };
         hit_if!(number == 0, "C1", "a case raises counts", "it doesn't");
-        expect(got.refusal.number == number && words(&got.counts) == (want.try_into().unwrap(), disabled), || format!("a case of {outcome} added to {old:?}"))?;
+        expect(got.refusal.number == number && words(&got.counts) == (want.try_into().unwrap(), disabled), || {
+            format!("a case of {outcome} added to {old:?}")
+        })?;
         let got = sys::add_suite(a, b);
         let (more, more_disabled) = words(&b);
         let sums: Option<Vec<u64>> = old.iter().zip(more).map(|(x, y)| x.checked_add(y)).collect();
@@ -69,7 +82,9 @@ impl Bench {
             _ => (17, (old, disabled)),
         };
         hit_if!(number == 0, "C3", "within the limits", "past a limit");
-        expect(got.refusal.number == number && words(&got.counts) == want, || format!("{more:?} {more_disabled:?} added to {old:?} {disabled:?}"))
+        expect(got.refusal.number == number && words(&got.counts) == want, || {
+            format!("{more:?} {more_disabled:?} added to {old:?} {disabled:?}")
+        })
     }
 
     fn timing(&mut self, r: &mut Random) -> Compared {
@@ -90,7 +105,9 @@ impl Bench {
         let off = (written - (seconds as i128 * 1_000_000_000 + nanos as i128)).abs();
         hit_if!(nanos % 1_000_000 == 0, "W11", "whole milliseconds", "a part of a millisecond");
         expect(off <= 500_000 && (nanos % 1_000_000 != 0 || off == 0), || format!("{seconds}.{nanos:09} is written as {want}"))?;
-        expect(&out[..n] == want.as_bytes() && out[n..].iter().all(|b| *b == 7), || format!("the time {seconds}.{nanos:09}: wanted {want}"))
+        expect(&out[..n] == want.as_bytes() && out[n..].iter().all(|b| *b == 7), || {
+            format!("the time {seconds}.{nanos:09}: wanted {want}")
+        })
     }
 
     fn sheet(&mut self, r: &mut Random) -> Compared {
@@ -99,9 +116,21 @@ impl Bench {
         let small = r.one(2);
         let mut list: Vec<sys::Counts> = (0..n).map(|_| counts(r, small)).collect();
         let sum = |f: &dyn Fn(&sys::Counts) -> u64| list.iter().map(|c| f(c) as u128).sum::<u128>();
-        let sums = [sum(&|c| c.tests), sum(&|c| c.failures), sum(&|c| c.errors), sum(&|c| c.skipped), sum(&|c| if c.presence { c.disabled } else { 0 })];
+        let sums = [
+            sum(&|c| c.tests),
+            sum(&|c| c.failures),
+            sum(&|c| c.errors),
+            sum(&|c| c.skipped),
+            sum(&|c| if c.presence { c.disabled } else { 0 }),
+        ];
         let has = list.iter().any(|c| c.presence);
-        let number = if n > 4096 { 11 } else if sums.iter().any(|s| *s > u64::MAX as u128) { 17 } else { 0 };
+        let number = if n > 4096 {
+            11
+        } else if sums.iter().any(|s| *s > u64::MAX as u128) {
+            17
+        } else {
+            0
+        };
         let passed = sums[0].saturating_sub(sums[1] + sums[2] + sums[3]);
         hit_if!(n > 4096, "C4", "too many reports", "not too many");
         hit_if!(number == 17, "C5", "a sum past the limit", "sums within the limits");
@@ -120,7 +149,10 @@ impl Bench {
         let sheet = |s: &sys::Sheet| (s.passed, words(&s.sums));
         expect((again.refusal.number, sheet(&again.sheet)) == (number, sheet(&got.sheet)), || "the sheet in another order".into())?;
         let disabled = if has { sums[4].to_string() } else { "-".into() };
-        let want = format!("(tests {})\n(failures {})\n(errors {})\n(skipped {})\n(disabled {disabled})\n(passed {passed} {})\n", sums[0], sums[1], sums[2], sums[3], sums[0]);
+        let want = format!(
+            "(tests {})\n(failures {})\n(errors {})\n(skipped {})\n(disabled {disabled})\n(passed {passed} {})\n",
+            sums[0], sums[1], sums[2], sums[3], sums[0]
+        );
         let length = if number == 0 && r.one(3) { r.index(want.len()) } else { want.len() + r.index(4) };
         let mut out = vec![7u8; length];
         let got = sys::print_sheet(&list, &mut out);
@@ -128,7 +160,11 @@ impl Bench {
         hit!("C8", "a printed sheet");
         hit_if!(number == 0, "C9", "no refusal", "a refusal");
         let clear = |out: &[u8]| out.iter().all(|b| *b == 0);
-        let good = if number == 0 { got.length == want.len() && out.starts_with(want.as_bytes()) && clear(&out[want.len()..]) } else { got.length == 0 && clear(&out) };
+        let good = if number == 0 {
+            got.length == want.len() && out.starts_with(want.as_bytes()) && clear(&out[want.len()..])
+        } else {
+            got.length == 0 && clear(&out)
+        };
         expect(got.refusal.number == number && good, || format!("the printed sheet of {n} reports"))
     }
 
@@ -147,7 +183,13 @@ impl Bench {
             left = left.saturating_sub(*kind);
         }
         let stated: u128 = kinds.iter().map(|k| *k as u128).sum();
-        let number = if cases > 4096 { 23 } else if stated > cases as u128 { 24 } else { 0 };
+        let number = if cases > 4096 {
+            23
+        } else if stated > cases as u128 {
+            24
+        } else {
+            0
+        };
         let [failures, errors, skipped, flaky] = kinds;
         hit_if!(cases > 4096, "O1", "more than 4,096 cases", "not too many cases");
         hit_if!(number == 24, "O2", "the kinds exceed the cases", "they don't");
@@ -156,7 +198,9 @@ impl Bench {
             let got = sys::rehearse(cases, failures, errors, skipped, flaky, &mut e, &mut a, &mut b);
             hit!("F11", "23 or 24");
             let clear = e.iter().chain(&a).all(|w| *w == 0) && b.iter().all(|b| *b == 0);
-            return expect(Refused::late(number, number).is(&got.refusal) && clear, || format!("an order of {cases}, {kinds:?}: wanted {number}"));
+            return expect(Refused::late(number, number).is(&got.refusal) && clear, || {
+                format!("an order of {cases}, {kinds:?}: wanted {number}")
+            });
         }
         let report = ordered(cases, kinds);
         let (want, _) = written(&report, false);

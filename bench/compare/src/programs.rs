@@ -27,7 +27,11 @@ fn run(program: &Path, input: &[u8]) -> Result<Vec<u8>, String> {
     let _ = child.stdin.take().unwrap().write_all(input);
     let done = child.wait_with_output().map_err(told)?;
     hit!("P4", "the status is 0");
-    if done.status.success() { Ok(done.stdout) } else { Err(format!("{} ended with {}", program.display(), done.status)) }
+    if done.status.success() {
+        Ok(done.stdout)
+    } else {
+        Err(format!("{} ended with {}", program.display(), done.status))
+    }
 }
 
 fn fits(t: &Table) -> bool {
@@ -36,7 +40,11 @@ fn fits(t: &Table) -> bool {
 
 fn same(name: &str, want: &[u8], got: &[u8]) -> Compared {
     let lines = || differing(&String::from_utf8_lossy(want), &String::from_utf8_lossy(got));
-    if want == got { Ok(()) } else { Err(format!("the program {name}:\n{}", lines())) }
+    if want == got {
+        Ok(())
+    } else {
+        Err(format!("the program {name}:\n{}", lines()))
+    }
 }
 
 impl Bench {
@@ -68,10 +76,14 @@ impl Bench {
         let areas = Areas { records: 512, text: BUFFER, scratch: BUFFER };
         hit!("P3", "a buffer for each area");
         let read = if cut || !fits(&input.table) { None } else { reference::read(&input, areas, self.changes).result.ok() };
-        let listed = read.as_ref().map(|r| listing(&r.report).into_bytes()).filter(|l| l.len() <= BUFFER).unwrap_or(REFUSED.to_vec());
+        let listed =
+            read.as_ref().map(|r| listing(&r.report).into_bytes()).filter(|l| l.len() <= BUFFER).unwrap_or(REFUSED.to_vec());
         hit_if!(listed == REFUSED, "P4", "(refused)", "a listing");
         same("list", &listed, &run(&folder.join("list"), &bytes)?)?;
-        let table = read.map(|r| written(&r.report, self.changes.hostname).0).filter(fits).map_or(REFUSED.to_vec(), |t| Input::new(t).to_bytes());
+        let table = read
+            .map(|r| written(&r.report, self.changes.hostname).0)
+            .filter(fits)
+            .map_or(REFUSED.to_vec(), |t| Input::new(t).to_bytes());
         hit_if!(table == REFUSED, "P5", "(refused)", "a table");
         same("write", &table, &run(&folder.join("write"), &bytes)?)?;
         self.document_program(seed, folder)
@@ -87,7 +99,8 @@ impl Bench {
         let t = sys::tokenize(&source, &mut events, &mut attributes);
         let five = |words: &[u32], n: u32| words.chunks(5).take(n as usize).map(|c| c.try_into().unwrap()).collect();
         let want = if t.number == 0 && source.len() <= BUFFER {
-            let table = Table { events: five(&events, t.events), attributes: five(&attributes, t.attributes), source: source.clone() };
+            let table =
+                Table { events: five(&events, t.events), attributes: five(&attributes, t.attributes), source: source.clone() };
             let areas = Areas { records: 512, text: BUFFER, scratch: BUFFER };
             let read = reference::read(&Input::new(table), areas, self.changes).result.ok();
             read.map(|r| listing(&r.report).into_bytes()).filter(|l| l.len() <= BUFFER).unwrap_or(REFUSED.to_vec())

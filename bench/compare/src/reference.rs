@@ -15,8 +15,22 @@ use quick_xml::{
 
 /// The names of attributes in paths, by docs/REFUSALS.md: the first is number 1. `hostname` is request 12's.
 const NAMES: [&str; 16] = [
-    "name", "classname", "uuid", "timestamp", "time", "tests", "failures", "errors", "skipped", "disabled", "assertions", "message", "type",
-    "value", "stackTrace", "hostname",
+    "name",
+    "classname",
+    "uuid",
+    "timestamp",
+    "time",
+    "tests",
+    "failures",
+    "errors",
+    "skipped",
+    "disabled",
+    "assertions",
+    "message",
+    "type",
+    "value",
+    "stackTrace",
+    "hostname",
 ];
 
 #[derive(Clone, Debug, PartialEq, Eq)]
@@ -38,14 +52,23 @@ impl Refused {
         let mut path = [0; 18];
         path[..3 * self.path.len()].copy_from_slice(self.path.as_flattened());
         let place = (self.event, self.attribute) == (given.event, given.attribute);
-        (self.number, self.cause) == (given.number, given.cause) && self.path.len() == given.depth as usize && path == given.path && place
+        (self.number, self.cause) == (given.number, given.cause)
+            && self.path.len() == given.depth as usize
+            && path == given.path
+            && place
     }
 
     pub fn shown(&self) -> String {
         let name = |n: u32| if n == NONE { "-".to_string() } else { n.to_string() };
         let path: Vec<String> = self.path.iter().map(|[k, i, e]| format!("({k} {} {})", name(*i), name(*e))).collect();
         let path = path.join(" ");
-        format!("refused {}, cause {}, path {path}, event {}, attribute {}", self.number, self.cause, name(self.event), name(self.attribute))
+        format!(
+            "refused {}, cause {}, path {path}, event {}, attribute {}",
+            self.number,
+            self.cause,
+            name(self.event),
+            name(self.attribute)
+        )
     }
 
     pub fn given(r: &sys::Refusal) -> Self {
@@ -163,12 +186,46 @@ fn path_element(element: &PathElement, start: &impl Fn(Place) -> u32) -> [u32; 3
 // ---- counters
 
 fn count_refused(number: u32, cause: u32, e: &DeserializeError, state: &State, table: &Table, path: &[[u32; 3]]) {
-    hit_of!(cause as usize - 1, "F1", "XmlFault", "EofInSkip", "NotUtf8", "BadInteger", "BadTimestamp", "BadTime", "BadUuid", "MissingAttribute",
-        "MissingReport", "EofInElement", "StatusRule", "UnknownEntity", "FaultyAttribute", "RepeatedKey", "BadReference", "BadTable",
-        "RecordsSpent", "TextFull", "ScratchFull");
-    hit_of!(path.len(), "F3", "no element", "one element", "two elements", "three elements", "four elements", "five elements", "six elements");
+    hit_of!(
+        cause as usize - 1,
+        "F1",
+        "XmlFault",
+        "EofInSkip",
+        "NotUtf8",
+        "BadInteger",
+        "BadTimestamp",
+        "BadTime",
+        "BadUuid",
+        "MissingAttribute",
+        "MissingReport",
+        "EofInElement",
+        "StatusRule",
+        "UnknownEntity",
+        "FaultyAttribute",
+        "RepeatedKey",
+        "BadReference",
+        "BadTable",
+        "RecordsSpent",
+        "TextFull",
+        "ScratchFull"
+    );
+    hit_of!(
+        path.len(),
+        "F3",
+        "no element",
+        "one element",
+        "two elements",
+        "three elements",
+        "four elements",
+        "five elements",
+        "six elements"
+    );
     hit!("F2", "refused");
-    if (state.event as usize) < table.events.len() { hit!("F6", "an event") } else { hit!("F6", "the table's end") }
+    if (state.event as usize) < table.events.len() {
+        hit!("F6", "an event")
+    } else {
+        hit!("F6", "the table's end")
+    }
     if state.attribute != NONE {
         hit!("F6", "an attribute");
     }
@@ -200,7 +257,18 @@ fn count_refused(number: u32, cause: u32, e: &DeserializeError, state: &State, t
             hit!("F12", "21");
             hit_if!(event_bytes(state, table).is_empty(), "X7", "no name", "an unknown name")
         }
-        (7, _) => hit_of!(match path[path.len() - 2][0] { 2 => 0, 3 => 1, _ => 1 + path[path.len() - 1][1].min(2) as usize }, "A10", "a suite's name", "a case's name", "a property's name", "a property's value"),
+        (7, _) => hit_of!(
+            match path[path.len() - 2][0] {
+                2 => 0,
+                3 => 1,
+                _ => 1 + path[path.len() - 1][1].min(2) as usize,
+            },
+            "A10",
+            "a suite's name",
+            "a case's name",
+            "a property's name",
+            "a property's value"
+        ),
         _ => {}
     }
     if let Kind::InvalidStructure(s) = e.kind() {
@@ -236,13 +304,18 @@ fn count_attribute(number: u32, state: &State, table: &Table, path: &[[u32; 3]])
             let known = path.last().is_some_and(|p| p[0] == 16);
             hit_of!(if number == 9 { 2 } else { !known as usize }, "A11", "in a known key", "in an extra", "9");
             if state.in_extra {
-                let bad_key = std::str::from_utf8(key).is_err() || quick_xml::rules::decoded(std::str::from_utf8(key).unwrap()).is_none();
+                let bad_key =
+                    std::str::from_utf8(key).is_err() || quick_xml::rules::decoded(std::str::from_utf8(key).unwrap()).is_none();
                 match number {
                     2 => hit_if!(bad_key, "A9", "a key that isn't UTF-8", "a value that isn't UTF-8"),
                     10 => hit_if!(bad_key, "A9", "a bad reference in a key", "a bad reference in a value"),
                     _ => {}
                 }
-                if bad_key { key } else { value }
+                if bad_key {
+                    key
+                } else {
+                    value
+                }
             } else {
                 value
             }

@@ -202,12 +202,20 @@ pub fn fields(r: &Report, hostname: bool) -> String {
     let mut o = Lines(String::with_capacity(1024));
     o.line("report").text("name", r.name.as_deref()).uuid(r.uuid.map(|u| *u.into_untyped_uuid().as_bytes()));
     o.moment(r.timestamp.as_ref().map(moment_words)).time(parts(r.time));
-    o.number("tests", big(r.tests)).number("failures", big(r.failures)).number("errors", big(r.errors)).number("skipped", big(r.skipped));
+    o.number("tests", big(r.tests))
+        .number("failures", big(r.failures))
+        .number("errors", big(r.errors))
+        .number("skipped", big(r.skipped));
     o.number("disabled", r.disabled.map(|n| n as u64));
     for s in &r.test_suites {
         o.line(" suite").text("name", Some(&s.name)).moment(s.timestamp.as_ref().map(moment_words)).time(parts(s.time));
-        o.number("tests", big(s.tests)).number("failures", big(s.failures)).number("errors", big(s.errors)).number("skipped", big(s.skipped));
-        o.number("disabled", s.disabled.map(|n| n as u64)).text("out", s.system_out.as_deref()).text("err", s.system_err.as_deref());
+        o.number("tests", big(s.tests))
+            .number("failures", big(s.failures))
+            .number("errors", big(s.errors))
+            .number("skipped", big(s.skipped));
+        o.number("disabled", s.disabled.map(|n| n as u64))
+            .text("out", s.system_out.as_deref())
+            .text("err", s.system_err.as_deref());
         let host = s.extra.iter().find(|(k, _)| hostname && k.as_str() == "hostname");
         o.text("hostname", host.map(|(_, v)| v.as_str()));
         for (k, v) in s.extra.iter().filter(|(k, _)| !(hostname && k.as_str() == "hostname")) {
@@ -222,7 +230,10 @@ pub fn fields(r: &Report, hostname: bool) -> String {
 }
 
 fn case_fields(o: &mut Lines, c: &TestCase) {
-    o.line("  case").text("name", Some(&c.name)).text("classname", c.classname.as_deref()).number("assertions", c.assertions.map(|n| n as u64));
+    o.line("  case")
+        .text("name", Some(&c.name))
+        .text("classname", c.classname.as_deref())
+        .number("assertions", c.assertions.map(|n| n as u64));
     o.moment(c.timestamp.as_ref().map(moment_words)).time(parts(c.time));
     o.text("out", c.system_out.as_deref()).text("err", c.system_err.as_deref());
     for (k, v) in &c.extra {
@@ -234,7 +245,9 @@ fn case_fields(o: &mut Lines, c: &TestCase) {
     let (status, kind, runs) = status_of(c);
     o.line("   status ").0.push_str(status);
     let texts = match &c.status {
-        TestCaseStatus::NonSuccess { message, ty, description, .. } | TestCaseStatus::Skipped { message, ty, description } => [message, ty, description],
+        TestCaseStatus::NonSuccess { message, ty, description, .. } | TestCaseStatus::Skipped { message, ty, description } => {
+            [message, ty, description]
+        }
         _ => [&None; 3],
     };
     for (name, text) in ["message", "type", "description"].iter().zip(texts) {
@@ -282,7 +295,11 @@ impl<'a> Words<'a> {
         Some(w[0] as u64 | (w[1] as u64) << 32)
     }
     fn number(&mut self, at: usize, bit: u32) -> Option<u64> {
-        if self.bit(bit) { self.count(at) } else { None }
+        if self.bit(bit) {
+            self.count(at)
+        } else {
+            None
+        }
     }
     fn moment(&mut self) -> Result<Option<[u32; 8]>, String> {
         if !self.bit(3) {
@@ -291,7 +308,11 @@ impl<'a> Words<'a> {
         let words: [u32; 8] = self.use_words(8, 8).try_into().unwrap();
         let [y, mo, d, h, mi, s, ns, offset] = words;
         let good = offset <= 2878 && Moment::new(y, mo, d, h, mi, s, ns, offset as i32 - 1439).is_some();
-        if good { Ok(Some(words)) } else { Err(format!("a timestamp of {words:?}")) }
+        if good {
+            Ok(Some(words))
+        } else {
+            Err(format!("a timestamp of {words:?}"))
+        }
     }
     fn time(&mut self) -> Result<Option<(u64, u32)>, String> {
         if !self.bit(4) {
@@ -299,7 +320,11 @@ impl<'a> Words<'a> {
         }
         let (seconds, nanos) = (self.use_words(16, 2)[0], self.words[17]);
         let good = seconds < 8_388_608 && nanos < 1_000_000_000;
-        if good { Ok(Some((seconds as u64, nanos))) } else { Err(format!("a time of {seconds}.{nanos:09}")) }
+        if good {
+            Ok(Some((seconds as u64, nanos)))
+        } else {
+            Err(format!("a time of {seconds}.{nanos:09}"))
+        }
     }
     fn uuid(&mut self) -> Option<[u8; 16]> {
         self.bit(1).then(|| {
@@ -362,9 +387,24 @@ pub fn tree_fields(records: &[u32], text: &[u8]) -> Result<(String, Vec<Record>)
             return Err(format!("a record of kind {}", words[0]));
         }
         if words[0] >= 16 {
-            hit_of!(kind as usize - 1, "M12", "a dead report", "a dead suite", "a dead case", "a suite's dead property", "a case's dead property",
-                "a dead failure", "a dead error", "a dead skipped", "a dead flakyFailure", "a dead flakyError", "a dead rerunFailure", "a dead rerunError",
-                "a suite's dead extra", "a case's dead extra");
+            hit_of!(
+                kind as usize - 1,
+                "M12",
+                "a dead report",
+                "a dead suite",
+                "a dead case",
+                "a suite's dead property",
+                "a case's dead property",
+                "a dead failure",
+                "a dead error",
+                "a dead skipped",
+                "a dead flakyFailure",
+                "a dead flakyError",
+                "a dead rerunFailure",
+                "a dead rerunError",
+                "a suite's dead extra",
+                "a case's dead extra"
+            );
             continue;
         }
         let mut w = Words { words, text, used: 3 };
@@ -426,7 +466,17 @@ fn put_case(out: &mut String, c: &CaseLines) {
 
 fn count_status(c: &CaseLines, flaky: bool) {
     for (kind, _) in c.main.iter().chain(&c.runs) {
-        hit_of!(*kind as usize - 6, "S1", "failure", "error", "skipped", "flakyFailure", "flakyError", "rerunFailure", "rerunError");
+        hit_of!(
+            *kind as usize - 6,
+            "S1",
+            "failure",
+            "error",
+            "skipped",
+            "flakyFailure",
+            "flakyError",
+            "rerunFailure",
+            "rerunError"
+        );
     }
     match (&c.main, c.runs.is_empty()) {
         (None, true) => hit!("S5", "no status elements"),
@@ -442,14 +492,23 @@ fn record_line(w: &mut Words<'_>, kind: u32) -> Result<String, String> {
     match kind {
         1 => {
             o.line("report").text("name", w.text(2, 0)?).uuid(w.uuid()).moment(w.moment()?).time(w.time()?);
-            o.number("tests", w.count(18)).number("failures", w.count(20)).number("errors", w.count(22)).number("skipped", w.count(24));
+            o.number("tests", w.count(18))
+                .number("failures", w.count(20))
+                .number("errors", w.count(22))
+                .number("skipped", w.count(24));
             o.number("disabled", w.number(26, 8));
             w.done(0x11b)?;
         }
         2 => {
             o.line(" suite").text("name", w.always(2, 0)?).moment(w.moment()?).time(w.time()?);
-            o.number("tests", w.count(18)).number("failures", w.count(20)).number("errors", w.count(22)).number("skipped", w.count(24));
-            o.number("disabled", w.number(26, 8)).text("out", w.text(4, 1)?).text("err", w.text(6, 2)?).text("hostname", w.text(28, 10)?);
+            o.number("tests", w.count(18))
+                .number("failures", w.count(20))
+                .number("errors", w.count(22))
+                .number("skipped", w.count(24));
+            o.number("disabled", w.number(26, 8))
+                .text("out", w.text(4, 1)?)
+                .text("err", w.text(6, 2)?)
+                .text("hostname", w.text(28, 10)?);
             w.done(0x51f)?;
         }
         3 => {
@@ -469,7 +528,11 @@ fn record_line(w: &mut Words<'_>, kind: u32) -> Result<String, String> {
         }
         _ => {
             o.line("    run ").0.push_str(if matches!(kind, 9 | 11) { "failure" } else { "error" });
-            o.moment(w.moment()?).time(w.time()?).text("message", w.text(2, 0)?).text("type", w.text(18, 5)?).text("description", w.text(20, 6)?);
+            o.moment(w.moment()?)
+                .time(w.time()?)
+                .text("message", w.text(2, 0)?)
+                .text("type", w.text(18, 5)?)
+                .text("description", w.text(20, 6)?);
             o.text("trace", w.text(22, 7)?).text("out", w.text(4, 1)?).text("err", w.text(6, 2)?);
             w.done(0xff)?;
         }
@@ -529,7 +592,12 @@ pub fn is_plain(r: &Report, hostname: bool) -> bool {
     let moment = |t: &Option<Moment>| t.is_none_or(|t| t.nanos % 1_000_000 == 0);
     let own = |key: &str, keys: &[&str]| key.contains('&') || keys.contains(&key);
     let run = |r: &TestRerun| {
-        gathered(&r.stack_trace) && gathered(&r.system_out) && gathered(&r.system_err) && description(&r.description) && time(&r.time) && moment(&r.timestamp)
+        gathered(&r.stack_trace)
+            && gathered(&r.system_out)
+            && gathered(&r.system_err)
+            && description(&r.description)
+            && time(&r.time)
+            && moment(&r.timestamp)
     };
     let case = |c: &TestCase| {
         let status = match &c.status {
@@ -545,7 +613,11 @@ pub fn is_plain(r: &Report, hostname: bool) -> bool {
     let suite = |s: &TestSuite| {
         let keys = ["name", "tests", "skipped", "disabled", "errors", "failures", "timestamp", "time"];
         let keys = !s.extra.keys().any(|k| own(k, &keys) && !(hostname && k.as_str() == "hostname"));
-        keys && gathered(&s.system_out) && gathered(&s.system_err) && time(&s.time) && moment(&s.timestamp) && s.test_cases.iter().all(case)
+        keys && gathered(&s.system_out)
+            && gathered(&s.system_err)
+            && time(&s.time)
+            && moment(&s.timestamp)
+            && s.test_cases.iter().all(case)
     };
     time(&r.time) && moment(&r.timestamp) && r.test_suites.iter().all(suite)
 }

@@ -46,7 +46,11 @@ pub fn respelled(from: &Table) -> Option<Spelled> {
     if !from.events.iter().any(changes) {
         return None;
     }
-    let to = Table { events: Vec::with_capacity(from.events.len() + 8), attributes: from.attributes.clone(), source: from.source.clone() };
+    let to = Table {
+        events: Vec::with_capacity(from.events.len() + 8),
+        attributes: from.attributes.clone(),
+        source: from.source.clone(),
+    };
     let mut s = Spelling { from, at: 0, to, old: Vec::new(), cut: false };
     let _ = s.report();
     if !s.cut {
@@ -71,7 +75,11 @@ impl<'a> Spelling<'a> {
 
     fn look(&self) -> Result<(u32, &'a [u8]), Stop> {
         let e = self.from.events.get(self.at).ok_or(Stop)?;
-        if matches!(e[0], EOF | FAULT) { Err(Stop) } else { Ok((e[0], self.name_at(self.at))) }
+        if matches!(e[0], EOF | FAULT) {
+            Err(Stop)
+        } else {
+            Ok((e[0], self.name_at(self.at)))
+        }
     }
 
     fn keep(&mut self) {
@@ -224,7 +232,9 @@ fn count_empty(of: Parent, name: &[u8]) {
         (Parent::Status, b"stackTrace" | b"system-out" | b"system-err") => hit!("S3", "an Empty"),
         (Parent::Status, n) => hit_if!(is_status_name(n), "S4", "an Empty with a status name", "an Empty"),
         (_, b"properties") => hit_of!(of as usize, "R13", "an Empty list of a suite", "an Empty list of a case"),
-        (_, b"system-out" | b"system-err") => hit_of!(of as usize, "R13", "an Empty output of a suite", "an Empty output of a case"),
+        (_, b"system-out" | b"system-err") => {
+            hit_of!(of as usize, "R13", "an Empty output of a suite", "an Empty output of a case")
+        }
         _ => hit_of!(of as usize, "R13", "an unknown Empty in a suite", "an unknown Empty in a case"),
     }
 }

@@ -58,10 +58,11 @@ fn shrink_attributes(best: &mut Input, differs: &mut dyn FnMut(&Input) -> bool) 
         // fewer, from both ends
         while best.table.events[i][4] > 0 && best.table.events[i][0] < 2 {
             let last = try_with(best, differs, |t| t.table.events[i][4] -= 1);
-            let first = !last && try_with(best, differs, |t| {
-                t.table.events[i][3] = t.table.events[i][3].wrapping_add(1);
-                t.table.events[i][4] -= 1;
-            });
+            let first = !last
+                && try_with(best, differs, |t| {
+                    t.table.events[i][3] = t.table.events[i][3].wrapping_add(1);
+                    t.table.events[i][4] -= 1;
+                });
             if !last && !first {
                 break;
             }
@@ -102,7 +103,12 @@ fn shrink_bytes(best: &mut Input, differs: &mut dyn FnMut(&Input) -> bool) {
 fn shorten(best: &mut Input, differs: &mut dyn FnMut(&Input) -> bool, part: impl Fn(&mut Table) -> (&mut [u32; 5], usize)) {
     for n in [0, 1, 2, 4, 8, 16, 32] {
         let (record, word) = part(&mut best.table);
-        if n < record[word + 1] && try_with(best, differs, |t| { let (r, w) = part(&mut t.table); r[w + 1] = n; }) {
+        if n < record[word + 1]
+            && try_with(best, differs, |t| {
+                let (r, w) = part(&mut t.table);
+                r[w + 1] = n;
+            })
+        {
             break;
         }
     }
@@ -111,8 +117,16 @@ fn shorten(best: &mut Input, differs: &mut dyn FnMut(&Input) -> bool, part: impl
         if record[word + 1] == 0 {
             return;
         }
-        let shorter = try_with(best, differs, |t| { let (r, w) = part(&mut t.table); r[w + 1] -= 1; });
-        let later = !shorter && try_with(best, differs, |t| { let (r, w) = part(&mut t.table); r[w] = r[w].wrapping_add(1); r[w + 1] -= 1; });
+        let shorter = try_with(best, differs, |t| {
+            let (r, w) = part(&mut t.table);
+            r[w + 1] -= 1;
+        });
+        let later = !shorter
+            && try_with(best, differs, |t| {
+                let (r, w) = part(&mut t.table);
+                r[w] = r[w].wrapping_add(1);
+                r[w + 1] -= 1;
+            });
         if !shorter && !later {
             return;
         }
@@ -133,7 +147,8 @@ fn compact(t: &Table) -> Option<Table> {
     for e in &t.events {
         let (start, length) = put(&t.source, &mut out.source, e[1], e[2])?;
         let first = if e[4] == 0 { 0 } else { out.attributes.len() as u32 };
-        let used = if e[4] == 0 { &[][..] } else { t.attributes.get(e[3] as usize..(e[3] as usize).checked_add(e[4] as usize)?)? };
+        let used =
+            if e[4] == 0 { &[][..] } else { t.attributes.get(e[3] as usize..(e[3] as usize).checked_add(e[4] as usize)?)? };
         for a in used {
             let (key, key_length) = put(&t.source, &mut out.source, a[1], a[2])?;
             let (value, value_length) = put(&t.source, &mut out.source, a[3], a[4])?;
@@ -162,7 +177,11 @@ fn fewer_tokens(bytes: &[u8], differs: &mut dyn FnMut(&[u8]) -> bool) -> Vec<u8>
     let mut tokens: Vec<Vec<u8>> = vec![];
     for &b in bytes {
         let ends = tokens.last().is_none_or(|t| t.last() == Some(&b'>')) || b == b'<';
-        if ends { tokens.push(vec![b]) } else { tokens.last_mut().unwrap().push(b) }
+        if ends {
+            tokens.push(vec![b])
+        } else {
+            tokens.last_mut().unwrap().push(b)
+        }
     }
     for i in 0..tokens.len() {
         for other in [&b"<a/>"[..], b"<a>", b"</a>"] {

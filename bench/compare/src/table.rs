@@ -78,7 +78,11 @@ impl Input {
             return Err(NONE);
         }
         if !self.is_within(start, length) {
-            if length == 0 { hit!("T10", "no bytes, behind the source's end") } else { hit!("T10", "bytes outside the source") }
+            if length == 0 {
+                hit!("T10", "no bytes, behind the source's end")
+            } else {
+                hit!("T10", "bytes outside the source")
+            }
             return Err(NONE);
         }
         if length == 0 && start as usize == t.source.len() && start > 0 {
@@ -110,7 +114,11 @@ impl Input {
         } else if !self.is_within(value, value_length) {
             hit!("T12", "a value outside the source");
         } else {
-            if mark == 1 { hit!("T2", "faulty") } else { hit!("T2", "good") }
+            if mark == 1 {
+                hit!("T2", "faulty")
+            } else {
+                hit!("T2", "good")
+            }
             return Ok(());
         }
         Err(index)
@@ -182,7 +190,11 @@ impl Input {
 }
 
 fn hit_place(attribute: u32) {
-    if attribute == NONE { hit!("F10", "an event") } else { hit!("F10", "an attribute") }
+    if attribute == NONE {
+        hit!("F10", "an event")
+    } else {
+        hit!("F10", "an attribute")
+    }
 }
 
 pub fn quoted(bytes: &[u8]) -> String {

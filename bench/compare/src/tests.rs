@@ -70,7 +70,9 @@ fn start_properties() {
 
 #[test]
 fn numbers_of_refs() {
-    for (name, number, text) in [("#9", 0, ""), ("#233", 0, "é"), ("#x41", 0, "A"), ("#", 10, ""), ("#65;&#66", 10, ""), ("x", 21, "")] {
+    for (name, number, text) in
+        [("#9", 0, ""), ("#233", 0, "é"), ("#x41", 0, "A"), ("#", 10, ""), ("#65;&#66", 10, ""), ("x", 21, "")]
+    {
         let mut t = in_suite("<system-out>&r;</system-out>");
         let at = t.table.events.iter().position(|e| e[0] == 5).unwrap();
         t.table.events[at][1] = t.table.source.len() as u32;
@@ -98,14 +100,29 @@ fn what_the_crate_decides() {
 
 #[test]
 fn forms_of_values() {
-    let with = |key: &str, value: &str| here(&Input::new(lenient::tokenized(format!("<testsuites {key}=\"{value}\"/>").as_bytes()))).0;
+    let with =
+        |key: &str, value: &str| here(&Input::new(lenient::tokenized(format!("<testsuites {key}=\"{value}\"/>").as_bytes()))).0;
     for (key, value, number) in [
-        ("time", "8388607.999999999", 0), ("time", "8388608", 5), ("time", "1e0", 5), ("time", "0.0000000000", 5), ("time", ".5", 0), ("time", ".", 5),
-        ("timestamp", "2000-02-29T00:00:00Z", 0), ("timestamp", "1900-02-29T00:00:00Z", 4), ("timestamp", "2016-12-31T23:59:60Z", 4),
-        ("timestamp", "2000-01-01T00:00:00.0000000000Z", 4), ("timestamp", "2000-01-01 00:00:00Z", 4), ("timestamp", "2000-01-01T00:00:00UTC", 4),
-        ("timestamp", "2000-01-01T00:00:00+24:00", 4), ("timestamp", "2000-01-01t00:00:00.1-23:59", 0),
-        ("uuid", "01234567-89ab-CDEF-0123-456789abcdef", 0), ("uuid", "00000000000000000000000000000000", 6), ("uuid", "", 6),
-        ("tests", "+5", 0), ("tests", "18446744073709551616", 3), ("tests", "&#53;", 3),
+        ("time", "8388607.999999999", 0),
+        ("time", "8388608", 5),
+        ("time", "1e0", 5),
+        ("time", "0.0000000000", 5),
+        ("time", ".5", 0),
+        ("time", ".", 5),
+        ("timestamp", "2000-02-29T00:00:00Z", 0),
+        ("timestamp", "1900-02-29T00:00:00Z", 4),
+        ("timestamp", "2016-12-31T23:59:60Z", 4),
+        ("timestamp", "2000-01-01T00:00:00.0000000000Z", 4),
+        ("timestamp", "2000-01-01 00:00:00Z", 4),
+        ("timestamp", "2000-01-01T00:00:00UTC", 4),
+        ("timestamp", "2000-01-01T00:00:00+24:00", 4),
+        ("timestamp", "2000-01-01t00:00:00.1-23:59", 0),
+        ("uuid", "01234567-89ab-CDEF-0123-456789abcdef", 0),
+        ("uuid", "00000000000000000000000000000000", 6),
+        ("uuid", "", 6),
+        ("tests", "+5", 0),
+        ("tests", "18446744073709551616", 3),
+        ("tests", "&#53;", 3),
     ] {
         assert_eq!(with(key, value), number, "{key}={value}");
     }
@@ -113,7 +130,9 @@ fn forms_of_values() {
 
 #[test]
 fn the_crates_document() {
-    let t = Input::new(lenient::tokenized(b"<testsuites name=\"r\" time=\"0.0005\"><testsuite name=\"s\"><testcase name=\"a\"><flakyError>d<system-out>o</system-out></flakyError></testcase></testsuite></testsuites>"));
+    let case = "<testcase name='a'><flakyError>d<system-out>o</system-out></flakyError></testcase>";
+    let source = format!("<testsuites name='r' time='0.0005'><testsuite name='s'>{case}</testsuite></testsuites>");
+    let t = Input::new(lenient::tokenized(source.as_bytes()));
     let report = here(&t).1.unwrap();
     let (_, document) = report::serialized(&report);
     let want = "<?xml version=\"1.0\" encoding=\"UTF-8\"?>\n<testsuites name=\"r\" tests=\"0\" skipped=\"0\" failures=\"0\" errors=\"0\" time=\"0.001\">\n    \
@@ -126,7 +145,9 @@ fn the_crates_document() {
 fn shrinking() {
     // what has a Start `failure` differs: it is all that is left
     let input = in_case("<system-out>long text</system-out><failure message=\"m\">d</failure>");
-    let small = shrink::shrunk(&input, &mut |i| i.table.events.iter().any(|e| e[0] == 0 && i.table.source.get(e[1] as usize..(e[1] + e[2]) as usize) == Some(b"failure")));
+    let small = shrink::shrunk(&input, &mut |i| {
+        i.table.events.iter().any(|e| e[0] == 0 && i.table.source.get(e[1] as usize..(e[1] + e[2]) as usize) == Some(b"failure"))
+    });
     assert_eq!(small.table.events.len(), 1);
     assert_eq!(small.table.source, b"failure");
     let small = shrink::shrunk_bytes(b"<a><b x='1'/>text<!--c--></a>", &mut |s| s.windows(3).any(|w| w == b"!--"));

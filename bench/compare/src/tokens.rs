@@ -37,7 +37,11 @@ pub struct Tokens {
 }
 
 fn check(test: bool, what: impl FnOnce() -> String) -> Compared {
-    if test { Ok(()) } else { Err(what()) }
+    if test {
+        Ok(())
+    } else {
+        Err(what())
+    }
 }
 
 fn five(words: &[u32], n: u32) -> Vec<[u32; 5]> {
@@ -109,7 +113,11 @@ fn told(t: &Table) -> Option<Vec<u8>> {
                     parts.push(normalized(t.part(a[3], a[4]))?);
                 }
                 seen.line(b'S', &parts.iter().map(|p| &p[..]).collect::<Vec<_>>());
-                if e[0] == EMPTY { seen.line(b'E', &[bytes]) } else { depth += 1 }
+                if e[0] == EMPTY {
+                    seen.line(b'E', &[bytes])
+                } else {
+                    depth += 1
+                }
             }
             END => {
                 depth = depth.checked_sub(1)?;
@@ -315,7 +323,11 @@ impl Tokens {
             return check(in_declaration(source, at), || format!("refused at {byte}, and expat takes it"));
         }
         self.tally.refused += 1;
-        if at < source.len() && r.one(4) { self.completed(source, at) } else { Ok(()) }
+        if at < source.len() && r.one(4) {
+            self.completed(source, at)
+        } else {
+            Ok(())
+        }
     }
 
     /// The bytes before the one that is told are refused by expat: by rule N5, or by a name. What is put right begins a document.
@@ -328,14 +340,35 @@ impl Tokens {
         let text = String::from_utf8_lossy(before.strip_prefix(b"\xef\xbb\xbf").unwrap_or(before));
         let letters: String = text.chars().map(|c| if c.is_ascii() { c } else { 'é' }).collect();
         let (_, verdict) = self.expat.parse(&[letters.as_bytes()], false);
-        let good = verdict.is_ok() || matches!(verdict, Err(DUPLICATE_ATTRIBUTE | UNDEFINED_ENTITY | BAD_CHAR_REF)) || in_declaration(before, before.len());
-        check(good && !before.is_ascii() || in_declaration(before, before.len()), || format!("expat refuses the bytes before it with {code}"))
+        let good = verdict.is_ok()
+            || matches!(verdict, Err(DUPLICATE_ATTRIBUTE | UNDEFINED_ENTITY | BAD_CHAR_REF))
+            || in_declaration(before, before.len());
+        check(good && !before.is_ascii() || in_declaration(before, before.len()), || {
+            format!("expat refuses the bytes before it with {code}")
+        })
     }
 
     /// No end makes a document of the bytes up to the one that is told and with it.
     fn completed(&mut self, source: &[u8], at: usize) -> Compared {
         const ENDS: [&[u8]; 18] = [
-            b"", b"a", b">", b"/>", b"a>", b"=''>", b"'>", b"\">", b"''>", b"->", b"-->", b"]]>", b"?>", b";", b"amp;", b"a?>", b"CDATA[]]>", b"=\"\"/>",
+            b"",
+            b"a",
+            b">",
+            b"/>",
+            b"a>",
+            b"=''>",
+            b"'>",
+            b"\">",
+            b"''>",
+            b"->",
+            b"-->",
+            b"]]>",
+            b"?>",
+            b";",
+            b"amp;",
+            b"a?>",
+            b"CDATA[]]>",
+            b"=\"\"/>",
         ];
         self.tally.completions += 1;
         if in_declaration(source, at) {
@@ -379,7 +412,9 @@ impl Tokens {
             return check(got.number == 0 && same, || "areas that just suffice".into());
         }
         let clear = events.iter().chain(&attributes).all(|w| *w == 0);
-        check((got.number, got.byte, got.events, got.attributes) == (16, NONE, 0, 0) && clear, || "16 and areas of zero are wanted".into())
+        check((got.number, got.byte, got.events, got.attributes) == (16, NONE, 0, 0) && clear, || {
+            "16 and areas of zero are wanted".into()
+        })
     }
 }
 
@@ -408,7 +443,19 @@ fn put_right(t: &Table) -> Vec<u8> {
     let mut edits: Vec<(usize, usize, Vec<u8>)> = vec![];
     let name = |bytes: &[u8]| -> Vec<u8> {
         let text = String::from_utf8_lossy(bytes);
-        text.chars().enumerate().flat_map(|(i, c)| if c.is_ascii() { c.to_string() } else if i == 0 { "é".into() } else { format!("é{}", c as u32 % 10) }.into_bytes()).collect()
+        text.chars()
+            .enumerate()
+            .flat_map(|(i, c)| {
+                if c.is_ascii() {
+                    c.to_string()
+                } else if i == 0 {
+                    "é".into()
+                } else {
+                    format!("é{}", c as u32 % 10)
+                }
+                .into_bytes()
+            })
+            .collect()
     };
     let reference = |edits: &mut Vec<_>, start: usize, bytes: &[u8]| {
         if resolved(bytes).is_none() {
@@ -459,9 +506,14 @@ fn put_right(t: &Table) -> Vec<u8> {
 fn listed(source: &[u8], t: &Table, r: &mut Random, bench: &mut Bench) -> Compared {
     let (e, a) = (5 * t.events.len(), 5 * t.attributes.len());
     let (records, bytes) = (32 * (t.events.len() + t.attributes.len()), source.len() + t.events.len());
-    let lengths = if r.one(3) { (r.index(records + 1), r.index(bytes + 1), r.index(400)) } else { (records, bytes, 2 * bytes + 200 + 60 * t.events.len()) };
+    let lengths = if r.one(3) {
+        (r.index(records + 1), r.index(bytes + 1), r.index(400))
+    } else {
+        (records, bytes, 2 * bytes + 200 + 60 * t.events.len())
+    };
     let input = Input::new(t.clone());
-    let (mut rec, mut text, mut scratch, mut out) = (vec![7; lengths.0], vec![7; lengths.1], vec![7; lengths.1], vec![7; lengths.2]);
+    let (mut rec, mut text, mut scratch, mut out) =
+        (vec![7; lengths.0], vec![7; lengths.1], vec![7; lengths.1], vec![7; lengths.2]);
     let n = sys::public_listing(&input.events(), &input.attributes(), source, &mut rec, &mut text, &mut scratch, &mut out);
     let want = out.clone();
     (rec.fill(7), text.fill(7), scratch.fill(7), out.fill(7));
@@ -470,7 +522,11 @@ fn listed(source: &[u8], t: &Table, r: &mut Random, bench: &mut Bench) -> Compar
     let clear = events.iter().chain(&attributes).chain(&rec).all(|w| *w == 0) && text.iter().chain(&scratch).all(|b| *b == 0);
     hit!("N11", "a listing");
     check(n == m && out == want && clear, || "the document's listing isn't its table's".into())?;
-    if r.one(4) { bench.table(&input, r.next()) } else { Ok(()) }
+    if r.one(4) {
+        bench.table(&input, r.next())
+    } else {
+        Ok(())
+    }
 }
 
 /// Rules N13 to N15: the line of a refusal.
@@ -478,7 +534,9 @@ fn lined(source: &[u8], number: u32, byte: u32, r: &mut Random, bench: &mut Benc
     let (mut out, mut big) = (vec![7u8; 30], vec![7u8; 5]);
     let m = sys::list_xml(source, &mut [0; 5], &mut [], &mut [], &mut big, &mut [], &mut out);
     hit!("N11", "(refused)");
-    check(m == 10 && out.starts_with(b"(refused)\n") && out[10..].iter().all(|b| *b == 0), || "the listing of a refused document".into())?;
+    check(m == 10 && out.starts_with(b"(refused)\n") && out[10..].iter().all(|b| *b == 0), || {
+        "the listing of a refused document".into()
+    })?;
     let lent = [r.index(2) * 5 * 65_536, r.index(2) * 5 * 65_536];
     let (number, byte) = match r.below(5) {
         0 => (16, NONE),
@@ -493,5 +551,7 @@ fn lined(source: &[u8], number: u32, byte: u32, r: &mut Random, bench: &mut Benc
     hit_if!(fits, "N14", "the area suffices", "the area is too short");
     let (line, rest) = out.split_at(n.min(length));
     let good = if fits { line == want.as_bytes() } else { n == 0 };
-    check(good && rest.iter().all(|b| *b == 0), || format!("the line of {number} at {byte}: wanted {want:?}, got {:?}", String::from_utf8_lossy(line)))
+    check(good && rest.iter().all(|b| *b == 0), || {
+        format!("the line of {number} at {byte}: wanted {want:?}, got {:?}", String::from_utf8_lossy(line))
+    })
 }

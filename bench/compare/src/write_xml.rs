@@ -8,7 +8,9 @@ pub struct Document {
 }
 
 extern "C" {
-    fn kerzhoma_write_xml(records: *const u32, records_len: usize, text: *const u8, text_len: usize, out: *mut u8, out_len: usize) -> Document;
+    fn kerzhoma_write_xml(
+        records: *const u32, records_len: usize, text: *const u8, text_len: usize, out: *mut u8, out_len: usize,
+    ) -> Document;
 }
 
 pub fn write_xml(records: &[u32], text: &[u8], out: &mut [u8]) -> Document {

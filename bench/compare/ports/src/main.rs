@@ -26,10 +26,16 @@ fn walk(tree: &Tree<'_>, report: &Report) -> bool {
             good &= match (case.status(), &want.status) {
                 (Status::Success { flaky_runs }, TestCaseStatus::Success { flaky_runs: want }) => flaky_runs.count() == want.len(),
                 (Status::NonSuccess { message, reruns, .. }, TestCaseStatus::NonSuccess { message: want, reruns: runs, .. }) => {
-                    let texts = reruns.runs.clone().zip(&runs.runs).all(|(a, b)| a.stack_trace() == b.stack_trace.as_deref() && a.time() == b.time);
+                    let texts = reruns
+                        .runs
+                        .clone()
+                        .zip(&runs.runs)
+                        .all(|(a, b)| a.stack_trace() == b.stack_trace.as_deref() && a.time() == b.time);
                     message == want.as_deref() && reruns.runs.count() == runs.runs.len() && texts
                 }
-                (Status::Skipped { description, .. }, TestCaseStatus::Skipped { description: want, .. }) => description == want.as_deref(),
+                (Status::Skipped { description, .. }, TestCaseStatus::Skipped { description: want, .. }) => {
+                    description == want.as_deref()
+                }
                 _ => false,
             };
         }
@@ -53,7 +59,11 @@ fn table(seed: u64, input: &Input) -> bool {
     match (kerzhoma::read(&table, &mut areas), want.result) {
         (Ok(tree), Ok(want)) => {
             let listed = report::listing(&want.report);
-            same("listing", seed, kerzhoma::list(&tree).ok().as_deref() == Some(&listed) && listing == listed && one.ok().as_deref() == Some(&listed));
+            same(
+                "listing",
+                seed,
+                kerzhoma::list(&tree).ok().as_deref() == Some(&listed) && listing == listed && one.ok().as_deref() == Some(&listed),
+            );
             same("the tree", seed, walk(&tree, &want.report));
             let (written, _) = report::written(&want.report, false);
             let got = kerzhoma::write(&tree).map(|t| t.as_table().to_bytes());
@@ -90,7 +100,11 @@ fn document(seed: u64) {
         }
         Err(e) => {
             let line = kerzhoma::explain_xml(&e, &source);
-            same("a document's line", seed, listed.is_err() && line.starts_with(&format!("refused {}", e.number())) && line.ends_with('\n'));
+            same(
+                "a document's line",
+                seed,
+                listed.is_err() && line.starts_with(&format!("refused {}", e.number())) && line.ends_with('\n'),
+            );
         }
     }
 }

@@ -82,7 +82,11 @@ impl DateTime<FixedOffset> {
             let east = (hours * 60 + minutes) as i32;
             let west = b[at] == b'-';
             at += 6;
-            if west { -east } else { east }
+            if west {
+                -east
+            } else {
+                east
+            }
         };
         if at != b.len() {
             return None;

@@ -50,7 +50,11 @@ macro_rules! hit_of {
 #[macro_export]
 macro_rules! hit_if {
     ($test:expr, $rule:literal, $yes:literal, $no:literal) => {
-        if $test { $crate::hit!($rule, $yes) } else { $crate::hit!($rule, $no) }
+        if $test {
+            $crate::hit!($rule, $yes)
+        } else {
+            $crate::hit!($rule, $no)
+        }
     };
 }
 

@@ -186,7 +186,9 @@ pub mod events {
             /// Rules A5 and A6.
             fn keys(self) -> &'static [&'static [u8]] {
                 match self {
-                    Element::Report => &[b"name", b"uuid", b"timestamp", b"time", b"tests", b"failures", b"errors", b"skipped", b"disabled"],
+                    Element::Report => {
+                        &[b"name", b"uuid", b"timestamp", b"time", b"tests", b"failures", b"errors", b"skipped", b"disabled"]
+                    }
                     Element::Suite => &[b"name", b"timestamp", b"time", b"tests", b"failures", b"errors", b"skipped", b"disabled"],
                     Element::Case => &[b"name", b"classname", b"timestamp", b"time", b"assertions"],
                     Element::Property => &[b"name", b"value"],
@@ -229,7 +231,10 @@ pub mod events {
                     hit!("A2", "good");
                     self.seen.push(key);
                     self.tell(known, key, value);
-                    Some(Ok(Attribute { key: QName(key), value: Cow::Borrowed(by_forms(self.element, known.is_some(), key, value)) }))
+                    Some(Ok(Attribute {
+                        key: QName(key),
+                        value: Cow::Borrowed(by_forms(self.element, known.is_some(), key, value)),
+                    }))
                 })
             }
         }
@@ -247,11 +252,49 @@ pub mod events {
                     return;
                 };
                 match self.element {
-                    Element::Report => hit_of!(at, "A5", "a report's name", "a report's uuid", "a report's timestamp", "a report's time", "a report's tests", "a report's failures", "a report's errors", "a report's skipped", "a report's disabled"),
-                    Element::Suite => hit_of!(at, "A5", "a suite's name", "a suite's timestamp", "a suite's time", "a suite's tests", "a suite's failures", "a suite's errors", "a suite's skipped", "a suite's disabled"),
-                    Element::Case => hit_of!(at, "A5", "a case's name", "a case's classname", "a case's timestamp", "a case's time", "a case's assertions"),
+                    Element::Report => hit_of!(
+                        at,
+                        "A5",
+                        "a report's name",
+                        "a report's uuid",
+                        "a report's timestamp",
+                        "a report's time",
+                        "a report's tests",
+                        "a report's failures",
+                        "a report's errors",
+                        "a report's skipped",
+                        "a report's disabled"
+                    ),
+                    Element::Suite => hit_of!(
+                        at,
+                        "A5",
+                        "a suite's name",
+                        "a suite's timestamp",
+                        "a suite's time",
+                        "a suite's tests",
+                        "a suite's failures",
+                        "a suite's errors",
+                        "a suite's skipped",
+                        "a suite's disabled"
+                    ),
+                    Element::Case => hit_of!(
+                        at,
+                        "A5",
+                        "a case's name",
+                        "a case's classname",
+                        "a case's timestamp",
+                        "a case's time",
+                        "a case's assertions"
+                    ),
                     Element::Property => hit_of!(at, "A6", "a property's name", "a property's value"),
-                    Element::Status => hit_of!(at, "A6", "a status element's timestamp", "a status element's time", "a status element's message", "a status element's type"),
+                    Element::Status => hit_of!(
+                        at,
+                        "A6",
+                        "a status element's timestamp",
+                        "a status element's time",
+                        "a status element's message",
+                        "a status element's type"
+                    ),
                 }
                 if !matches!(key, b"name" | b"classname" | b"message" | b"type" | b"value") {
                     count_value(key, value);
@@ -268,7 +311,14 @@ pub mod events {
             match key {
                 b"time" => {}
                 b"timestamp" => match chrono_form(value) {
-                    Some(form) => hit_of!(form, "V5", "without a fraction, Z", "without a fraction, an offset", "with a fraction, Z", "with a fraction, an offset"),
+                    Some(form) => hit_of!(
+                        form,
+                        "V5",
+                        "without a fraction, Z",
+                        "without a fraction, an offset",
+                        "with a fraction, Z",
+                        "with a fraction, an offset"
+                    ),
                     None => hit!("V5", "another form"),
                 },
                 b"uuid" if value.len() != 36 => hit!("V9", "another length"),
@@ -345,7 +395,14 @@ pub mod events {
         pub fn attributes(&self) -> Attributes<'_> {
             let left = replay::with(|s| s.begin_attributes(&self.name));
             let first = if self.count == 0 { 0 } else { self.first };
-            Attributes { element: Element::of(&self.name), next: first, end: first + self.count, seen: Vec::new(), spent: !left, life: PhantomData }
+            Attributes {
+                element: Element::of(&self.name),
+                next: first,
+                end: first + self.count,
+                seen: Vec::new(),
+                spent: !left,
+                life: PhantomData,
+            }
         }
         pub fn push_attribute<'b, A: Into<Attribute<'b>>>(&mut self, attribute: A) {
             let attribute = attribute.into();

@@ -171,8 +171,21 @@ pub(crate) struct Raw {
 }
 
 pub const TAGS: [&[u8]; 15] = [
-    b"testsuites", b"testsuite", b"testcase", b"properties", b"property", b"failure", b"error", b"skipped", b"flakyFailure", b"flakyError",
-    b"rerunFailure", b"rerunError", b"stackTrace", b"system-out", b"system-err",
+    b"testsuites",
+    b"testsuite",
+    b"testcase",
+    b"properties",
+    b"property",
+    b"failure",
+    b"error",
+    b"skipped",
+    b"flakyFailure",
+    b"flakyError",
+    b"rerunFailure",
+    b"rerunError",
+    b"stackTrace",
+    b"system-out",
+    b"system-err",
 ];
 
 impl State {
@@ -271,14 +284,21 @@ impl State {
             if !fits {
                 return Err(14);
             }
-            if self.levels.len() > 1 && place == Place::Text && self.levels.iter().any(|l| l.place == Place::Status && !l.gathered.is_empty()) {
+            if self.levels.len() > 1
+                && place == Place::Text
+                && self.levels.iter().any(|l| l.place == Place::Status && !l.gathered.is_empty())
+            {
                 hit!("M6", "a child's text behind an open description");
             }
             self.levels.last_mut().unwrap().gathered.push_str(&piece);
             self.scratch_most = self.scratch_most.max(self.scratch_used());
         }
         let ends = raw.kind == END && if place == Place::Text { raw.bytes == name } else { is_status_name(raw.bytes) };
-        if ends { self.close(place) } else { Ok(()) }
+        if ends {
+            self.close(place)
+        } else {
+            Ok(())
+        }
     }
 
     fn close(&mut self, place: Place) -> Result<(), u32> {
@@ -305,7 +325,11 @@ impl State {
         } else {
             hit_if!(kept.is_empty(), "X12", "empty", "with text");
         }
-        if self.store(&kept) { Ok(()) } else { Err(13) }
+        if self.store(&kept) {
+            Ok(())
+        } else {
+            Err(13)
+        }
     }
 
     pub(crate) fn take_record(&mut self, record: Record) -> bool {
@@ -379,7 +403,11 @@ impl State {
             hit_if!(fits, "A9", "good", "no room for the value");
             return if fits { Ok(()) } else { Err(13) };
         }
-        if self.store(&clean) { Ok(()) } else { Err(13) }
+        if self.store(&clean) {
+            Ok(())
+        } else {
+            Err(13)
+        }
     }
 
     // ---- counters
@@ -396,8 +424,26 @@ impl State {
             hit_if!(matches!(place, Place::Text | Place::Status), "R20", "a piece in a gathered text", "a piece elsewhere");
         }
         match raw.kind {
-            EOF => hit_of!(place as usize, "R18", "at report level", "in a suite", "in a case", "in a status element", "in a property list", "in a gathered text"),
-            FAULT => hit_of!(place as usize, "R19", "a Fault at report level", "a Fault in a suite", "a Fault in a case", "a Fault in a status element", "a Fault in a property list", "a Fault in a gathered text"),
+            EOF => hit_of!(
+                place as usize,
+                "R18",
+                "at report level",
+                "in a suite",
+                "in a case",
+                "in a status element",
+                "in a property list",
+                "in a gathered text"
+            ),
+            FAULT => hit_of!(
+                place as usize,
+                "R19",
+                "a Fault at report level",
+                "a Fault in a suite",
+                "a Fault in a case",
+                "a Fault in a status element",
+                "a Fault in a property list",
+                "a Fault in a gathered text"
+            ),
             CUT => hit!("R19", "the table's end in the content of a property"),
             _ => {}
         }
@@ -457,7 +503,14 @@ impl State {
             }
             (START, n @ (b"system-out" | b"system-err")) => {
                 let bit = if n == b"system-out" { 1 } else { 2 };
-                hit_of!((bit - 1) as usize + 2 * !suite as usize, "R10", "a suite's system-out", "a suite's system-err", "a case's system-out", "a case's system-err");
+                hit_of!(
+                    (bit - 1) as usize + 2 * !suite as usize,
+                    "R10",
+                    "a suite's system-out",
+                    "a suite's system-err",
+                    "a case's system-out",
+                    "a case's system-err"
+                );
                 if level.outputs & bit != 0 {
                     hit_if!(suite, "R17", "a suite's further output", "a case's further output");
                 }

@@ -91,7 +91,12 @@ pub fn derive(item: TokenStream) -> TokenStream {
     let code = if rest[at].to_string() == "enum" {
         of_enum(&name, &parts.map(variant).collect::<Vec<_>>())
     } else {
-        let fields: Vec<Part> = parts.map(|p| { let (_, from, of) = attributes(p); Part { name: String::new(), text: None, from, field: Some(joined(of)) } }).collect();
+        let fields: Vec<Part> = parts
+            .map(|p| {
+                let (_, from, of) = attributes(p);
+                Part { name: String::new(), text: None, from, field: Some(joined(of)) }
+            })
+            .collect();
         assert!(fields.len() == 1 && fields[0].from, "one field with #[from]");
         of_struct(&name, &text.expect("a struct without #[error]"), &fields[0])
     };
