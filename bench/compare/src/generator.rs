@@ -425,7 +425,10 @@ impl<'a> Generator<'a> {
         let others = self.variant(&events);
         let (mut a, b) = (Input::new(self.lay(&events)), Input::new(self.lay(&others)));
         if self.profile == "table" {
+            // a table that 11 refuses agrees with any; what is spoiled and still sound may be another one
+            let sound = a.clone();
             self.spoil(&mut a);
+            a = if a.check().is_ok() { sound } else { a };
         }
         (a, b)
     }
