@@ -494,8 +494,10 @@ fn any_call(r: &mut Random) -> Call {
         6 => Call::Lossy(element, r.below(8) as u32, any_bytes(r)),
         7 => {
             let mut words = moment(r);
-            words[r.index(8)] = [0, 60, 61, 13, 32, 10_000, 2879, 255][r.index(8)];
-            Call::Moment(element, words.map(|w| w.min(65_535)))
+            // as large as the fields of the call's struct are
+            let (at, most) = *r.pick(&[(0, 65_535), (1, 255), (2, 255), (3, 255), (4, 255), (5, 255), (6, u32::MAX), (7, 65_535)]);
+            words[at] = [0, 13, 32, 60, 61, 2879, 10_000, 1_000_000_000, u32::MAX][r.index(9)].min(most);
+            Call::Moment(element, words)
         }
         8 => Call::Time(
             element,
