@@ -548,12 +548,16 @@ impl Bench {
         };
         let mut out = vec![7u8; length];
         let got = crate::write_xml::write_xml(&self.records, &self.text, &mut out);
+        hit_if!(length < want.len(), "W20", "the area doesn't suffice", "the area suffices");
         if length < want.len() {
             let late = Refused::late(16, 21).is(&got.refusal) && got.length == 0 && is_clear(&out);
             return check(late, || "the document: 16 and an area of zero are wanted".into());
         }
         let same = accepted(&got.refusal) && got.length == want.len() && out[..want.len()] == *want && is_clear(&out[want.len()..]);
         check(same, || format!("the document:\n{}", differing(&String::from_utf8_lossy(want), &String::from_utf8_lossy(&out))))?;
+        hit!("W17", "a document");
+        hit!("W18", "tags and texts");
+        hit!("W19", "values");
         if !is_plain(&read.report, self.changes.hostname) {
             return Ok(());
         }
@@ -561,6 +565,7 @@ impl Bench {
         let t = sys::tokenize(want, &mut events, &mut attributes);
         if t.number != 0 {
             // keys that are no names, characters that are no XML Chars
+            hit!("W21", "a plain report whose document isn't one");
             return Ok(());
         }
         let five = |words: &[u32], n: u32| words.chunks(5).take(n as usize).map(|c| c.try_into().unwrap()).collect();
@@ -569,6 +574,7 @@ impl Bench {
             attributes: five(&attributes, t.attributes),
             source: want.to_vec(),
         };
+        hit!("W21", "a document's round trip");
         let back = reference::read(&Input::new(table), Areas::limits(), self.changes);
         let first = fields(&read.report, self.changes.hostname);
         let back = back.result.map(|b| fields(&b.report, self.changes.hostname)).unwrap_or_default();

@@ -17,7 +17,7 @@ pub enum Kind {
 
 /// The rules that documents reach, and tables don't; and those of the programs, which are no calls of the archive.
 const OF_DOCUMENTS: [&str; 14] = ["N1", "N2", "N3", "N4", "N5", "N6", "N7", "N8", "N9", "N10", "N11", "N13", "N14", "N15"];
-const OF_PROGRAMS: [&str; 6] = ["P1", "P2", "P3", "P4", "P5", "N12"];
+const OF_PROGRAMS: [&str; 7] = ["P1", "P2", "P3", "P4", "P5", "P6", "N12"];
 
 impl Coverage {
     pub fn here() -> Self {

@@ -22,7 +22,7 @@ use std::{
 const USAGE: &str = "usage: compare N                 N tables against the crate
        compare --xml N           N documents against expat
        compare --mutate N PATH.. N changed copies of the tables and documents in these files and folders, against both
-       compare --programs N DIR  N tables and documents through the programs list, write and list_xml of a folder
+       compare --programs N DIR  N tables and documents through the programs list, write, write_xml and list_xml of a folder
        compare --file FILE       one table (as the program `list` takes it) or document, compared and shown
        compare --tables N        N tables to standard output, each behind its length as a word
        compare --replay DIR      the fuzzer's inputs in a folder

@@ -1,4 +1,4 @@
-//! The programs `list`, `write` and `list_xml` (rules P1 to P5 and N12), each started for each table or document.
+//! The programs `list`, `write`, `write_xml` and `list_xml` (rules P1 to P6 and N12), each started for each table or document.
 use crate::{
     compare::{differing, Bench, Compared},
     documents::Documents,
@@ -80,12 +80,13 @@ impl Bench {
             read.as_ref().map(|r| listing(&r.report).into_bytes()).filter(|l| l.len() <= BUFFER).unwrap_or(REFUSED.to_vec());
         hit_if!(listed == REFUSED, "P4", "(refused)", "a listing");
         same("list", &listed, &run(&folder.join("list"), &bytes)?)?;
-        let table = read
-            .map(|r| written(&r.report, self.changes.hostname).0)
-            .filter(fits)
-            .map_or(REFUSED.to_vec(), |t| Input::new(t).to_bytes());
+        let (table, document) = read.map(|r| written(&r.report, self.changes.hostname)).unzip();
+        let table = table.filter(fits).map_or(REFUSED.to_vec(), |t| Input::new(t).to_bytes());
         hit_if!(table == REFUSED, "P5", "(refused)", "a table");
         same("write", &table, &run(&folder.join("write"), &bytes)?)?;
+        let document = document.filter(|d| d.len() <= BUFFER).unwrap_or(REFUSED.to_vec());
+        hit_if!(document == REFUSED, "P6", "(refused)", "a table's document");
+        same("write_xml", &document, &run(&folder.join("write_xml"), &bytes)?)?;
         self.document_program(seed, folder)
     }
 
@@ -98,17 +99,21 @@ impl Bench {
         let (mut events, mut attributes) = (vec![7u32; BUFFER / 4], vec![7u32; BUFFER / 4]);
         let t = sys::tokenize(&source, &mut events, &mut attributes);
         let five = |words: &[u32], n: u32| words.chunks(5).take(n as usize).map(|c| c.try_into().unwrap()).collect();
-        let want = if t.number == 0 && source.len() <= BUFFER {
+        let read = if t.number == 0 && source.len() <= BUFFER {
             let table =
                 Table { events: five(&events, t.events), attributes: five(&attributes, t.attributes), source: source.clone() };
             let areas = Areas { records: 512, text: BUFFER, scratch: BUFFER };
-            let read = reference::read(&Input::new(table), areas, self.changes).result.ok();
-            read.map(|r| listing(&r.report).into_bytes()).filter(|l| l.len() <= BUFFER).unwrap_or(REFUSED.to_vec())
+            reference::read(&Input::new(table), areas, self.changes).result.ok()
         } else {
-            REFUSED.to_vec()
+            None
         };
+        let want =
+            read.as_ref().map(|r| listing(&r.report).into_bytes()).filter(|l| l.len() <= BUFFER).unwrap_or(REFUSED.to_vec());
         hit_if!(source.len() > BUFFER, "N12", "a document that is too long", "a document");
         hit_if!(want == REFUSED, "N12", "(refused)", "a listing");
-        same("list_xml", &want, &run(&folder.join("list_xml"), &source)?)
+        same("list_xml", &want, &run(&folder.join("list_xml"), &source)?)?;
+        let document = read.map(|r| written(&r.report, self.changes.hostname).1).filter(|d| d.len() <= BUFFER);
+        hit_if!(document.is_none(), "P6", "no document", "a document's document");
+        same("write_xml", &document.unwrap_or(REFUSED.to_vec()), &run(&folder.join("write_xml"), &source)?)
     }
 }
