@@ -55,7 +55,7 @@ fn main() {
         a.scratch.truncate(longest);
         let short = best(&format!("{name}, scratch of {longest} bytes"), 20, || run(&x, &mut a));
         let n = run(&x, &mut a);
-        assert!(n > 100 && a.out[..n] == listing[..]);
+        assert!(n > 90 && a.out[..n] == listing[..]);
         println!("ratio: {:.3}", short / roomy);
     }
 
