@@ -12,7 +12,8 @@ use Rattle.timestamp.specs.declared.Moment.{Moment}
 use Rattle.tree_report.specs.Encode.{Cell, absent, isGiven, firstWord, secondWord, flagsOf, fitsMoment, fitsTime}
 use Rattle.tree_report.specs.Report.{Duration}
 use Rattle.tree_report.specs.Fields.{hasBit}
-use Rattle.tree_report.specs.Layout.{slot, zeroAt, textSlot, goodTextAt, goodCommon, goodOutputs, goodCounts, goodReport, goodSuite, goodCase, bitsFor, goodOther, goodRecord}
+use Rattle.tree_report.proofs.ByTable as table
+use Rattle.tree_report.specs.Layout.{slot, zeroAt, textSlot, goodTextAt, goodCommon, goodOutputs, goodCounts, bitsFor, goodOther, goodRecord}
 use Rattle.tree_report.proofs.EncodeLists.{both}
 use Rattle.tree_report.proofs.EncodeCells.{bit-flag, only-bits, weights, Pairing, moment-back, time-back}
 use Rattle.read_element.proofs.TreeSheet.{Sort, text, name, number, count, nothing, Fits, textless, placed, named, numberless, numbered, counted, empty, Middle, outputs}
@@ -149,12 +150,13 @@ run-good κ l u q (sheet a b c m d e f g h i pa (two pb pc) (timed pm pd) pe pf 
     other-good κ a b c m d e f g (omega arith) (omega arith) (rw q (omega arith)) (rw (le-leb 6 κ (omega arith), le-leb κ 12 u) refl) pa pb pc pm pd pe pf pg
 
 report-good : {texts : List ℕ} {r : List ℕ} → Sheet reportSorts texts 1 r → goodRecord texts r ≡ true
-unfolding goodRecord goodReport
-report-good (sheet a b c m d e f g h i pa pb (timed pm pd) counted counted counted counted pi) =
+unfolding goodRecord
+report-good {texts} (sheet a b c m d e f g h i pa pb (timed pm pd) counted counted counted counted pi) =
     let bs : List Bool = flags a b c m d e f g i in
     let r : List ℕ = 1 ∷ flagsOf bs ∷ rest a b c m d e f g h i in
     let z : _≡_ {A = ℕ} (cond (isGiven c) 1 0) 0 = ap (λ (t : Bool). cond t 1 0) (back-hidden pb) in
-    both (only-bits r bs (0 ∷ 1 ∷ 3 ∷ 4 ∷ 8 ∷ []) refl (omega arith))
+    table.report-good texts r
+    ∙ both (only-bits r bs (0 ∷ 1 ∷ 3 ∷ 4 ∷ 8 ∷ []) refl (omega arith))
     (both (common-good 1 a b c m d e f g h i pa pm pd) (both (id-slot r pb (bit-flag 1 bs) refl) (counts-good 1 a b c m d e f g h i pi)))
   where
     back-hidden : {texts : List ℕ} {j k : Cell} → InMiddle texts uuid j k → isGiven k ≡ false
@@ -162,20 +164,22 @@ report-good (sheet a b c m d e f g h i pa pb (timed pm pd) counted counted count
     back-hidden id = refl
 
 suite-good : {texts : List ℕ} {r : List ℕ} → Sheet (suiteSorts name) texts 2 r → goodRecord texts r ≡ true
-unfolding goodRecord goodSuite
-suite-good (sheet a b c m d e f g h i (named p) (two pb pc) (timed pm pd) counted counted counted counted pi) =
+unfolding goodRecord
+suite-good {texts} (sheet a b c m d e f g h i (named p) (two pb pc) (timed pm pd) counted counted counted counted pi) =
     let bs : List Bool = flags a b c m d e f g i in
     let r : List ℕ = 2 ∷ flagsOf bs ∷ rest a b c m d e f g h i in
-    both (only-bits r bs (0 ∷ 1 ∷ 2 ∷ 3 ∷ 4 ∷ 8 ∷ []) refl (omega arith))
+    table.suite-good texts r
+    ∙ both (only-bits r bs (0 ∷ 1 ∷ 2 ∷ 3 ∷ 4 ∷ 8 ∷ []) refl (omega arith))
     (both (bit-flag 0 bs)
     (both (common-good 2 a b c m d e f g h i (placed p) pm pd) (both (outputs-good 2 a b c m d e f g h i pb pc) (counts-good 2 a b c m d e f g h i pi))))
 
 case-good : {texts : List ℕ} {r : List ℕ} → Sheet (caseSorts name) texts 3 r → goodRecord texts r ≡ true
-unfolding goodRecord goodCase
-case-good (sheet a b c m d e f g h i (named p) (two pb pc) (timed pm pd) pe pf empty empty empty) =
+unfolding goodRecord
+case-good {texts} (sheet a b c m d e f g h i (named p) (two pb pc) (timed pm pd) pe pf empty empty empty) =
     let bs : List Bool = flags a b c m d e f g i in
     let r : List ℕ = 3 ∷ flagsOf bs ∷ rest a b c m d e f g h i in
-    both (only-bits r bs (0 ∷ 1 ∷ 2 ∷ 3 ∷ 4 ∷ 5 ∷ 6 ∷ []) refl (omega arith))
+    table.case-good texts r
+    ∙ both (only-bits r bs (0 ∷ 1 ∷ 2 ∷ 3 ∷ 4 ∷ 5 ∷ 6 ∷ []) refl (omega arith))
     (both (bit-flag 0 bs)
     (both (common-good 3 a b c m d e f g h i (placed p) pm pd)
     (both (outputs-good 3 a b c m d e f g h i pb pc)

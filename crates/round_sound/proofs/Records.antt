@@ -16,6 +16,7 @@ use Rattle.tree_report.specs.Layout.{filled, goodText, goodTextAt, zeroAt, slot
 use Rattle.tree_report.specs.Layout.{caseBits, bitsFor, goodCommon, goodOutputs, goodCounts, goodReport, goodSuite, goodCase, goodOther}
 use Rattle.tree_report.specs.ReportOf.{Branch, pairOf, reasonOf, runOf, caseOf, suiteOf}
 use Rattle.tree_report.specs.Encode.{Row, written, ofText, ofNumber, ofCount, uuidFront, uuidBack, fitsCell, fitsMoment, fitsTime, fitsRow, pairRow, mainRow, runRow, caseRow, suiteRow, reportRow}
+use Rattle.tree_report.proofs.ByTable.{report-good, suite-good, case-good}
 use Rattle.tree_report.proofs.EncodeLists.{both, and-left, and-right}
 use Rattle.round_elements.proofs.Fits.{Fitting}
 use Rattle.round_sound.proofs.Texts.{text-fits}
@@ -122,10 +123,9 @@ module _ (text : List ℕ) (good : goodText text ≡ true) (r : List ℕ) where
   -- ---- the report, a suite, a case
   pub report-row : Narrow r → goodReport texts r ≡ true → (suites : List TestSuite)
       → fitsRow (reportRow (record { name = first text r; uuid = uuid r; timestamp = timestamp r; time = time r; counts = counts r; suites = suites })) ≡ true
-  unfolding goodReport
   report-row n e suites =
       let p : Report = record { name = first text r; uuid = uuid r; timestamp = timestamp r; time = time r; counts = counts r; suites = suites } in
-      let g = passes (onlyBits reportBits r ∷ goodCommon texts r ∷ []) (slot (hasBit bit.uuid r) true (zeroAt r word.uuid 4) && goodCounts r) e in
+      let g = passes (onlyBits reportBits r ∷ goodCommon texts r ∷ []) (slot (hasBit bit.uuid r) true (zeroAt r word.uuid 4) && goodCounts r) (sym (report-good texts r) ∙ e) in
       let c = common (g 1) in
       fits-row (reportRow p)
       (record {
@@ -142,10 +142,9 @@ module _ (text : List ℕ) (good : goodText text ≡ true) (r : List ℕ) where
       })
 
   pub suite-row : Narrow r → goodSuite texts r ≡ true → (rs : List (List ℕ)) → fitsRow (suiteRow (suiteOf text (record { head = r; below = rs }))) ≡ true
-  unfolding goodSuite
   suite-row n e rs =
       let b : Branch = record { head = r; below = rs } in
-      let g = passes (onlyBits suiteBits r ∷ hasBit bit.name r ∷ goodCommon texts r ∷ goodOutputs texts r ∷ []) (goodCounts r) e in
+      let g = passes (onlyBits suiteBits r ∷ hasBit bit.name r ∷ goodCommon texts r ∷ goodOutputs texts r ∷ []) (goodCounts r) (sym (suite-good texts r) ∙ e) in
       let c = common (g 2) in
       let o = outputs (g 3) in
       fits-row (suiteRow (suiteOf text b))
@@ -163,11 +162,11 @@ module _ (text : List ℕ) (good : goodText text ≡ true) (r : List ℕ) where
       })
 
   pub case-row : Narrow r → goodCase texts r ≡ true → (rs : List (List ℕ)) → fitsRow (caseRow (caseOf text (record { head = r; below = rs }))) ≡ true
-  unfolding goodCase
   case-row n e rs =
       let b : Branch = record { head = r; below = rs } in
       let counted : Bool = slot (hasBit bit.assertions r) true (zeroAt r word.assertions 2) && zeroAt r 22 10 in
-      let g = passes (onlyBits caseBits r ∷ hasBit bit.name r ∷ goodCommon texts r ∷ goodOutputs texts r ∷ textSlot texts r bit.classname word.classname ∷ []) counted e in
+      let g = passes (onlyBits caseBits r ∷ hasBit bit.name r ∷ goodCommon texts r ∷ goodOutputs texts r ∷ textSlot texts r bit.classname word.classname ∷ []) counted
+      (sym (case-good texts r) ∙ e) in
       let c = common (g 2) in
       let o = outputs (g 3) in
       fits-row (caseRow (caseOf text b))

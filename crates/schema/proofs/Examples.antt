@@ -13,7 +13,7 @@ use Rattle.calendar.specs.Calendar.{monthLength, isLeap}
 use Rattle.timestamp.specs.Timestamp.{inRange}
 use Rattle.timestamp.specs.declared.Moment.{Moment}
 use Rattle.tree_record.specs.Kinds as kind
-use Rattle.tree_report.specs.Report.{Pair, Counts, failure, TestRerun, Reason, success, TestCase, TestSuite, Report}
+use Rattle.schema.specs.Report.{Pair, Counts, failure, TestRerun, Reason, success, TestCase, TestSuite, Report}
 use Rattle.schema.specs.Schema.{row, report, suite, case, main, skipped, run, property, extra, fine, text, must, may}
 use Rattle.schema.specs.Records.{good, encode}
 use Rattle.schema.specs.Texts.{fieldsOf, recordAt}

@@ -13,11 +13,11 @@ use lib.Pow.{pow-add}
 use lib.ListN.{length, getD, take, drop, length-append}
 use lib.Seq.{take-at, drop-drop, drop-append-seam, getD-drop, getD-append-add, getD-append-seam}
 use Rattle.area.specs.Area.{zeros}
-use Rattle.tree_report.specs.Layout.{zeroAt, allZero}
-use Rattle.tree_report.specs.Encode.{flagsOf}
-use Rattle.tree_report.proofs.EncodeCells.{bit-flag}
-use Rattle.tree_report.proofs.EncodeLists.{and-left, and-right}
-use Rattle.tree_report.proofs.EncodeText.{zero-zeros}
+use Rattle.schema.specs.Records.{zeroAt, allZero}
+use Rattle.schema.specs.Records.{flagsOf}
+use Rattle.schema.proofs.Tests.{bit-flag}
+use Rattle.schema.proofs.Tests.{and-left, and-right}
+use Rattle.schema.proofs.Tests.{zero-zeros}
 use Rattle.schema.specs.Schema.{Form, text, number, time, timestamp, uuid, flag, Presence, always, must, may, unkept, Row, width, widthIf, behind, bitOf, after, fineBit, fineFrom, fine}
 use Rattle.schema.specs.Records.{Span, Of, Held, Fields, isSet, valueAt, slotAt, fieldsAt, goodValue, goodSlot, goodFrom, bitValue, bitsIn, good}
 use Rattle.schema.specs.Records.{wordsOf, slotWords, wordsFrom, present, unset, marksUpTo, marksFrom, encode, fitsSlot, fits}

@@ -11,9 +11,9 @@ use lib.Dec.{leb, eqb}
 use lib.ListN.{length, getD, set, take, drop, length-append}
 use lib.Seq.{take-at, take-append-add, drop-append-add, drop-append-seam}
 use Rattle.area.specs.Area.{zeros}
-use Rattle.tree_report.specs.Encode.{flagsOf}
-use Rattle.tree_report.proofs.EncodeCells.{bit-flag}
-use Rattle.tree_report.proofs.EncodeLists.{and-left, and-right}
+use Rattle.schema.specs.Records.{flagsOf}
+use Rattle.schema.proofs.Tests.{bit-flag}
+use Rattle.schema.proofs.Tests.{and-left, and-right}
 use Rattle.schema.specs.Schema.{Form, Presence, may, Row, width, widthIf, behind, bitOf, after, fineBit, fineFrom, fine}
 use Rattle.schema.specs.Records.{Span, Of, Held, Fields, isSet, wordsOf, slotWords, wordsFrom, present, unset, marksUpTo, marksFrom, encode}
 use Rattle.schema.specs.Stores.{rowAt, SlotOf, putAt, splice, withBit}

@@ -14,9 +14,9 @@ use Rattle.utf8.proofs.Rules.{utf8-append}
 use Rattle.utf8.specs.Characters.{boundary}
 use Rattle.utf8.specs.Utf8.{utf8}
 use Rattle.text_filter.specs.Filter.{unfiltered}
-use Rattle.tree_report.specs.Report.{Text}
-use Rattle.tree_report.specs.Fields.{given}
-use Rattle.tree_report.proofs.EncodeLists.{both, and-left, and-right}
+use Rattle.schema.specs.Report.{Text}
+use Rattle.schema.specs.Records.{given}
+use Rattle.schema.proofs.Tests.{both, and-left, and-right}
 use Rattle.schema.specs.Schema.{Form, text, number, time, timestamp, uuid, flag, Presence, always, must, may, unkept, Row, fine}
 use Rattle.schema.specs.Records.{Span, Of, Held, Fields, isSet, valueAt, slotAt, fieldsAt, goodValue, good, fitsSlot, fits, encode}
 use Rattle.schema.specs.Texts.{readValue, readSlot, readAll, shownSlot, fieldsOf, storedValue, stored, storedIn, placeValue, placeSlot, placedAt, soundValue, soundSlot, sound, recordAt, StandAt}

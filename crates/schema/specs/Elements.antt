@@ -1,10 +1,9 @@
 -- The fields of a table by name: the map between rows and the types of a report goes by the place of a row. Definitions only.
 use mathlib.Core.List.{List}
 use mathlib.Core.Bool.{Bool}
-use Rattle.tree_report.specs.Report.{Text, Pair, NonSuccessKind, TestRerun, Reason, TestCaseStatus, TestCase, TestSuite, Report}
-use Rattle.tree_report.specs.Fields.{given}
+use Rattle.schema.specs.Report.{Text, Pair, NonSuccessKind, TestRerun, Reason, TestCaseStatus, TestCase, TestSuite, Report}
 use Rattle.schema.specs.Schema.{report, suite, case, main, skipped, run, property}
-use Rattle.schema.specs.Records.{Fields}
+use Rattle.schema.specs.Records.{Fields, given}
 
 -- ---- a report
 abbrev pub reportFields : Report → Fields Text report

@@ -1,3 +1,4 @@
+pub mod Report
 pub mod Schema
 pub mod Records
 pub mod Texts

@@ -1,9 +1,9 @@
 -- A record by a table: the fields that it shows, whether it is a layout's, and the words of given fields. Definitions only.
-use Prim.Native.Nat.{ℕ, zero, suc, _+_, _-_, _/_, _%_, _^_}
+use Prim.Native.Nat.{ℕ, zero, suc, _+_, _-_, _*_, _/_, _%_, _^_}
 use mathlib.Core.List.{List, [], _∷_, _++_}
 use mathlib.Core.Bool.{Bool, true, false, cond, _&&_}
 use mathlib.Core.Option.{Option, none, some}
-use lib.ListN.{length, getD}
+use lib.ListN.{length, getD, take, drop}
 use lib.Dec.{leb, eqb}
 use Rattle.area.specs.Area.{zeros}
 use Rattle.utf8.specs.Characters.{boundary}
@@ -11,10 +11,7 @@ use Rattle.timestamp.specs.Timestamp.{inRange}
 use Rattle.timestamp.specs.declared.Moment.{Moment}
 use Rattle.uuid.specs.declared.Words.{Words}
 use Rattle.tree_record.specs.Record.{numberAt}
-use Rattle.tree_report.specs.Report.{Duration}
-use Rattle.tree_report.specs.Layout.{zeroAt}
-use Rattle.tree_report.specs.Encode.{isSome, flagsOf}
-use Rattle.tree_report.specs.Fields.{given}
+use Rattle.schema.specs.Report.{Duration}
 use Rattle.schema.specs.Schema.{Form, text, number, time, timestamp, uuid, flag, Presence, always, must, may, unkept}
 use Rattle.schema.specs.Schema.{Row, width, behind, bitOf, after}
 
@@ -46,6 +43,9 @@ Fields T [] = Unit {0}
 Fields T (x ∷ xs) = Held (x .presence) (Of T (x .form)) × Fields T xs
 
 -- ---- the fields that a record shows
+abbrev pub given : {A : Type 0} → Bool → A → Option A
+given b a = cond b (some a) none
+
 -- the presence bit k of word 1
 abbrev pub isSet : ℕ → List ℕ → Bool
 isSet k r = eqb (getD r 1 0 / 2 ^ k % 2) 1
@@ -87,6 +87,14 @@ goodValue texts time v = leb (v .seconds) 8388607 && leb (v .nanos) 999999999
 goodValue texts timestamp v = inRange v
 goodValue texts uuid v = true
 goodValue texts flag v = true
+
+abbrev pub allZero : List ℕ → Bool
+allZero [] = true
+allZero (w ∷ ws) = eqb w 0 && allZero ws
+
+-- n words from word o on are zero
+abbrev pub zeroAt : List ℕ → ℕ → ℕ → Bool
+zeroAt r o n = allZero (take n (drop o r))
 
 -- present with good words, or absent with words of zero
 abbrev pub goodSlot : List ℕ → List ℕ → Presence → Form → ℕ → Bool
@@ -135,6 +143,14 @@ slotWords unkept t v = []
 abbrev pub wordsFrom : ℕ → (xs : List Row) → Fields Span xs → List ℕ
 wordsFrom n [] f = zeros (32 - n)
 wordsFrom n (x ∷ xs) f = zeros (x .word - n) ++ (slotWords (x .presence) (x .form) (f .0) ++ wordsFrom (behind x) xs (f .1))
+
+abbrev pub isSome : {A : Type 0} → Option A → Bool
+isSome none = false
+isSome (some a) = true
+
+abbrev pub flagsOf : List Bool → ℕ
+flagsOf [] = 0
+flagsOf (b ∷ bs) = cond b 1 0 + 2 * flagsOf bs
 
 abbrev pub present : (A : Type 0) (p : Presence) → Held p A → Bool
 present A always v = true

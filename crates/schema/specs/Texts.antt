@@ -8,11 +8,10 @@ use lib.ListN.{length, take, drop}
 use Rattle.utf8.specs.Utf8.{utf8}
 use Rattle.text_filter.specs.Filter.{unfiltered}
 use Rattle.timestamp.specs.Timestamp.{inRange}
-use Rattle.tree_report.specs.Report.{Text}
-use Rattle.tree_report.specs.Fields.{given}
+use Rattle.schema.specs.Report.{Text}
 use lib.Dec.{leb}
 use Rattle.schema.specs.Schema.{Form, text, number, time, timestamp, uuid, flag, Presence, always, must, may, unkept, Row}
-use Rattle.schema.specs.Records.{Span, Of, Held, Fields, isSet, valueAt, encode}
+use Rattle.schema.specs.Records.{Span, Of, Held, Fields, given, isSet, valueAt, encode}
 
 -- ---- reading
 -- a text is its start and its length in the text area

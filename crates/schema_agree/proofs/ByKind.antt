@@ -11,10 +11,21 @@ use Rattle.tree_report.specs.Fields.{kindOf, live}
 use Rattle.tree_report.specs.Layout.{bitsFor, goodReport, goodSuite, goodCase, goodOther, goodRecord}
 use Rattle.schema.specs.Schema.{Row, report, suite, case, main, skipped, run, property, extra, tableOf}
 use Rattle.schema.specs.Records.{good}
-use Rattle.schema_agree.proofs.Layouts.{report-good, suite-good, case-good}
 use Rattle.schema_agree.proofs.Others.{pair-good, main-good, skipped-good, run-good}
 
 module _ (texts r : List ℕ) where
+  report-good : good report texts r ≡ goodReport texts r
+  unfolding goodReport
+  report-good = refl
+
+  suite-good : good suite texts r ≡ goodSuite texts r
+  unfolding goodSuite
+  suite-good = refl
+
+  case-good : good case texts r ≡ goodCase texts r
+  unfolding goodCase
+  case-good = refl
+
   abbrev k : ℕ
   k = kindOf r
 
@@ -62,9 +73,9 @@ module _ (texts r : List ℕ) where
       go : (a b c : Bool) → eqb k 1 ≡ a → eqb k 2 ≡ b → eqb k 3 ≡ c
           → cond a (goodReport texts r) (cond b (goodSuite texts r) (cond c (goodCase texts r) (leb k 14 && goodOther texts r)))
           ≡ (leb k 14 && good (cond a report (cond b suite (cond c case others))) texts r)
-      go true b c p q s = rw (le-leb k 14 (let e = eqb-true k 1 p in omega arith)) (sym (report-good texts r))
-      go false true c p q s = rw (le-leb k 14 (let e = eqb-true k 2 q in omega arith)) (sym (suite-good texts r))
-      go false false true p q s = rw (le-leb k 14 (let e = eqb-true k 3 s in omega arith)) (sym (case-good texts r))
+      go true b c p q s = rw (le-leb k 14 (let e = eqb-true k 1 p in omega arith)) (sym report-good)
+      go false true c p q s = rw (le-leb k 14 (let e = eqb-true k 2 q in omega arith)) (sym suite-good)
+      go false false true p q s = rw (le-leb k 14 (let e = eqb-true k 3 s in omega arith)) (sym case-good)
       go false false false p q s = ap (λ (t : Bool). leb k 14 && t) (sym other-good)
 
   -- a dead record keeps its kind with 16 more, and nothing else of it is looked at (rule M8)

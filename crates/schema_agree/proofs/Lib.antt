@@ -1,7 +1,6 @@
 pub mod Keys
 pub mod Written
 pub mod Shown
-pub mod Layouts
 pub mod Others
 pub mod ByKind
 pub mod Cells

@@ -1,4 +1,4 @@
--- The fields that a record shows are the table's, by their names. Assumes nothing.
+-- What a record shows by its table, in the words of Fields.antt, which names words and bits by constants. Assumes nothing.
 use Prim.Native.Nat.{ℕ}
 use mathlib.Core.Bool.{Bool, true, false, cond}
 use mathlib.Core.List.{List, _∷_, map}
@@ -7,43 +7,82 @@ use mathlib.Core.Path.{_≡_, refl}
 use lib.Dec.{eqb}
 use Rattle.tree_record.specs.Bits as bit
 use Rattle.tree_record.specs.Kinds as kind
+use Rattle.tree_record.specs.Words as word
 use Rattle.tree_report.specs.Report.{failure, error}
 use Rattle.tree_report.specs.Fields.{kindOf, hasBit, given, isSuite, isCase, isMain, isRun, isSuiteExtra, isSuiteProperty, isCaseExtra, isCaseProperty}
+use Rattle.tree_report.specs.Fields.{textAt, first, systemOut, systemErr, second, description, stackTrace, uuid, timestamp, time, counts, assertions}
 use Rattle.tree_report.specs.Encode.{isSome}
 use Rattle.tree_report.specs.ReportOf as tree
-use Rattle.schema.specs.Schema.{report, suite, case, main, skipped, run, property}
+use Rattle.schema.specs.Schema.{main}
 use Rattle.schema.specs.Texts.{fieldsOf}
 use Rattle.schema.specs.Elements as named
 
 module _ (texts : List ℕ) where
   pub report-shown : (r : List ℕ) (rs : List (List ℕ))
-      → tree.reportFrom texts (r ∷ rs) ≡ some (named.reportOf (fieldsOf report texts r) (map (tree.suiteOf texts) (tree.branches isSuite rs)))
+      → tree.reportFrom texts (r ∷ rs)
+      ≡ some (record {
+        name = first texts r;
+        uuid = uuid r;
+        timestamp = timestamp r;
+        time = time r;
+        counts = counts r;
+        suites = map (tree.suiteOf texts) (tree.branches isSuite rs);
+      })
   report-shown r rs = refl
 
   pub suite-shown : (b : tree.Branch)
       → tree.suiteOf texts b
-      ≡ named.suiteOf (fieldsOf suite texts (b .head)) (map (tree.caseOf texts) (tree.branches isCase (b .below)))
-      (tree.pairsOf texts isSuiteProperty (b .below)) (tree.pairsOf texts isSuiteExtra (b .below))
+      ≡ record {
+        name = textAt texts (b .head) word.name;
+        counts = counts (b .head);
+        timestamp = timestamp (b .head);
+        time = time (b .head);
+        cases = map (tree.caseOf texts) (tree.branches isCase (b .below));
+        properties = tree.pairsOf texts isSuiteProperty (b .below);
+        systemOut = systemOut texts (b .head);
+        systemErr = systemErr texts (b .head);
+        extra = tree.pairsOf texts isSuiteExtra (b .below);
+      }
   suite-shown b = refl
 
   pub case-shown : (b : tree.Branch)
       → tree.caseOf texts b
-      ≡ named.caseOf (fieldsOf case texts (b .head)) (tree.statusOf texts (tree.only isMain (b .below)) (tree.only isRun (b .below)))
-      (tree.pairsOf texts isCaseExtra (b .below)) (tree.pairsOf texts isCaseProperty (b .below))
+      ≡ record {
+        name = textAt texts (b .head) word.name;
+        classname = second texts (b .head);
+        assertions = assertions (b .head);
+        timestamp = timestamp (b .head);
+        time = time (b .head);
+        status = tree.statusOf texts (tree.only isMain (b .below)) (tree.only isRun (b .below));
+        systemOut = systemOut texts (b .head);
+        systemErr = systemErr texts (b .head);
+        extra = tree.pairsOf texts isCaseExtra (b .below);
+        properties = tree.pairsOf texts isCaseProperty (b .below);
+      }
   case-shown b = refl
 
   pub main-shown : (r : List ℕ) → tree.reasonOf texts r ≡ named.mainOf (fieldsOf main texts r)
   main-shown r = refl
 
-  pub skipped-shown : (r : List ℕ) → tree.reasonOf texts r ≡ named.skippedOf (fieldsOf skipped texts r)
+  pub skipped-shown : (r : List ℕ) → tree.reasonOf texts r ≡ record { message = first texts r; type = second texts r; description = description texts r }
   skipped-shown r = refl
 
   pub run-shown : (r : List ℕ)
       → tree.runOf texts r
-      ≡ named.runOf (cond (eqb (kindOf r) kind.flakyFailure) failure (cond (eqb (kindOf r) kind.rerunFailure) failure error)) (fieldsOf run texts r)
+      ≡ record {
+        kind = cond (eqb (kindOf r) kind.flakyFailure) failure (cond (eqb (kindOf r) kind.rerunFailure) failure error);
+        timestamp = timestamp r;
+        time = time r;
+        message = first texts r;
+        type = second texts r;
+        stackTrace = stackTrace texts r;
+        systemOut = systemOut texts r;
+        systemErr = systemErr texts r;
+        description = description texts r;
+      }
   run-shown r = refl
 
-  pub pair-shown : (r : List ℕ) → tree.pairOf texts r ≡ named.pairOf (fieldsOf property texts r)
+  pub pair-shown : (r : List ℕ) → tree.pairOf texts r ≡ record { key = textAt texts r word.key; value = textAt texts r word.value }
   pair-shown r = refl
 
   -- the flaky bit is a main's last row

@@ -14,6 +14,7 @@ use Rattle.tree_record.specs.Bits as bit
 use Rattle.tree_record.specs.Words as word
 use Rattle.tree_report.specs.Fields.{kindOf, isCase, hasBit, timestamp, momentOf}
 use Rattle.tree_report.specs.Layout.{slot, textSlot, momentSlot, timeSlot, onlyBits, caseBits, zeroAt, goodCommon, goodOutputs, goodCase, goodRecord, allGood}
+use Rattle.tree_report.proofs.ByTable as table
 use Rattle.tree_stamp.specs.Stamp.{cutMoment}
 use Rattle.tree_stamp.proofs.Layouts.{moment-own}
 use Rattle.span.specs.inside.Span.{sooner}
@@ -36,8 +37,8 @@ unfolding goodRecord
 case-good texts r k g = rw k at g
 
 common-good : (texts r : List ℕ) → goodCase texts r ≡ true → goodCommon texts r ≡ true
-unfolding goodCase
-common-good texts r g =
+common-good texts r h =
+    let g = sym (table.case-good texts r) ∙ h in
     let rest = goodOutputs texts r && (textSlot texts r bit.classname word.classname && (slot (hasBit bit.assertions r) true (zeroAt r word.assertions 2) && zeroAt r 22 10)) in
     let p = and-eq-true-iff (onlyBits caseBits r) (hasBit bit.name r && (goodCommon texts r && rest)) .0 g .1 in
     let q = and-eq-true-iff (hasBit bit.name r) (goodCommon texts r && rest) .0 p .1 in

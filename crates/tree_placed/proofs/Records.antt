@@ -8,6 +8,7 @@ use native.Mathlib.Nat.{mod-add-div'}
 use native.Mathlib.Omega.{arith}
 use borrow.Author.Tests.{le-leb}
 use lib.Dec.{leb, lit≤}
+use Rattle.tree_report.proofs.ByTable.{report-good, suite-good, case-good}
 use Rattle.tree_report.specs.Encode.{firstWord, secondWord, isGiven, ofText, uuidBack, lowWord, highWord, fitsRow, presence, Row}
 use Rattle.tree_report.specs.Encode.{flagsOf, pairRow, mainRow, kindOfMain, kindOfRun, runRow, caseRow, suiteRow, reportRow}
 use Rattle.tree_report.specs.Fields.{hasBit}
@@ -159,7 +160,8 @@ good-case c texts q h f =
     let bs : List Bool = presence row in
     let t = case-back c q h in
     let g = fits-times row f in
-    both (only-bits (recordOf (rowAt q row)) bs (0 ∷ 1 ∷ 2 ∷ 3 ∷ 4 ∷ 5 ∷ 6 ∷ []) refl (omega arith))
+    case-good texts (recordOf (rowAt q row))
+    ∙ both (only-bits (recordOf (rowAt q row)) bs (0 ∷ 1 ∷ 2 ∷ 3 ∷ 4 ∷ 5 ∷ 6 ∷ []) refl (omega arith))
     (both (bit-flag 0 bs)
     (both (good-common (t .common) (g .0) (g .1))
     (both (both (t .out .good) (t .err .good)) (both (t .classname .good) (both (t .assertions .good) refl)))))
@@ -193,7 +195,8 @@ good-suite s texts q h f =
     let bs : List Bool = presence row in
     let t = suite-back s q h in
     let g = fits-times row f in
-    both (only-bits (recordOf (rowAt q row)) bs (0 ∷ 1 ∷ 2 ∷ 3 ∷ 4 ∷ 8 ∷ []) refl (omega arith))
+    suite-good texts (recordOf (rowAt q row))
+    ∙ both (only-bits (recordOf (rowAt q row)) bs (0 ∷ 1 ∷ 2 ∷ 3 ∷ 4 ∷ 8 ∷ []) refl (omega arith))
     (both (bit-flag 0 bs)
     (both (good-common (t .common) (g .0) (g .1))
     (both (both (t .out .good) (t .err .good)) (t .counts .good))))
@@ -226,5 +229,6 @@ good-report p texts q h f =
     let t = report-back p q h in
     let g = fits-times row f in
     let hidden : _≡_ {A = ℕ} (cond (isGiven (uuidBack (p .uuid))) 1 0) 0 = rw (back-hidden (p .uuid)) refl in
-    both (only-bits (recordOf (rowAt q row)) bs (0 ∷ 1 ∷ 3 ∷ 4 ∷ 8 ∷ []) refl (omega arith))
+    report-good texts (recordOf (rowAt q row))
+    ∙ both (only-bits (recordOf (rowAt q row)) bs (0 ∷ 1 ∷ 3 ∷ 4 ∷ 8 ∷ []) refl (omega arith))
     (both (good-common (t .common) (g .0) (g .1)) (both (t .id .good) (t .counts .good)))

@@ -1,10 +1,10 @@
 -- The cells of a record: each is good in a layout, and is read back. Assumes nothing.
-use Prim.Native.Nat.{ℕ, zero, suc, _+_, _*_, _/_, _%_, _^_, min}
+use Prim.Native.Nat.{ℕ, _+_, _*_, _/_, _%_, min}
 use mathlib.Core.Bool.{Bool, true, false, cond}
 use mathlib.Core.List.{List, [], _∷_, _++_}
 use mathlib.Core.Option.{Option, none, some}
 use mathlib.Core.Path.{_≡_, refl, sym, ap, _∙_}
-use native.Mathlib.Nat.{div-div-eq-div-mul, zero-div, pow-succ', mod-add-div'}
+use native.Mathlib.Nat.{mod-add-div'}
 use native.Mathlib.Omega.{arith}
 use borrow.Author.Tests.{eq-eqb}
 use lib.Dec.{eqb}
@@ -15,25 +15,10 @@ use Rattle.tree_report.specs.Fields.{hasBit, given, textAt, numberAt, mo
 use Rattle.tree_report.specs.Layout.{zeroAt, slot, textSlot, goodTextAt, momentSlot, timeSlot, bitsOf, onlyBits}
 use Rattle.timestamp.specs.declared.Moment.{Moment}
 use Rattle.tree_report.specs.Report.{Text, Duration}
+pub use Rattle.schema.proofs.Tests.{bit-flag}
 use Rattle.tree_report.proofs.EncodeText.{Standing, text-read, text-good}
 
 -- ---- the presence bits
-module _ (F : ℕ) where
-  low-bit : (b : Bool) → eqb ((cond b 1 0 + 2 * F) / 2 ^ 0 % 2) 1 ≡ b
-  low-bit true = let e : (1 + 2 * F) / 1 % 2 ≡ 1 = omega arith in rw e
-  low-bit false = let e : (0 + 2 * F) / 1 % 2 ≡ 0 = omega arith in rw e
-
-  half : (b : Bool) → (cond b 1 0 + 2 * F) / 2 ≡ F
-  half true = omega arith
-  half false = omega arith
-
--- bit k of the word that is made of flags is flag k
-pub bit-flag : (k : ℕ) (bs : List Bool) → eqb (flagsOf bs / 2 ^ k % 2) 1 ≡ getD bs k false
-bit-flag k [] = rw (zero-div (2 ^ k))
-bit-flag zero (b ∷ bs) = low-bit (flagsOf bs) b
-bit-flag (suc k) (b ∷ bs) =
-    rw (pow-succ' 2 k, ← (div-div-eq-div-mul (cond b 1 0 + 2 * flagsOf bs) 2 (2 ^ k)), half (flagsOf bs) b) (bit-flag k bs)
-
 -- what these bits come to, of all that are set
 abbrev pub weights : List ℕ → List Bool → ℕ
 weights [] bs = 0

@@ -4,6 +4,7 @@ use mathlib.Core.List.{[], _∷_, _++_}
 use mathlib.Core.Option.{none, some}
 use mathlib.Core.Path.{_≡_, refl}
 use Rattle.area.specs.Area.{zeros}
+use Rattle.schema.specs.Records.{good}
 use Rattle.tree_report.specs.Encode.{recordAt, encode, wordsOf, textOf, fitsRow, fits}
 use Rattle.tree_report.specs.Layout.{goodText, goodTextAt, goodCommon, goodOutputs, goodCounts, goodReport, goodSuite, goodCase, bitsFor}
 use Rattle.tree_report.specs.Layout.{goodOther, goodRecord, mayEnd, mayFollow, following, goodOrder, recordsFrom, recordsOf, layout}
@@ -72,7 +73,7 @@ unfolding textOf encode
 flaky-texts = refl
 
 flaky-layout : layout (wordsOf flakyFailure 200) (textOf flakyFailure 5) ≡ true
-unfolding layout wordsOf textOf encode recordAt recordsOf recordsFrom goodText goodRecord goodReport goodSuite goodCase goodOther
+unfolding layout wordsOf textOf encode recordAt recordsOf recordsFrom goodText goodRecord goodReport goodSuite goodCase goodOther good
     bitsFor goodCommon goodOutputs goodCounts goodTextAt goodOrder mayFollow mayEnd following tallied ruled need low high
 flaky-layout = refl
 

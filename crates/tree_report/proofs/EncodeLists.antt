@@ -1,29 +1,17 @@
 -- Lists of records and of rows. Assumes nothing.
 use Prim.Native.Nat.{ℕ, _+_}
-use mathlib.Core.Bool.{Bool, true, false, not, _&&_, _||_, and-eq-true-iff, false≢true}
+use mathlib.Core.Bool.{Bool, true, false, not, _||_, false≢true}
 use mathlib.Core.List.{List, [], _∷_, _++_, map, append-assoc}
 use mathlib.Core.Path.{_≡_, refl, sym, ap, _∙_}
 use native.Mathlib.Omega.{arith}
 use borrow.Author.Tests.{eqb-true, not-true}
 use lib.Dec.{eqb}
 use lib.ListN.{length, length-append}
+pub use Rattle.schema.proofs.Tests.{both, and-left, and-right}
 pub use Rattle.tree_report.specs.inside.Each.{Each, done, more}
 use Rattle.tree_report.specs.Fields.{kindOf}
 use Rattle.tree_report.specs.ReportOf.{only, until, branches}
 use Rattle.tree_report.specs.Encode.{Cell, stored, storedIn, Row, cellsOf, cellsIn, recordAt, recordsAt, rowsOfEach, every}
-
--- ---- tests
--- two tests that hold, as one
-pub both : {a b : Bool} → a ≡ true → b ≡ true → (a && b) ≡ true
-both {a} {b} p q = and-eq-true-iff a b .1 (p, q)
-
--- the first of two tests that hold
-pub and-left : (a b : Bool) → (a && b) ≡ true → a ≡ true
-and-left a b e = and-eq-true-iff a b .0 e .0
-
--- the second of two tests that hold
-pub and-right : (a b : Bool) → (a && b) ≡ true → b ≡ true
-and-right a b e = and-eq-true-iff a b .0 e .1
 
 -- ---- P of each
 module _ {A : Type 0} {P : A → Type 0} where

@@ -9,6 +9,7 @@ use native.Mathlib.Omega.{arith}
 use borrow.Author.Tests.{lt-ltb, le-leb, lt-leb, ne-eqb}
 use lib.Dec.{eqb, leb, lit≤}
 use lib.ListN.{take, drop}
+use Rattle.tree_report.proofs.ByTable.{report-good, suite-good, case-good}
 use Rattle.tree_report.specs.Encode.{Cell, absent, firstWord, secondWord, isGiven, ofText, uuidFront, uuidBack, lowWord, highWord, fitsCell, fitsMoment, fitsTime, fitsRow}
 use Rattle.tree_report.specs.Encode.{every, presence, cellsOf, Row, recordAt, flagsOf, pairRow, mainRow, kindOfMain, kindOfRun, runRow, caseRow, suiteRow, reportRow}
 use Rattle.tree_report.specs.Fields.{kindOf, hasBit, textAt, numberAt, first, systemOut, systemErr, second, description, stackTrace, uuid, timestamp, time, counts, assertions}
@@ -248,7 +249,8 @@ good-case c texts fill ss h f =
     let bs : List Bool = presence row in
     let t = case-back c h in
     let g = fits-times row f in
-    both (only-bits (recordAt fill row) bs (0 ∷ 1 ∷ 2 ∷ 3 ∷ 4 ∷ 5 ∷ 6 ∷ []) refl (omega arith))
+    case-good texts (recordAt fill row)
+    ∙ both (only-bits (recordAt fill row) bs (0 ∷ 1 ∷ 2 ∷ 3 ∷ 4 ∷ 5 ∷ 6 ∷ []) refl (omega arith))
     (both (bit-flag 0 bs)
     (both (good-common (t .common) (g .0) (g .1))
     (both (both (t .out .good) (t .err .good)) (both (t .classname .good) (both (t .assertions .good) refl)))))
@@ -304,7 +306,8 @@ good-suite s texts fill ss h f =
     let bs : List Bool = presence row in
     let t = suite-back s h in
     let g = fits-times row f in
-    both (only-bits (recordAt fill row) bs (0 ∷ 1 ∷ 2 ∷ 3 ∷ 4 ∷ 8 ∷ []) refl (omega arith))
+    suite-good texts (recordAt fill row)
+    ∙ both (only-bits (recordAt fill row) bs (0 ∷ 1 ∷ 2 ∷ 3 ∷ 4 ∷ 8 ∷ []) refl (omega arith))
     (both (bit-flag 0 bs)
     (both (good-common (t .common) (g .0) (g .1))
     (both (both (t .out .good) (t .err .good)) (t .counts .good))))
@@ -359,5 +362,6 @@ good-report p texts fill ss h f =
     let t = report-back p h in
     let g = fits-times row f in
     let hidden : _≡_ {A = ℕ} (cond (isGiven (uuidBack (p .uuid))) 1 0) 0 = rw (back-hidden (p .uuid)) refl in
-    both (only-bits (recordAt fill row) bs (0 ∷ 1 ∷ 3 ∷ 4 ∷ 8 ∷ []) refl (omega arith))
+    report-good texts (recordAt fill row)
+    ∙ both (only-bits (recordAt fill row) bs (0 ∷ 1 ∷ 3 ∷ 4 ∷ 8 ∷ []) refl (omega arith))
     (both (good-common (t .common) (g .0) (g .1)) (both (t .id .good) (t .counts .good)))

@@ -17,13 +17,10 @@ use Rattle.tree_report.specs.Encode.{Cell, written, stored, storedIn}
 use Rattle.text_filter.specs.Filter.{dropped, unfiltered}
 use Rattle.tree_report.specs.Layout.{allZero, filled, goodText}
 use Rattle.tree_report.specs.Report.{Text}
+pub use Rattle.schema.proofs.Tests.{zero-zeros}
 use Rattle.tree_report.proofs.EncodeLists.{Each, done, more, both, and-left, and-right, stored-append}
 
 -- ---- zeros
-pub zero-zeros : (n : ℕ) → allZero (zeros n) ≡ true
-zero-zeros zero = refl
-zero-zeros (suc n) = zero-zeros n
-
 -- an area of which only the first n are used
 pub take-area : (l : List ℕ) (k n : ℕ) → length l ≤ n → (j : ℕ) × (take n (l ++ zeros k) ≡ l ++ zeros j)
 take-area l k n h =

@@ -8,6 +8,7 @@ use Rattle.area.specs.Area.{zeros}
 use Rattle.area.specs.Limits.{mostRecords, mostWords}
 use Rattle.tree_record.specs.Kinds as kind
 use Rattle.tree_status.specs.Status.{tallied, ruled}
+use Rattle.schema.specs.Records.{good}
 use Rattle.tree_report.specs.Fields.{systemOut, systemErr}
 use Rattle.tree_report.specs.Layout.{allZero, goodTextAt, goodCommon, goodOutputs, goodCase, bitsFor, goodOther, goodRecord, nothing, mayEnd, mayFollow, following, goodOrder}
 
@@ -52,11 +53,11 @@ dead-beyond = refl
 
 -- a case with a name, and with the bit of a stack trace
 case-named : goodRecord [] (3 ∷ 1 ∷ zeros 30) ≡ true
-unfolding goodRecord goodCase goodCommon goodOutputs goodTextAt
+unfolding goodRecord goodCase goodCommon goodOutputs goodTextAt good
 case-named = refl
 
 case-trace : goodRecord [] (3 ∷ 129 ∷ zeros 30) ≡ false
-unfolding goodRecord goodCase goodCommon goodOutputs goodTextAt
+unfolding goodRecord goodCase goodCommon goodOutputs goodTextAt good
 case-trace = refl
 
 -- `skipped` has no flaky bit, a failure may have it

@@ -1,3 +1,4 @@
+pub mod ByTable
 pub mod EncodeLists
 pub mod EncodeText
 pub mod EncodeAreas

@@ -1,7 +1,7 @@
 -- The areas that hold a report, and when it fits them. Definitions only.
 use Prim.Native.Nat.{ℕ, _+_, _*_, _/_, _%_}
 use mathlib.Core.List.{List, [], _∷_, _++_, map}
-use mathlib.Core.Bool.{Bool, true, false, cond, _&&_}
+use mathlib.Core.Bool.{Bool, true, false, _&&_}
 use mathlib.Core.Option.{Option, none, some}
 use lib.ListN.{length}
 use lib.Dec.{leb}
@@ -14,6 +14,7 @@ use Rattle.timestamp.specs.Timestamp.{inRange}
 use Rattle.timestamp.specs.declared.Moment.{Moment}
 use Rattle.uuid.specs.declared.Words.{Words}
 use Rattle.tree_record.specs.Kinds as kind
+pub use Rattle.schema.specs.Records.{isSome, flagsOf}
 use Rattle.tree_report.specs.Report.{Text, Duration, Pair, NonSuccessKind, failure, error, FlakyOrRerun, flaky, rerun, TestRerun}
 use Rattle.tree_report.specs.Report.{Reason, TestCaseStatus, success, nonSuccess, skipped, TestCase, TestSuite, Report}
 
@@ -95,10 +96,6 @@ pub record Row : Type 0 where
   pub sixth : Cell
   pub isFlaky : Bool
 
-abbrev pub isSome : {A : Type 0} → Option A → Bool
-isSome none = false
-isSome (some a) = true
-
 abbrev pub momentOrZero : Option Moment → Moment
 momentOrZero none = record { year = 0; month = 0; day = 0; hour = 0; minute = 0; second = 0; nanos = 0; offset = 0 }
 momentOrZero (some m) = m
@@ -125,10 +122,6 @@ abbrev pub presence : Row → List Bool
 presence r =
     isGiven (r .first) ∷ isGiven (r .out) ∷ isGiven (r .err) ∷ isSome (r .timestamp) ∷ isSome (r .time)
     ∷ isGiven (r .second) ∷ isGiven (r .third) ∷ isGiven (r .fourth) ∷ isGiven (r .sixth) ∷ r .isFlaky ∷ []
-
-abbrev pub flagsOf : List Bool → ℕ
-flagsOf [] = 0
-flagsOf (b ∷ bs) = cond b 1 0 + 2 * flagsOf bs
 
 abbrev pub cellWords : ℕ → List Cell → List ℕ
 cellWords fill [] = []

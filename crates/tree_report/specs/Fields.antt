@@ -1,8 +1,8 @@
 -- The fields of a record, docs/TREE.md. A record is the list of its words. Definitions only.
 use Prim.Native.Nat.{ℕ, _+_}
 use mathlib.Core.List.{List}
-use mathlib.Core.Bool.{Bool, cond, _&&_}
-use mathlib.Core.Option.{Option, none, some}
+use mathlib.Core.Bool.{Bool, _&&_}
+use mathlib.Core.Option.{Option}
 use lib.ListN.{getD}
 use lib.Dec.{leb, eqb}
 use Rattle.timestamp.specs.declared.Moment.{Moment}
@@ -11,6 +11,7 @@ use Rattle.tree_record.specs.Words as word
 use Rattle.tree_record.specs.Bits as bit
 use Rattle.tree_record.specs.Kinds as kind
 pub use Rattle.tree_record.specs.Record.{kindOf, live, hasBit, textAt, numberAt}
+pub use Rattle.schema.specs.Records.{given}
 use Rattle.tree_report.specs.Report.{Text, Duration, Counts}
 
 abbrev pub isReport : List ℕ → Bool
@@ -39,9 +40,6 @@ isSuiteExtra r = eqb (kindOf r) kind.suiteExtra
 
 abbrev pub isCaseExtra : List ℕ → Bool
 isCaseExtra r = eqb (kindOf r) kind.caseExtra
-
-abbrev pub given : {A : Type 0} → Bool → A → Option A
-given b a = cond b (some a) none
 
 -- the texts of a record: `first` is a name, a message or a key, `second` a classname or a type
 abbrev pub first : List ℕ → List ℕ → Option Text

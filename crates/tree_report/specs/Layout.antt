@@ -15,6 +15,9 @@ use Rattle.tree_record.specs.Kinds as kind
 use Rattle.tree_record.specs.Record.{maskOf}
 use Rattle.tree_status.specs.declared.Tally.{Tally}
 use Rattle.tree_status.specs.Status.{noStatus, tallied, ruled}
+use Rattle.schema.specs.Schema.{report, suite, case}
+unfoldable pub use Rattle.schema.specs.Records.{good}
+pub use Rattle.schema.specs.Records.{allZero, zeroAt}
 use Rattle.tree_report.specs.Fields.{kindOf, live, isReport, isSuite, isCase, isSuiteProperty, isCaseProperty, isSuiteExtra, isCaseExtra, hasBit, momentOf}
 
 -- beyond the limits an area isn't used (rule M1)
@@ -23,10 +26,6 @@ usedWords words = take mostWords words
 
 abbrev pub usedText : List ℕ → List ℕ
 usedText text = take mostBytes text
-
-abbrev pub allZero : List ℕ → Bool
-allZero [] = true
-allZero (w ∷ ws) = eqb w 0 && allZero ws
 
 -- ---- the text area
 -- the texts: what stands before the first zero byte
@@ -43,10 +42,6 @@ goodText text = utf8 (filled text) && (unfiltered (filled text) && allZero (drop
 unfoldable pub goodTextAt : List ℕ → List ℕ → ℕ → Bool
 goodTextAt texts r o =
     leb (getD r o 0 + getD r (o + 1) 0) (length texts) && (boundary texts (getD r o 0) && boundary texts (getD r o 0 + getD r (o + 1) 0))
-
--- n words from word o on are zero
-abbrev pub zeroAt : List ℕ → ℕ → ℕ → Bool
-zeroAt r o n = allZero (take n (drop o r))
 
 -- present with good words, or absent with words of zero
 abbrev pub slot : Bool → Bool → Bool → Bool
@@ -105,19 +100,15 @@ skippedBits = bit.message ∷ bit.type ∷ bit.description ∷ []
 abbrev pub runBits : List ℕ
 runBits = bit.message ∷ bit.out ∷ bit.err ∷ bit.timestamp ∷ bit.time ∷ bit.type ∷ bit.description ∷ bit.stackTrace ∷ []
 
+-- by the tables of crate schema
 unfoldable pub goodReport : List ℕ → List ℕ → Bool
-goodReport texts r = onlyBits reportBits r && (goodCommon texts r && (slot (hasBit bit.uuid r) true (zeroAt r word.uuid 4) && goodCounts r))
+goodReport texts r = good report texts r
 
 unfoldable pub goodSuite : List ℕ → List ℕ → Bool
-goodSuite texts r = onlyBits suiteBits r && (hasBit bit.name r && (goodCommon texts r && (goodOutputs texts r && goodCounts r)))
+goodSuite texts r = good suite texts r
 
 unfoldable pub goodCase : List ℕ → List ℕ → Bool
-goodCase texts r =
-    onlyBits caseBits r
-    && (hasBit bit.name r
-    && (goodCommon texts r
-    && (goodOutputs texts r
-    && (textSlot texts r bit.classname word.classname && (slot (hasBit bit.assertions r) true (zeroAt r word.assertions 2) && zeroAt r 22 10)))))
+goodCase texts r = good case texts r
 
 -- a property or extra has name or key and value; a main has message, type and description, and a failure or error the
 -- flaky bit; a run has all texts, timestamp and time

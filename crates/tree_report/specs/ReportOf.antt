@@ -4,12 +4,14 @@ use mathlib.Core.List.{List, [], _∷_, map}
 use mathlib.Core.Bool.{Bool, cond}
 use mathlib.Core.Option.{Option, none, some}
 use lib.Dec.{leb, eqb}
-use Rattle.tree_record.specs.Words as word
 use Rattle.tree_record.specs.Bits as bit
 use Rattle.tree_record.specs.Kinds as kind
 use Rattle.tree_report.specs.Report.{Pair, failure, error, FlakyOrRerun, flaky, rerun, TestRerun, Reason, TestCaseStatus, success, nonSuccess, skipped, TestCase, TestSuite, Report}
 use Rattle.tree_report.specs.Fields.{kindOf, live, isSuite, isCase, isSuiteProperty, isCaseProperty, isMain, isRun, isSuiteExtra, isCaseExtra, hasBit}
-use Rattle.tree_report.specs.Fields.{textAt, first, systemOut, systemErr, second, description, stackTrace, uuid, timestamp, time, counts, assertions}
+use Rattle.schema.specs.Schema.{report, suite, case, run, property}
+use Rattle.schema.specs.Schema as table
+use Rattle.schema.specs.Texts.{fieldsOf}
+use Rattle.schema.specs.Elements as named
 use Rattle.tree_report.specs.Layout.{recordsOf, usedText}
 
 -- the records that pass a test, in order
@@ -34,27 +36,17 @@ branches p (r ∷ rs) = cond (p r) (record { head = r; below = until p rs } ∷ 
 
 module _ (text : List ℕ) where
   abbrev pub pairOf : List ℕ → Pair
-  pairOf r = record { key = textAt text r word.key; value = textAt text r word.value }
+  pairOf r = named.pairOf (fieldsOf property text r)
 
   abbrev pub pairsOf : (List ℕ → Bool) → List (List ℕ) → List Pair
   pairsOf p rs = map pairOf (only p rs)
 
+  -- failure, error and skipped have the same texts
   abbrev pub reasonOf : List ℕ → Reason
-  reasonOf r = record { message = first text r; type = second text r; description = description text r }
+  reasonOf r = named.skippedOf (fieldsOf table.skipped text r)
 
   abbrev pub runOf : List ℕ → TestRerun
-  runOf r =
-      record {
-        kind = cond (eqb (kindOf r) kind.flakyFailure) failure (cond (eqb (kindOf r) kind.rerunFailure) failure error);
-        timestamp = timestamp r;
-        time = time r;
-        message = first text r;
-        type = second text r;
-        stackTrace = stackTrace text r;
-        systemOut = systemOut text r;
-        systemErr = systemErr text r;
-        description = description text r;
-      }
+  runOf r = named.runOf (cond (eqb (kindOf r) kind.flakyFailure) failure (cond (eqb (kindOf r) kind.rerunFailure) failure error)) (fieldsOf run text r)
 
   -- the kind of a failure's or error's runs: by the first of them, and without any by the flaky bit (rule S11)
   abbrev pub kindOfRuns : List ℕ → List (List ℕ) → FlakyOrRerun
@@ -70,45 +62,18 @@ module _ (text : List ℕ) where
 
   abbrev pub caseOf : Branch → TestCase
   caseOf b =
-      record {
-        name = textAt text (b .head) word.name;
-        classname = second text (b .head);
-        assertions = assertions (b .head);
-        timestamp = timestamp (b .head);
-        time = time (b .head);
-        status = statusOf (only isMain (b .below)) (only isRun (b .below));
-        systemOut = systemOut text (b .head);
-        systemErr = systemErr text (b .head);
-        extra = pairsOf isCaseExtra (b .below);
-        properties = pairsOf isCaseProperty (b .below);
-      }
+      named.caseOf (fieldsOf case text (b .head)) (statusOf (only isMain (b .below)) (only isRun (b .below)))
+      (pairsOf isCaseExtra (b .below)) (pairsOf isCaseProperty (b .below))
 
   abbrev pub suiteOf : Branch → TestSuite
   suiteOf b =
-      record {
-        name = textAt text (b .head) word.name;
-        counts = counts (b .head);
-        timestamp = timestamp (b .head);
-        time = time (b .head);
-        cases = map caseOf (branches isCase (b .below));
-        properties = pairsOf isSuiteProperty (b .below);
-        systemOut = systemOut text (b .head);
-        systemErr = systemErr text (b .head);
-        extra = pairsOf isSuiteExtra (b .below);
-      }
+      named.suiteOf (fieldsOf suite text (b .head)) (map caseOf (branches isCase (b .below)))
+      (pairsOf isSuiteProperty (b .below)) (pairsOf isSuiteExtra (b .below))
 
   -- the one live report record comes first
   abbrev pub reportFrom : List (List ℕ) → Option Report
   reportFrom [] = none
-  reportFrom (r ∷ rs) =
-      some (record {
-        name = first text r;
-        uuid = uuid r;
-        timestamp = timestamp r;
-        time = time r;
-        counts = counts r;
-        suites = map suiteOf (branches isSuite rs);
-      })
+  reportFrom (r ∷ rs) = some (named.reportOf (fieldsOf report text r) (map suiteOf (branches isSuite rs)))
 
 -- the report of two areas; there is one wherever they are a layout (rule M8)
 unfoldable pub reportOf : List ℕ → List ℕ → Option Report

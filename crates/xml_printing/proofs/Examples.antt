@@ -46,7 +46,7 @@ unfolding begun char follow inText inSection inRef inTarget inMisc inHeading inD
     event.attributesFrom event.eventOf event.eventAt event.resolveFrom event.resolve tallied ruled
     layout.goodText layout.goodTextAt layout.goodCommon layout.goodOutputs layout.goodCounts layout.goodReport layout.goodSuite layout.goodCase
     layout.bitsFor layout.goodOther layout.goodRecord layout.mayEnd layout.mayFollow layout.following layout.goodOrder layout.recordsFrom
-    layout.recordsOf layout.layout reportOf
+    layout.recordsOf layout.layout layout.good reportOf
     role.roleIn role.reportRole role.suiteRole role.roleOf marked
     outcome._>>=_ outcome.there outcome.need outcome.fits
     attributes.readText attributes.byRole attributes.readAttributes attributes.complete attributes.readElement

@@ -1,6 +1,6 @@
 use mathlib.Core.Path.{refl}
 use borrow.Author.Needs.{needs}
-use Rattle.tree_report.specs.Layout.{goodCase}
+use Rattle.tree_report.proofs.ByTable.{case-good}
 use Rattle.tree_shape.proofs.Bits.{case-bits}
 use Rattle.tree_shape.proofs.good_case.Statement.{statement}
 use Rattle.tree_shape.proofs.good_case.Tie as tie
@@ -36,13 +36,13 @@ good-common-requires : tie.Need-good-common-requires
 good-common-requires c κs = search needs
 
 returns : tie.Need-returns
-unfolding goodCase
 returns c =
     let args = c .before .before .before .before .before .before .before .before .before .before .args in
     let good-outputs = c .before .before .before .before .before .before .good-outputs in
     let text-slot = c .before .before .before .before .before .text-slot in
     let free-slot = c .before .before .before .before .free-slot in
-    rw (case-bits (args .r .now), c .before .has-bit .ensures, c .good-common .ensures, good-outputs .ensures, text-slot .ensures, free-slot .ensures, c .before .before .is-zero .ensures) refl
+    let parts = case-good (args .texts .now) (args .r .now) in
+    rw (parts, case-bits (args .r .now), c .before .has-bit .ensures, c .good-common .ensures, good-outputs .ensures, text-slot .ensures, free-slot .ensures, c .before .before .is-zero .ensures) refl
 
 pub good-case-spec : {M : Type 1} → statement M
 good-case-spec =

@@ -1,6 +1,6 @@
 use mathlib.Core.Path.{refl}
 use borrow.Author.Needs.{needs}
-use Rattle.tree_report.specs.Layout.{goodReport}
+use Rattle.tree_report.proofs.ByTable.{report-good}
 use Rattle.tree_shape.proofs.Bits.{report-bits}
 use Rattle.tree_shape.proofs.good_report.Statement.{statement}
 use Rattle.tree_shape.proofs.good_report.Tie as tie
@@ -30,10 +30,9 @@ good-counts-requires : tie.Need-good-counts-requires
 good-counts-requires c κs = search needs
 
 returns : tie.Need-returns
-unfolding goodReport
 returns c =
     let args = c .before .before .before .before .before .before .args in
-    rw (report-bits (args .r .now), c .before .before .good-common .ensures, c .before .free-slot .ensures, c .good-counts .ensures) refl
+    rw (report-good (args .texts .now) (args .r .now), report-bits (args .r .now), c .before .before .good-common .ensures, c .before .free-slot .ensures, c .good-counts .ensures) refl
 
 pub good-report-spec : {M : Type 1} → statement M
 good-report-spec =

@@ -1,6 +1,6 @@
 use mathlib.Core.Path.{refl}
 use borrow.Author.Needs.{needs}
-use Rattle.tree_report.specs.Layout.{goodSuite}
+use Rattle.tree_report.proofs.ByTable.{suite-good}
 use Rattle.tree_shape.proofs.Bits.{suite-bits}
 use Rattle.tree_shape.proofs.good_suite.Statement.{statement}
 use Rattle.tree_shape.proofs.good_suite.Tie as tie
@@ -27,10 +27,10 @@ good-counts-requires : tie.Need-good-counts-requires
 good-counts-requires c κs = search needs
 
 returns : tie.Need-returns
-unfolding goodSuite
 returns c =
     let args = c .before .before .before .before .before .before .before .args in
-    rw (suite-bits (args .r .now), c .before .before .before .has-bit .ensures, c .before .before .good-common .ensures, c .before .good-outputs .ensures, c .good-counts .ensures) refl
+    let parts = suite-good (args .texts .now) (args .r .now) in
+    rw (parts, suite-bits (args .r .now), c .before .before .before .has-bit .ensures, c .before .before .good-common .ensures, c .before .good-outputs .ensures, c .good-counts .ensures) refl
 
 pub good-suite-spec : {M : Type 1} → statement M
 good-suite-spec =

@@ -1,4 +1,4 @@
--- A record of a report, suite or case is a layout's exactly if its table says so. Assumes nothing.
+-- A report's, suite's or case's record by its table, in the parts that laws are about. Assumes nothing.
 use Prim.Native.Nat.{ℕ, _+_}
 use mathlib.Core.Bool.{Bool, true, false, cond, _&&_}
 use mathlib.Core.List.{List}
@@ -6,7 +6,8 @@ use mathlib.Core.Path.{_≡_, refl, ap, _∙_}
 use native.Mathlib.Omega.{arith}
 use lib.Dec.{eqb}
 use lib.ListN.{getD}
-use Rattle.tree_report.specs.Layout.{goodReport, goodSuite, goodCase, reportBits, suiteBits, caseBits, goodCommon, goodOutputs, goodCounts, goodTextAt, bitsOf, zeroAt}
+use Rattle.tree_report.specs.Fields.{hasBit}
+use Rattle.tree_report.specs.Layout.{slot, textSlot, onlyBits, goodReport, goodSuite, goodCase, reportBits, suiteBits, caseBits, goodCommon, goodOutputs, goodCounts, goodTextAt, bitsOf, zeroAt}
 use Rattle.schema.specs.Schema.{report, suite, case, text, time, timestamp, number, uuid, may}
 use Rattle.schema.specs.Records.{good, goodSlot, goodFrom, goodValue, valueAt, isSet, bitsIn}
 
@@ -38,7 +39,7 @@ report-parts true true false true false y = refl
 report-parts true true false false t y = refl
 
 module _ (texts r : List ℕ) where
-  pub report-good : good report texts r ≡ goodReport texts r
+  pub report-good : goodReport texts r ≡ (onlyBits reportBits r && (goodCommon texts r && (slot (hasBit 1 r) true (zeroAt r 4 4) && goodCounts r)))
   unfolding good goodReport goodCommon goodCounts goodTextAt
   report-good =
       let e : bitsIn report r ≡ bitsOf reportBits r = omega arith in
@@ -46,7 +47,7 @@ module _ (texts r : List ℕ) where
       ∙ report-parts (eqb (getD r 1 0) (bitsOf reportBits r)) (goodSlot texts r (may 0) text 2) (goodSlot texts r (may 1) uuid 4)
       (goodSlot texts r (may 3) timestamp 8) (goodSlot texts r (may 4) time 16) (goodSlot texts r (may 8) number 26 && zeroAt r 28 4)
 
-  pub suite-good : good suite texts r ≡ goodSuite texts r
+  pub suite-good : goodSuite texts r ≡ (onlyBits suiteBits r && (hasBit 0 r && (goodCommon texts r && (goodOutputs texts r && goodCounts r))))
   unfolding good goodSuite goodCommon goodOutputs goodCounts goodTextAt
   suite-good =
       let e : bitsIn suite r ≡ bitsOf suiteBits r = omega arith in
@@ -55,7 +56,8 @@ module _ (texts r : List ℕ) where
       (goodSlot texts r (may 1) text 4) (goodSlot texts r (may 2) text 6) (goodSlot texts r (may 3) timestamp 8) (goodSlot texts r (may 4) time 16)
       (goodSlot texts r (may 8) number 26 && zeroAt r 28 4)
 
-  pub case-good : good case texts r ≡ goodCase texts r
+  pub case-good : goodCase texts r
+      ≡ (onlyBits caseBits r && (hasBit 0 r && (goodCommon texts r && (goodOutputs texts r && (textSlot texts r 5 18 && (slot (hasBit 6 r) true (zeroAt r 20 2) && zeroAt r 22 10))))))
   unfolding good goodCase goodCommon goodOutputs goodTextAt
   case-good =
       let e : bitsIn case r ≡ bitsOf caseBits r = omega arith in
