@@ -15,8 +15,8 @@ use Rattle.tree_report.specs.Fields.{kindOf, time}
 use Rattle.read_element.specs.Outcome.{Place, Rooms}
 use Rattle.read_keys.specs.declared.Role.{Role}
 use Rattle.read_keys.specs.declared.Role.the-variants as role
-use Rattle.read_keys.specs.Roles.{countKeys, reportKeys, reportRole, suiteKeys, suiteRole, caseKeys, caseRole, propertyKeys, propertyRole, statusKeys, statusRole, roleOf}
-use Rattle.read_keys.proofs.RoleLaws.{Each, role-each}
+use Rattle.read_keys.specs.Roles.{reportKeys, reportRole, suiteKeys, suiteRole, caseKeys, caseRole, propertyKeys, propertyRole, statusKeys, statusRole, roleOf}
+use Rattle.read_keys.proofs.RoleLaws.{Each, role-each, countKeys}
 use Rattle.tree_put.specs.Put.{blank}
 use Rattle.read_element.specs.Attributes.{Given, Grown, numbered, readAttributes, readElement, complete}
 use Rattle.public_claims.specs.Agree.{blanked}
@@ -42,7 +42,8 @@ module _ (kind : ℕ) where
 
   status-wide : (b : Bool) (c : ℕ) → Wide kind (statusRole b c)
   unfolding statusRole
-  status-wide b c = role-each (Wide kind) (statusKeys b) role.Ignored c (tt, (tt, ((two, omega arith), ((omega arith, omega arith), tt)))) tt
+  status-wide true c = role-each (Wide kind) (statusKeys true) role.Ignored c ((two, omega arith), (tt, (tt, ((omega arith, omega arith), tt)))) tt
+  status-wide false c = role-each (Wide kind) (statusKeys false) role.Ignored c ((two, omega arith), (tt, (tt, ((omega arith, omega arith), tt)))) tt
 
 report-wide : (c : ℕ) → Wide 1 (reportRole c)
 unfolding reportRole
@@ -54,7 +55,7 @@ suite-wide c = role-each (Wide 2) suiteKeys role.Extra c ((two, omega arith), (t
 
 case-wide : (c : ℕ) → Wide 3 (caseRole c)
 unfolding caseRole
-case-wide c = role-each (Wide 3) caseKeys role.Extra c ((two, omega arith), ((omega arith, omega arith), (tt, (tt, ((omega arith, omega arith), tt))))) (omega arith)
+case-wide c = role-each (Wide 3) caseKeys role.Extra c ((two, omega arith), (tt, (tt, ((omega arith, omega arith), ((omega arith, omega arith), tt))))) (omega arith)
 
 -- ---- an element's attributes
 abbrev Stepping : ℕ → Sort → Type 0

@@ -11,7 +11,8 @@ use Rattle.tree_record.specs.Record.{hasBit}
 use Rattle.tree_put.specs.Put.{blank}
 use Rattle.read_keys.specs.declared.Role.{Role}
 use Rattle.read_keys.specs.declared.Role.the-variants as role
-use Rattle.read_keys.specs.Roles.{roleIn, countKeys, reportRole, suiteRole, caseRole, propertyRole, statusRole, roleOf}
+use Rattle.read_keys.specs.Roles.{roleIn, reportRole, suiteRole, caseRole, propertyRole, statusRole, roleOf}
+use Rattle.read_keys.proofs.RoleLaws.{countKeys}
 use Rattle.tree_report.proofs.EncodeLists.{Each, done, more}
 use Rattle.read_element.proofs.TreeSheet.{text, name, number, count, Fits, textless, placed, named, numberless, counted, empty, uuid, value, pair}
 use Rattle.read_element.proofs.TreeSheet.{InMiddle, two, idless, open-value, full-value, without, untimed, timed, Sorts, flags, Sheet, sheet}
@@ -82,11 +83,11 @@ class-final rerunError = TreeGood.rerunError
 -- ---- roles
 main-roles : {κ : ℕ} (x : ℕ) → Suits mainSorts κ (statusRole false x)
 unfolding statusRole
-main-roles x = by-key (more (as-moment (λ e. absurd (false≢true e))) (more (as-time (λ e. absurd (false≢true e))) (more (as-first refl) (more (as-second refl) done)))) as-ignored x
+main-roles x = by-key (more (as-first refl) (more (as-moment (λ e. absurd (false≢true e))) (more (as-time (λ e. absurd (false≢true e))) (more (as-second refl) done)))) as-ignored x
 
 run-roles : {κ : ℕ} (x : ℕ) → Suits runSorts κ (statusRole true x)
 unfolding statusRole
-run-roles x = by-key (more (as-moment (λ e. refl)) (more (as-time (λ e. refl)) (more (as-first refl) (more (as-second refl) done)))) as-ignored x
+run-roles x = by-key (more (as-first refl) (more (as-moment (λ e. refl)) (more (as-time (λ e. refl)) (more (as-second refl) done)))) as-ignored x
 
 property-roles : {κ : ℕ} (x : ℕ) → Suits (pairSorts text value) κ (propertyRole x)
 unfolding propertyRole
@@ -102,7 +103,7 @@ class-roles report x =
     by-key (more (as-first refl) (more (as-uuid refl) (more (as-moment (λ e. refl)) (more (as-time (λ e. refl)) (count-roles refl refl refl refl refl))))) as-ignored x
 class-roles suite x = by-key (more (as-first refl) (more (as-moment (λ e. refl)) (more (as-time (λ e. refl)) (count-roles refl refl refl refl refl)))) (as-extra suite-wide) x
 class-roles case x =
-    by-key (more (as-first refl) (more (as-second refl) (more (as-moment (λ e. refl)) (more (as-time (λ e. refl)) (more (as-assertions refl) done))))) (as-extra case-wide) x
+    by-key (more (as-first refl) (more (as-moment (λ e. refl)) (more (as-time (λ e. refl)) (more (as-second refl) (more (as-assertions refl) done))))) (as-extra case-wide) x
 class-roles suiteProperty x = property-roles x
 class-roles caseProperty x = property-roles x
 class-roles failure x = main-roles x

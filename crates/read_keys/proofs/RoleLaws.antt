@@ -6,9 +6,13 @@ use mathlib.Core.Path.{_≡_, refl, sym, ap, _∙_}
 use native.Mathlib.Omega.{arith}
 use borrow.Author.Tests.{ne-eqb, eqb-true, eqb-false, leb-true, leb-false}
 use lib.Dec.{eqb, leb}
+use lib.ListN.{drop}
+use Rattle.names.specs.Keys as key
+use Rattle.tree_record.specs.Words as word
+use Rattle.tree_record.specs.Bits as bit
 use Rattle.read_keys.specs.Roles.{roleIn, reportKeys, reportRole, suiteKeys, suiteRole, caseKeys, caseRole, propertyKeys, propertyRole, statusKeys, statusRole, roleOf}
 use Rattle.read_keys.specs.declared.Role.{Role}
-use Rattle.read_keys.specs.declared.Role.the-variants.{Text, Extra, Ignored}
+use Rattle.read_keys.specs.declared.Role.the-variants.{Text, Timestamp, Time, Extra, Ignored}
 
 -- P of each role of a list
 abbrev pub Each : (Role → Type 0) → List (ℕ × Role) → Type 0
@@ -24,6 +28,16 @@ role-each P (x ∷ xs) other k e o = go (eqb k (x .0)) (role-each P xs other k (
     go : (t : Bool) → P (roleIn xs other k) → P (cond t (x .1) (roleIn xs other k))
     go true r = e .0
     go false r = r
+
+-- the counts of a report, and of a suite
+abbrev pub countKeys : List (ℕ × Role)
+countKeys = drop 4 reportKeys
+
+-- a status element's keys, whether it is a run or not
+pub status-keys : (run : Bool)
+    → statusKeys run ≡ (key.message, Text word.message bit.message) ∷ (key.timestamp, Timestamp run) ∷ (key.time, Time run) ∷ (key.type, Text word.type bit.type) ∷ []
+status-keys true = refl
+status-keys false = refl
 
 -- the public keys (rule L1) have the codes 1 to 11
 abbrev pub isPublic : ℕ → Bool
@@ -62,9 +76,10 @@ module _ (k : ℕ) (p : isPublic k ≡ false) where
   unfolding propertyRole
   private-property = private-in propertyKeys Ignored
 
-  private-status : (run : Bool) → statusRole run k ≡ roleIn (privateOf (statusKeys run)) Ignored k
+  private-status : (run : Bool) → statusRole run k ≡ roleIn (privateOf (statusKeys false)) Ignored k
   unfolding statusRole
-  private-status run = private-in (statusKeys run) Ignored
+  private-status true = private-in (statusKeys true) Ignored
+  private-status false = private-in (statusKeys false) Ignored
 
 -- where the value under a private key goes: a status element's message or type, a property's value, an extra, nowhere
 pub data Private (kind : ℕ) : Role → Type 0 where
@@ -88,4 +103,4 @@ private-role kind k h p = go (eqb kind 1) (eqb kind 2) (eqb kind 3) (leb kind 5)
         rw (private-property k p) (role-each (Private kind) (privateOf propertyKeys) Ignored k (value least (leb-true kind 5 ed), tt) ignored)
     go false false false false ea eb ec ed =
         let least : 6 ≤ kind = leb-false kind 5 ed in
-        rw (private-status k p (leb 9 kind)) (role-each (Private kind) (privateOf (statusKeys (leb 9 kind))) Ignored k (message least, (type least, tt)) ignored)
+        rw (private-status k p (leb 9 kind)) (role-each (Private kind) (privateOf (statusKeys false)) Ignored k (message least, (type least, tt)) ignored)

@@ -4,3 +4,4 @@ pub mod Records
 pub mod Texts
 pub mod Stores
 pub mod Elements
+pub mod Lookups

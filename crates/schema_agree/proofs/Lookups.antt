@@ -18,8 +18,7 @@ use Rattle.build_draft.specs.declared.TextField.the-variants.{Classname, Messag
 use Rattle.build_draft.specs.Parts.{hasText, wordFor, bitFor, hasTimes}
 use Rattle.names.specs.Keys.{keys}
 use Rattle.schema.specs.Schema.{Row, report, suite, case, main, skipped, run, property, extra, tableOf}
-use Rattle.schema_agree.specs.Lookups.{wordsIn, bitsBy, mayOr, hasRow, inOrder, wordsAgree}
-use Rattle.schema_agree.specs.Attributes.{textIn}
+use Rattle.schema.specs.Lookups.{textIn, wordsIn, bitsBy, mayOr, hasRow, inOrder, wordsAgree}
 
 -- ---- the constants of a record; 32 stands for no bit
 report-places : wordsIn report ≡ word.name ∷ word.uuid ∷ word.timestamp ∷ word.time ∷ word.tests ∷ word.failures ∷ word.errors ∷ word.skipped ∷ word.disabled ∷ []
@@ -89,59 +88,59 @@ coded cs = map (λ (c : ℕ). (keyName c, code.bitOf c)) cs
 abbrev rowed : List Row → List (List ℕ × ℕ)
 rowed xs = map (λ (x : Row). (textIn key.table (x .key), mayOr code.always (x .presence))) xs
 
-report-codes : coded reportCodes ≡ rowed (inOrder 9 1 report)
+report-codes : coded reportCodes ≡ rowed (inOrder report)
 unfolding keyName keys code.bitOf
 report-codes = refl
 
-report-code-words : wordsAgree offsetOf reportCodes (inOrder 9 1 report) ≡ true
+report-code-words : wordsAgree offsetOf reportCodes (inOrder report) ≡ true
 unfolding offsetOf
 report-code-words = refl
 
-suite-codes : coded suiteCodes ≡ rowed (inOrder 8 1 suite)
+suite-codes : coded suiteCodes ≡ rowed (inOrder suite)
 unfolding keyName keys code.bitOf
 suite-codes = refl
 
-suite-code-words : wordsAgree offsetOf suiteCodes (inOrder 8 1 suite) ≡ true
+suite-code-words : wordsAgree offsetOf suiteCodes (inOrder suite) ≡ true
 unfolding offsetOf
 suite-code-words = refl
 
-case-codes : coded caseCodes ≡ rowed (inOrder 5 1 case)
+case-codes : coded caseCodes ≡ rowed (inOrder case)
 unfolding keyName keys code.bitOf
 case-codes = refl
 
-case-code-words : wordsAgree offsetOf caseCodes (inOrder 5 1 case) ≡ true
+case-code-words : wordsAgree offsetOf caseCodes (inOrder case) ≡ true
 unfolding offsetOf
 case-code-words = refl
 
-main-codes : coded statusCodes ≡ rowed (inOrder 2 1 main)
+main-codes : coded statusCodes ≡ rowed (inOrder main)
 unfolding keyName keys code.bitOf
 main-codes = refl
 
-main-code-words : wordsAgree offsetOf statusCodes (inOrder 2 1 main) ≡ true
+main-code-words : wordsAgree offsetOf statusCodes (inOrder main) ≡ true
 unfolding offsetOf
 main-code-words = refl
 
-skipped-codes : coded statusCodes ≡ rowed (inOrder 2 1 skipped)
+skipped-codes : coded statusCodes ≡ rowed (inOrder skipped)
 unfolding keyName keys code.bitOf
 skipped-codes = refl
 
-skipped-code-words : wordsAgree offsetOf statusCodes (inOrder 2 1 skipped) ≡ true
+skipped-code-words : wordsAgree offsetOf statusCodes (inOrder skipped) ≡ true
 unfolding offsetOf
 skipped-code-words = refl
 
-run-codes : coded runCodes ≡ rowed (inOrder 4 1 run)
+run-codes : coded runCodes ≡ rowed (inOrder run)
 unfolding keyName keys code.bitOf
 run-codes = refl
 
-run-code-words : wordsAgree offsetOf runCodes (inOrder 4 1 run) ≡ true
+run-code-words : wordsAgree offsetOf runCodes (inOrder run) ≡ true
 unfolding offsetOf
 run-code-words = refl
 
-pair-codes : coded pairCodes ≡ rowed (inOrder 2 1 property)
+pair-codes : coded pairCodes ≡ rowed (inOrder property)
 unfolding keyName keys code.bitOf
 pair-codes = refl
 
-pair-code-words : wordsAgree offsetOf pairCodes (inOrder 2 1 property) ≡ true
+pair-code-words : wordsAgree offsetOf pairCodes (inOrder property) ≡ true
 unfolding offsetOf
 pair-code-words = refl
 

@@ -1,15 +1,16 @@
--- The events of a report, in the order of serialize.rs (rules W1 to W8). Definitions only.
-use Prim.Native.Nat.{ℕ, _+_}
+-- The events of a report, in the order of serialize.rs (rules W1 to W8); the attributes of an element by the rows of its table (crate
+-- schema). Definitions only.
+use Prim.Native.Nat.{ℕ, zero, suc, _+_}
 use mathlib.Core.List.{List, [], _∷_, _++_, map}
 use mathlib.Core.Bool.{Bool, true, false, cond}
 use mathlib.Core.Option.{Option, none, some}
 use lib.ListN.{length}
 use lib.Dec.{eqb}
 use Rattle.names.specs.Bytes.{bytes}
+use Rattle.names.specs.Keys as key
 use Rattle.digits.specs.Digits.{decimal}
 use Rattle.time_text.specs.Written.{writtenTime}
 use Rattle.timestamp.specs.declared.Moment.{Moment}
-use Rattle.uuid.specs.declared.Words.{Words}
 use Rattle.write_escape.specs.Escape.{escaped}
 use Rattle.write_moment.specs.Written.{timestampText}
 use Rattle.write_uuid.specs.Written.{uuidText}
@@ -17,6 +18,11 @@ use Rattle.table.specs.Event.{Attribute, Event, Start, Empty, End, Text, Other,
 use Rattle.tree_report.specs.Report.{Duration, Pair, NonSuccessKind, failure, error, FlakyOrRerun, flaky, rerun, TestRerun}
 use Rattle.tree_report.specs.Report.{Reason, TestCaseStatus, success, nonSuccess, skipped, TestCase, TestSuite, Report}
 use Rattle.tree_report.specs.Report as report
+use Rattle.schema.specs.Schema.{Form, text, number, time, timestamp, uuid, flag, Presence, always, must, may, unkept, Row}
+use Rattle.schema.specs.Schema as table
+use Rattle.schema.specs.Records.{Of, Held, Fields}
+use Rattle.schema.specs.Elements.{reportFields, suiteFields, caseFields, skippedFields, runFields, pairFields}
+use Rattle.schema.specs.Lookups.{textIn, placesIn}
 
 -- ---- attributes
 abbrev pub attribute : List ℕ → List ℕ → Attribute
@@ -43,6 +49,49 @@ timed d = optional (λ (x : Duration). attribute (bytes "time") (writtenTime (x 
 -- an extra's key isn't escaped (rule W8)
 abbrev pub extraAttribute : Pair → Attribute
 extraAttribute p = attribute (p .key) (escaped (p .value))
+
+-- ---- attributes by a table
+-- rule W8
+abbrev pub valueText : (t : Form) → Of report.Text t → List ℕ
+valueText text v = escaped v
+valueText number v = decimal v
+valueText time v = writtenTime (v .seconds) (v .nanos)
+valueText timestamp v = timestampText v
+valueText uuid v = uuidText v
+valueText flag v = []
+
+abbrev pub rowAttributes : (p : Presence) (t : Form) → ℕ → Held p (Of report.Text t) → List Attribute
+rowAttributes always t k v = attribute (textIn key.table k) (valueText t v) ∷ []
+rowAttributes (must b) t k v = attribute (textIn key.table k) (valueText t v) ∷ []
+rowAttributes (may b) t k v = optional (λ (x : Of report.Text t). attribute (textIn key.table k) (valueText t x) ∷ []) v
+rowAttributes unkept t k v = []
+
+-- what the row with place n gives
+abbrev pub placed : ℕ → (xs : List Row) → Fields report.Text xs → List Attribute
+placed n [] f = []
+placed n (x ∷ xs) f = cond (eqb (x .place) n) (rowAttributes (x .presence) (x .form) (x .key) (f .0)) (placed n xs (f .1))
+
+-- m places from n on
+abbrev pub placedFrom : ℕ → ℕ → (xs : List Row) → Fields report.Text xs → List (List Attribute)
+placedFrom zero n xs f = []
+placedFrom (suc m) n xs f = placed n xs f ∷ placedFrom m (n + 1) xs f
+
+-- what each row gives, in the order of their places
+abbrev pub inPlaces : (xs : List Row) → Fields report.Text xs → List (List Attribute)
+inPlaces xs f = placedFrom (placesIn xs) 1 xs f
+
+abbrev pub joined : List (List Attribute) → List Attribute
+joined [] = []
+joined (l ∷ []) = l
+joined (l ∷ m ∷ ls) = l ++ joined (m ∷ ls)
+
+-- rules W2 and W6
+abbrev pub attributesBy : (xs : List Row) → Fields report.Text xs → List Attribute
+attributesBy xs f = joined (inPlaces xs f)
+
+-- with extras behind them
+abbrev pub attributesThen : (xs : List Row) → Fields report.Text xs → List Pair → List Attribute
+attributesThen xs f extra = joined (inPlaces xs f ++ (map extraAttribute extra ∷ []))
 
 -- ---- events; the number of a tag's first attribute is given at the end
 abbrev pub startTag : List ℕ → List Attribute → Event
@@ -71,7 +120,7 @@ unfoldable pub serializeOutput : List ℕ → report.Text → List Event
 serializeOutput name t = startTag name [] ∷ textEvent t ∷ endTag name ∷ []
 
 unfoldable pub serializeProperty : Pair → List Event
-serializeProperty p = Tag Empty (bytes "property") 0 (textual (bytes "name") (p .key) ++ textual (bytes "value") (p .value)) ∷ []
+serializeProperty p = Tag Empty (bytes "property") 0 (attributesBy table.property (pairFields p)) ∷ []
 
 -- a list of properties only where there are any (rule W4)
 unfoldable pub serializeProperties : List Pair → List Event
@@ -82,8 +131,9 @@ unfoldable pub serializeOutputs : Option report.Text → Option report.Text → 
 serializeOutputs out err = optional (serializeOutput (bytes "system-out")) out ++ optional (serializeOutput (bytes "system-err")) err
 
 -- ---- status elements
+-- a failure or error has those of a skipped
 abbrev pub statusAttributes : Option report.Text → Option report.Text → List Attribute
-statusAttributes message type = optional (textual (bytes "message")) message ++ optional (textual (bytes "type")) type
+statusAttributes message type = attributesBy table.skipped (skippedFields (record { message = message; type = type; description = none }))
 
 -- rule W5
 abbrev pub described : List ℕ → List Attribute → Option report.Text → List Event
@@ -116,7 +166,7 @@ runChildren r = optional (serializeOutput (bytes "stackTrace")) (r .stackTrace) 
 -- rule W6
 unfoldable pub serializeRerun : FlakyOrRerun → TestRerun → List Event
 serializeRerun family r =
-    startTag (runName family (r .kind)) (stamped (r .timestamp) ++ (timed (r .time) ++ statusAttributes (r .message) (r .type)))
+    startTag (runName family (r .kind)) (attributesBy table.run (runFields r))
     ∷ (indented (r .description) (runChildren r) ++ (endTag (runName family (r .kind)) ∷ []))
 
 -- the main, and then its runs (rules W6 and W14)
@@ -133,12 +183,7 @@ element name attributes (c ∷ cs) = startTag name attributes ∷ ((c ∷ cs) ++
 
 -- rule W2
 abbrev pub caseAttributes : TestCase → List Attribute
-caseAttributes c =
-    textual (bytes "name") (c .name)
-    ++ (optional (textual (bytes "classname")) (c .classname)
-    ++ (optional (numeric (bytes "assertions")) (c .assertions)
-    ++ (stamped (c .timestamp)
-    ++ (timed (c .time) ++ map extraAttribute (c .extra)))))
+caseAttributes c = attributesThen table.case (caseFields c) (c .extra)
 
 -- rule W3
 unfoldable pub serializeTestCase : TestCase → List Event
@@ -146,17 +191,9 @@ serializeTestCase c =
     element (bytes "testcase") (caseAttributes c)
     (serializeProperties (c .properties) ++ (serializeElements (c .status) ++ serializeOutputs (c .systemOut) (c .systemErr)))
 
--- errors before failures, other than on the report (rule W2)
+-- rule W2
 abbrev pub suiteAttributes : TestSuite → List Attribute
-suiteAttributes s =
-    textual (bytes "name") (s .name)
-    ++ (numeric (bytes "tests") (s .counts .tests)
-    ++ (numeric (bytes "skipped") (s .counts .skipped)
-    ++ (numeric (bytes "errors") (s .counts .errors)
-    ++ (numeric (bytes "failures") (s .counts .failures)
-    ++ (optional (numeric (bytes "disabled")) (s .counts .disabled)
-    ++ (stamped (s .timestamp)
-    ++ (timed (s .time) ++ map extraAttribute (s .extra))))))))
+suiteAttributes s = attributesThen table.suite (suiteFields s) (s .extra)
 
 -- rule W3
 unfoldable pub serializeTestSuite : TestSuite → List Event
@@ -166,15 +203,7 @@ serializeTestSuite s =
 
 -- rule W2
 abbrev pub reportAttributes : Report → List Attribute
-reportAttributes r =
-    optional (textual (bytes "name")) (r .name)
-    ++ (numeric (bytes "tests") (r .counts .tests)
-    ++ (numeric (bytes "skipped") (r .counts .skipped)
-    ++ (numeric (bytes "failures") (r .counts .failures)
-    ++ (numeric (bytes "errors") (r .counts .errors)
-    ++ (optional (numeric (bytes "disabled")) (r .counts .disabled)
-    ++ (optional (λ (u : Words). attribute (bytes "uuid") (uuidText u) ∷ []) (r .uuid)
-    ++ (stamped (r .timestamp) ++ timed (r .time))))))))
+reportAttributes r = attributesBy table.report (reportFields r)
 
 -- rule W1
 unfoldable pub declaration : Event
