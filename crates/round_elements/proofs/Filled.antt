@@ -12,6 +12,8 @@ use Rattle.names.specs.Keys.{keys}
 use Rattle.tree_record.specs.Kinds as kind
 use Rattle.tree_report.specs.Report.{Pair, TestRerun, Reason, TestCase, TestSuite, Report}
 use Rattle.tree_report.specs.Encode.{fitsCell, fitsMoment, fitsTime, ofText, written, stored, reportRow, suiteRow, caseRow}
+use Rattle.schema.specs.Schema as table
+use Rattle.schema.specs.Lookups.{namesIn}
 use Rattle.read_keys.specs.Roles.{roleIn, reportRole, suiteRole, caseRole, roleOf}
 use Rattle.read_element.specs.Outcome.{Place}
 use Rattle.read_element.specs.Attributes.{Given}
@@ -25,19 +27,18 @@ use Rattle.round_elements.proofs.Shown.{reportFilled, suiteFilled, case
 use Rattle.round_elements.proofs.Fits.{Fitting}
 use Rattle.round_elements.proofs.Opening.{PropertyRoles, StatusRoles, RunRoles}
 
--- the keys of a report, in the order of their writing
+-- keys in the order of their writing
 abbrev pub reportKeys : List (List ℕ)
-reportKeys =
-    bytes "name" ∷ bytes "tests" ∷ bytes "skipped" ∷ bytes "failures" ∷ bytes "errors" ∷ bytes "disabled" ∷ bytes "uuid" ∷ bytes "timestamp" ∷ bytes "time" ∷ []
+reportKeys = namesIn table.report
 
 abbrev pub statusKeys : List (List ℕ)
-statusKeys = bytes "message" ∷ bytes "type" ∷ []
+statusKeys = namesIn table.skipped
 
 abbrev pub runKeys : List (List ℕ)
-runKeys = bytes "timestamp" ∷ bytes "time" ∷ statusKeys
+runKeys = namesIn table.run
 
 abbrev pub pairKeys : List (List ℕ)
-pairKeys = bytes "name" ∷ bytes "value" ∷ []
+pairKeys = namesIn table.property
 
 module _ {p : Place} {used : ℕ} (texts : List ℕ) where
   pub report-filled : (r : Report) → Fitting (reportRow r) → WholeTime (r .time) → WholeMoment (r .timestamp)

@@ -5,12 +5,13 @@ use mathlib.Core.Bool.{Bool, true, false, not, _&&_, _||_}
 use mathlib.Core.Option.{Option, none, some}
 use lib.Dec.{eqb}
 use Rattle.area.specs.Limits.{mostEntries, mostBytes}
-use Rattle.names.specs.Bytes.{bytes}
 use Rattle.names.specs.Names.{sameBytes}
 use Rattle.trim.specs.Trim.{trimmed}
 use Rattle.timestamp.specs.declared.Moment.{Moment}
 use Rattle.tree_report.specs.Report.{Text, Duration, Pair, flaky, rerun, TestRerun, Reason, TestCaseStatus, success, nonSuccess, skipped, TestCase, TestSuite, Report}
 use Rattle.tree_report.specs.Encode.{every, fitsRow, rowsOf}
+use Rattle.schema.specs.Schema as table
+use Rattle.schema.specs.Lookups.{namesIn}
 use Rattle.write_report.specs.Written.{each, isEmpty, written}
 use Rattle.write_table.specs.Laid.{laidOut, fits}
 
@@ -87,12 +88,12 @@ abbrev pub holds : ℕ → Text → Bool
 holds b [] = false
 holds b (a ∷ t) = eqb a b || holds b t
 
+-- an element's own keys: those of its table
 abbrev pub suiteKeys : List Text
-suiteKeys =
-    bytes "name" ∷ bytes "tests" ∷ bytes "skipped" ∷ bytes "errors" ∷ bytes "failures" ∷ bytes "disabled" ∷ bytes "timestamp" ∷ bytes "time" ∷ []
+suiteKeys = namesIn table.suite
 
 abbrev pub caseKeys : List Text
-caseKeys = bytes "name" ∷ bytes "classname" ∷ bytes "assertions" ∷ bytes "timestamp" ∷ bytes "time" ∷ []
+caseKeys = namesIn table.case
 
 -- of the extra keys of an element: distinct, without `&`, none of its own
 abbrev pub goodKeys : List Text → List Text → Bool
