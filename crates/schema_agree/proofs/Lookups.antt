@@ -1,24 +1,24 @@
 -- Words, bits and keys that are named elsewhere are the tables', by computation: the constants of a record, the codes of writing, the
 -- fields of a builder. Assumes nothing.
-use Prim.Native.Nat.{ℕ}
-use mathlib.Core.Bool.{Bool, true, _&&_}
+use Prim.Native.Nat.{ℕ, _^_}
+use mathlib.Core.Bool.{Bool, true, false, _&&_}
 use mathlib.Core.List.{List, [], _∷_, map}
+use mathlib.Core.Option.{Option}
 use mathlib.Core.Path.{_≡_, refl}
 use Rattle.names.specs.Keys as key
 use Rattle.tree_record.specs.Words as word
 use Rattle.tree_record.specs.Bits as bit
 use Rattle.tree_record.specs.Kinds as kind
 use Rattle.write_items.specs.inside.Slots as code
-use Rattle.write_items.specs.inside.Values.{keyName, offsetOf}
-use Rattle.write_items.specs.inside.Document.{reportCodes}
-use Rattle.write_items.specs.inside.Suite.{suiteCodes}
-use Rattle.write_items.specs.inside.Case.{caseCodes}
+use Rattle.write_items.specs.inside.Values.{reportName, codesOf, keyName, offsetOf}
 use Rattle.build_draft.specs.declared.TextField.{TextField}
 use Rattle.build_draft.specs.declared.TextField.the-variants.{Classname, Message, Ty, Description, StackTrace, SystemOut, SystemErr}
-use Rattle.build_draft.specs.Parts.{hasText, wordFor, bitFor, hasTimes}
+use Rattle.build_draft.specs.Parts.{countsIn, hasText, wordFor, bitFor, hasTimes}
 use Rattle.names.specs.Keys.{keys}
 use Rattle.schema.specs.Schema.{Row, report, suite, case, main, skipped, run, property, extra, tableOf}
-use Rattle.schema.specs.Lookups.{textIn, wordsIn, bitsBy, mayOr, hasRow, inOrder, wordsAgree}
+use Rattle.schema.specs.Lookups.{textIn, wordsIn, isAmong, bitOr, bitsBy, mayOr, hasRow, inOrder, wordsAgree}
+use Rattle.schema.specs.Records.{given, fieldsAt}
+use Rattle.schema.specs.Stores.{rowAt}
 
 -- ---- the constants of a record; 32 stands for no bit
 report-places : wordsIn report ≡ word.name ∷ word.uuid ∷ word.timestamp ∷ word.time ∷ word.tests ∷ word.failures ∷ word.errors ∷ word.skipped ∷ word.disabled ∷ []
@@ -72,77 +72,45 @@ extra-places = refl
 extra-bits : bitsBy 32 extra ≡ bit.key ∷ bit.value ∷ []
 extra-bits = refl
 
--- ---- the codes of writing: key and bit of each, and the word of a text or number, in the order of the tables' places
-abbrev statusCodes : List ℕ
-statusCodes = key.message ∷ key.type ∷ []
+-- ---- the codes of writing
+abbrev tables : List (List Row)
+tables = report ∷ suite ∷ case ∷ main ∷ skipped ∷ run ∷ property ∷ []
 
-abbrev runCodes : List ℕ
-runCodes = key.timestamp ∷ key.time ∷ key.message ∷ key.type ∷ []
+-- the byte strings of `write_document`, `write_suite`, `write_case`, `write_status` (twice), `write_run` and `write_status`
+pub code-strings
+    : map codesOf tables
+    ≡ (15 ∷ 6 ∷ 9 ∷ 7 ∷ 8 ∷ 10 ∷ 3 ∷ 4 ∷ 5 ∷ [])
+    ∷ (1 ∷ 6 ∷ 9 ∷ 8 ∷ 7 ∷ 10 ∷ 4 ∷ 5 ∷ [])
+    ∷ (1 ∷ 2 ∷ 11 ∷ 4 ∷ 5 ∷ [])
+    ∷ (12 ∷ 13 ∷ [])
+    ∷ (12 ∷ 13 ∷ [])
+    ∷ (4 ∷ 5 ∷ 12 ∷ 13 ∷ [])
+    ∷ (1 ∷ 14 ∷ [])
+    ∷ []
+code-strings = refl
 
-abbrev pairCodes : List ℕ
-pairCodes = key.name ∷ key.value ∷ []
-
+-- the name and the presence bit of each code
 abbrev coded : List ℕ → List (List ℕ × ℕ)
 coded cs = map (λ (c : ℕ). (keyName c, code.bitOf c)) cs
 
 abbrev rowed : List Row → List (List ℕ × ℕ)
 rowed xs = map (λ (x : Row). (textIn key.table (x .key), mayOr code.always (x .presence))) xs
 
-report-codes : coded reportCodes ≡ rowed (inOrder report)
+pub codes-agree : map (λ (xs : List Row). coded (codesOf xs)) tables ≡ map (λ (xs : List Row). rowed (inOrder xs)) tables
 unfolding keyName keys code.bitOf
-report-codes = refl
+codes-agree = refl
 
-report-code-words : wordsAgree offsetOf reportCodes (inOrder report) ≡ true
+-- the word of a text or number
+pub code-words-agree : map (λ (xs : List Row). wordsAgree offsetOf (codesOf xs) (inOrder xs)) tables ≡ map (λ (xs : List Row). true) tables
 unfolding offsetOf
-report-code-words = refl
+code-words-agree = refl
 
-suite-codes : coded suiteCodes ≡ rowed (inOrder suite)
-unfolding keyName keys code.bitOf
-suite-codes = refl
+-- what stands for no bit is none, and a report's name has no other key's code
+pub always-free : map (λ (xs : List Row). isAmong code.always (bitsBy 32 xs)) tables ≡ map (λ (xs : List Row). false) tables
+always-free = refl
 
-suite-code-words : wordsAgree offsetOf suiteCodes (inOrder suite) ≡ true
-unfolding offsetOf
-suite-code-words = refl
-
-case-codes : coded caseCodes ≡ rowed (inOrder case)
-unfolding keyName keys code.bitOf
-case-codes = refl
-
-case-code-words : wordsAgree offsetOf caseCodes (inOrder case) ≡ true
-unfolding offsetOf
-case-code-words = refl
-
-main-codes : coded statusCodes ≡ rowed (inOrder main)
-unfolding keyName keys code.bitOf
-main-codes = refl
-
-main-code-words : wordsAgree offsetOf statusCodes (inOrder main) ≡ true
-unfolding offsetOf
-main-code-words = refl
-
-skipped-codes : coded statusCodes ≡ rowed (inOrder skipped)
-unfolding keyName keys code.bitOf
-skipped-codes = refl
-
-skipped-code-words : wordsAgree offsetOf statusCodes (inOrder skipped) ≡ true
-unfolding offsetOf
-skipped-code-words = refl
-
-run-codes : coded runCodes ≡ rowed (inOrder run)
-unfolding keyName keys code.bitOf
-run-codes = refl
-
-run-code-words : wordsAgree offsetOf runCodes (inOrder run) ≡ true
-unfolding offsetOf
-run-code-words = refl
-
-pair-codes : coded pairCodes ≡ rowed (inOrder property)
-unfolding keyName keys code.bitOf
-pair-codes = refl
-
-pair-code-words : wordsAgree offsetOf pairCodes (inOrder property) ≡ true
-unfolding offsetOf
-pair-code-words = refl
+pub report-name-free : textIn key.table reportName ≡ []
+report-name-free = refl
 
 -- ---- the fields of a builder (rule B4): the kinds of records that have a text, at its word with its bit
 abbrev kinds : List ℕ
@@ -171,3 +139,18 @@ times-kinds
     : map hasTimes kinds
     ≡ map (λ (n : ℕ). hasRow (tableOf n) key.timestamp word.timestamp bit.timestamp && hasRow (tableOf n) key.time word.time bit.time) kinds
 times-kinds = refl
+
+-- a case's assertions and a suite's `disabled`
+number-kinds : hasRow (tableOf kind.case) key.assertions word.assertions bit.assertions && hasRow (tableOf kind.suite) key.disabled word.disabled bit.disabled ≡ true
+number-kinds = refl
+
+-- the counts that a builder raises (rule B8)
+abbrev countRows : (r : List ℕ) → ℕ × ℕ × ℕ × ℕ × Option ℕ
+countRows r = let c = fieldsAt suite r .1 .1 .1 .1 .1 in (c .0, c .1 .0, c .1 .1 .0, c .1 .1 .1 .0, c .1 .1 .1 .1 .0)
+
+counts-agree : (r : List ℕ) → let c = countsIn r in (c .tests, c .failures, c .errors, c .skipped, given (c .presence) (c .disabled)) ≡ countRows r
+counts-agree r = refl
+
+-- the mask with which `build_runs` takes the flaky bit away
+flaky-mask : 2 ^ bitOr 32 (rowAt main 5 .presence) ≡ 512
+flaky-mask = refl

@@ -6,14 +6,14 @@ use lib.ListN.{length}
 use lib.Dec.{leb, eqb}
 use Rattle.table.specs.Kinds as event
 use Rattle.names.specs.Tags as tag
-use Rattle.names.specs.Keys as key
 use Rattle.tree_record.specs.Bits as bit
 use Rattle.tree_record.specs.Kinds as kind
+use Rattle.schema.specs.Schema as table
 use Rattle.tree_report.specs.Fields.{kindOf, hasBit, systemOut, systemErr}
 use Rattle.tree_report.specs.ReportOf.{reasonOf}
 use Rattle.write_report.specs.Written.{serializeOutputs, serializeStatus}
 use Rattle.write_table.specs.Laid.{Item, entry, pairsOf, itemsOf}
-use Rattle.write_items.specs.inside.Values.{tagName}
+use Rattle.write_items.specs.inside.Values.{tagName, codesOf}
 use Rattle.write_items.specs.inside.Slots.{slots}
 use Rattle.write_items.specs.inside.Walk.{ownOf, between, firstOf}
 use Rattle.write_items.specs.inside.Rows.{rowsItems}
@@ -23,7 +23,7 @@ abbrev pub firstKind : ℕ → ℕ → ℕ → List (List ℕ) → ℕ
 firstKind level low high rs = kindOf (firstOf (between low high (ownOf level rs)))
 
 abbrev pub caseCodes : List ℕ
-caseCodes = key.name ∷ key.classname ∷ key.assertions ∷ key.timestamp ∷ key.time ∷ []
+caseCodes = codesOf table.case
 
 abbrev pub firstRun : List (List ℕ) → ℕ
 firstRun rs = firstKind 2 kind.flakyFailure kind.rerunError rs

@@ -4,18 +4,17 @@ use mathlib.Core.List.{List, [], _∷_, _++_}
 use mathlib.Core.Bool.{cond}
 use lib.ListN.{length}
 use Rattle.names.specs.Tags as tag
-use Rattle.names.specs.Keys as key
 use Rattle.table.specs.Kinds as event
+use Rattle.schema.specs.Schema as table
 use Rattle.tree_report.specs.Fields.{live}
 use Rattle.write_report.specs.Written.{declaration}
 use Rattle.write_table.specs.Laid.{Item, entry, pairsOf, itemsOf}
-use Rattle.write_items.specs.inside.Values.{reportName, tagName}
+use Rattle.write_items.specs.inside.Values.{tagName, codesOf}
 use Rattle.write_items.specs.inside.Slots.{slots}
 use Rattle.write_items.specs.inside.Suite.{suitesItems}
 
 abbrev pub reportCodes : List ℕ
-reportCodes =
-    reportName ∷ key.tests ∷ key.skipped ∷ key.failures ∷ key.errors ∷ key.disabled ∷ key.uuid ∷ key.timestamp ∷ key.time ∷ []
+reportCodes = codesOf table.report
 
 -- the report's End, Eof and Indent
 abbrev pub tailItems : List Item

@@ -6,19 +6,19 @@ use lib.ListN.{length}
 use lib.Dec.{eqb}
 use Rattle.table.specs.Kinds as event
 use Rattle.names.specs.Tags as tag
-use Rattle.names.specs.Keys as key
 use Rattle.tree_record.specs.Bits as bit
 use Rattle.tree_record.specs.Kinds as kind
+use Rattle.schema.specs.Schema as table
 use Rattle.tree_report.specs.Fields.{kindOf, hasBit}
 use Rattle.write_table.specs.Laid.{Item, entry, pairsOf}
-use Rattle.write_items.specs.inside.Values.{tagName}
+use Rattle.write_items.specs.inside.Values.{tagName, codesOf}
 use Rattle.write_items.specs.inside.Slots.{slots}
 use Rattle.write_items.specs.inside.Walk.{ownOf, between}
 use Rattle.write_items.specs.inside.Rows.{rowsItems}
 use Rattle.write_items.specs.inside.Case.{firstKind, propertiesItems, closingItems, caseItems}
 
 abbrev pub suiteCodes : List ℕ
-suiteCodes = key.name ∷ key.tests ∷ key.skipped ∷ key.errors ∷ key.failures ∷ key.disabled ∷ key.timestamp ∷ key.time ∷ []
+suiteCodes = codesOf table.suite
 
 unfoldable pub isChildless : List ℕ → List (List ℕ) → Bool
 isChildless r rs = cond (hasBit bit.out r || hasBit bit.err r) false

@@ -1,6 +1,6 @@
 -- Names by their codes, and the values of a record under the keys. Definitions only.
 use Prim.Native.Nat.{ℕ, zero, suc, _+_, _-_}
-use mathlib.Core.List.{List, [], _∷_, _++_}
+use mathlib.Core.List.{List, [], _∷_, _++_, map}
 use mathlib.Core.Bool.{cond, _&&_, _||_}
 use lib.ListN.{getD, take, drop}
 use lib.Dec.{leb, eqb}
@@ -15,6 +15,8 @@ use Rattle.write_moment.specs.Written.{timestampText}
 use Rattle.write_uuid.specs.Written.{uuidText}
 use Rattle.uuid.specs.declared.Words.{Words}
 use Rattle.tree_record.specs.Words as word
+use Rattle.schema.specs.Schema.{Presence, always, must, may, unkept, Row}
+use Rattle.schema.specs.Lookups.{inOrder}
 use Rattle.tree_report.specs.Fields.{textAt, numberAt, momentOf}
 
 -- the name with a code, counted from 1
@@ -30,6 +32,20 @@ tagName code = named tags code
 -- the code of a report's name, which may be missing
 abbrev pub reportName : ℕ
 reportName = 15
+
+-- the code of a row's key
+abbrev pub nameCode : Presence → ℕ
+nameCode always = key.name
+nameCode (must k) = key.name
+nameCode (may k) = reportName
+nameCode unkept = key.name
+
+abbrev pub codeOf : Row → ℕ
+codeOf x = cond (eqb (x .key) key.name) (nameCode (x .presence)) (x .key)
+
+-- the codes of an element's attributes, in their order (rules W2 and W6)
+abbrev pub codesOf : List Row → List ℕ
+codesOf xs = map codeOf (inOrder xs)
 
 -- the keys by their codes, and that name
 unfoldable pub keyName : ℕ → List ℕ
