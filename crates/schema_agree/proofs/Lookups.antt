@@ -1,7 +1,7 @@
 -- Words, bits and keys that are named elsewhere are the tables', by computation: the constants of a record, the codes of writing, the
 -- fields of a builder. Assumes nothing.
 use Prim.Native.Nat.{ℕ, _^_}
-use mathlib.Core.Bool.{Bool, true, false, _&&_}
+use mathlib.Core.Bool.{true, false, _&&_}
 use mathlib.Core.List.{List, [], _∷_, map}
 use mathlib.Core.Option.{Option}
 use mathlib.Core.Path.{_≡_, refl}

@@ -1,7 +1,7 @@
 -- What is written of an element, by its table: the names of its attributes in their order (rules W2 and W6), and what a failure or error
 -- has. Assumes nothing.
 use mathlib.Core.Bool.{Bool}
-use mathlib.Core.List.{List, [], _∷_, map}
+use mathlib.Core.List.{[], _∷_, map}
 use mathlib.Core.Path.{_≡_, refl}
 use Rattle.names.specs.Bytes.{bytes}
 use Rattle.tree_report.specs.Report.{Reason}
