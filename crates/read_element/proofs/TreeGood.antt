@@ -5,7 +5,7 @@ use mathlib.Core.List.{List, [], _∷_}
 use mathlib.Core.Option.{Option, none}
 use mathlib.Core.Path.{_≡_, refl, ap, ap₂, _∙_}
 use native.Mathlib.Omega.{arith}
-use borrow.Author.Tests.{ne-eqb, le-leb, lt-ltb}
+use borrow.Author.Tests.{le-leb}
 use lib.Dec.{leb, lit≤}
 use lib.ListN.{take, drop}
 use Rattle.timestamp.specs.declared.Moment.{Moment}
@@ -13,9 +13,11 @@ use Rattle.tree_report.specs.Encode.{Cell, absent, isGiven, firstWord, secondWo
 use Rattle.tree_report.specs.Report.{Duration}
 use Rattle.tree_report.specs.Fields.{hasBit}
 use Rattle.tree_report.proofs.ByTable as table
-use Rattle.tree_report.specs.Layout.{slot, zeroAt, textSlot, goodTextAt, goodCommon, goodOutputs, goodCounts, bitsFor, goodOther, goodRecord}
+use Rattle.tree_report.specs.Layout.{zeroAt, goodRecord}
+use Rattle.tree_report.specs.inside.Parts.{slot, textSlot, goodTextAt, goodCommon, goodOutputs, goodCounts, bitsFor, goodReport, goodSuite, goodCase, goodOther}
 use Rattle.tree_report.proofs.EncodeLists.{both}
 use Rattle.tree_report.proofs.EncodeCells.{bit-flag, only-bits, weights, Pairing, moment-back, time-back}
+use Rattle.tree_report.proofs.EncodeRecords.{other-record}
 use Rattle.read_element.proofs.TreeSheet.{Sort, text, name, number, count, nothing, Fits, textless, placed, named, numberless, numbered, counted, empty, Middle, outputs}
 use Rattle.read_element.proofs.TreeSheet.{uuid, pair, hidden, InMiddle, two, idless, id, full-value, without, untimed, timed, Sorts, flags, rest, Sheet, sheet}
 
@@ -117,19 +119,18 @@ other-good : {texts : List ℕ} (κ : ℕ) (a b c : Cell) (m : Option Moment) (d
     → ((leb 6 κ && leb κ 12) || (isGiven a && isGiven b)) ≡ true
     → Fits texts text a → Fits texts text b → Fits texts text c → fitsMoment m ≡ true → fitsTime d ≡ true → Fits texts text e → Fits texts text f → Fits texts text g
     → goodRecord texts (κ ∷ flagsOf (flags a b c m d e f g absent) ∷ rest a b c m d e f g absent absent) ≡ true
-unfolding goodRecord goodOther
+unfolding goodOther
 other-good {texts} κ a b c m d e f g l u w q pa pb pc pm pd pe pf pg =
     let bs : List Bool = flags a b c m d e f g absent in
     let r : List ℕ = κ ∷ flagsOf bs ∷ rest a b c m d e f g absent absent in
-    rw (lt-ltb κ 16 (omega arith), ne-eqb κ 1 (λ z. omega arith), ne-eqb κ 2 (λ z. omega arith), ne-eqb κ 3 (λ z. omega arith))
-    (both (le-leb κ 14 u)
+    other-record texts r l u
     (both (only-bits r bs (bitsFor κ) refl w)
     (both (ap₂ (λ (x y : Bool). (leb 6 κ && leb κ 12) || (x && y)) (bit-flag 0 bs) (bit-flag 1 bs) ∙ q)
     (both (common-good κ a b c m d e f g absent absent pa pm pd)
     (both (outputs-good κ a b c m d e f g absent absent pb pc)
     (both (text-slot r 5 18 pe (bit-flag 5 bs) (refl, refl, refl))
     (both (text-slot r 6 20 pf (bit-flag 6 bs) (refl, refl, refl))
-    (both (text-slot r 7 22 pg (bit-flag 7 bs) (refl, refl, refl)) refl))))))))
+    (both (text-slot r 7 22 pg (bit-flag 7 bs) (refl, refl, refl)) refl)))))))
 
 -- ---- the kinds
 pair-good : {texts : List ℕ} {r : List ℕ} (κ : ℕ) → 4 ≤ κ → κ ≤ 14 → bitsFor κ ≡ 0 ∷ 1 ∷ [] → Sheet (pairSorts name pair) texts κ r → goodRecord texts r ≡ true
@@ -150,7 +151,7 @@ run-good κ l u q (sheet a b c m d e f g h i pa (two pb pc) (timed pm pd) pe pf 
     other-good κ a b c m d e f g (omega arith) (omega arith) (rw q (omega arith)) (rw (le-leb 6 κ (omega arith), le-leb κ 12 u) refl) pa pb pc pm pd pe pf pg
 
 report-good : {texts : List ℕ} {r : List ℕ} → Sheet reportSorts texts 1 r → goodRecord texts r ≡ true
-unfolding goodRecord
+unfolding goodRecord goodReport
 report-good {texts} (sheet a b c m d e f g h i pa pb (timed pm pd) counted counted counted counted pi) =
     let bs : List Bool = flags a b c m d e f g i in
     let r : List ℕ = 1 ∷ flagsOf bs ∷ rest a b c m d e f g h i in
@@ -164,7 +165,7 @@ report-good {texts} (sheet a b c m d e f g h i pa pb (timed pm pd) counted count
     back-hidden id = refl
 
 suite-good : {texts : List ℕ} {r : List ℕ} → Sheet (suiteSorts name) texts 2 r → goodRecord texts r ≡ true
-unfolding goodRecord
+unfolding goodRecord goodSuite
 suite-good {texts} (sheet a b c m d e f g h i (named p) (two pb pc) (timed pm pd) counted counted counted counted pi) =
     let bs : List Bool = flags a b c m d e f g i in
     let r : List ℕ = 2 ∷ flagsOf bs ∷ rest a b c m d e f g h i in
@@ -174,7 +175,7 @@ suite-good {texts} (sheet a b c m d e f g h i (named p) (two pb pc) (timed pm pd
     (both (common-good 2 a b c m d e f g h i (placed p) pm pd) (both (outputs-good 2 a b c m d e f g h i pb pc) (counts-good 2 a b c m d e f g h i pi))))
 
 case-good : {texts : List ℕ} {r : List ℕ} → Sheet (caseSorts name) texts 3 r → goodRecord texts r ≡ true
-unfolding goodRecord
+unfolding goodRecord goodCase
 case-good {texts} (sheet a b c m d e f g h i (named p) (two pb pc) (timed pm pd) pe pf empty empty empty) =
     let bs : List Bool = flags a b c m d e f g i in
     let r : List ℕ = 3 ∷ flagsOf bs ∷ rest a b c m d e f g h i in

@@ -13,8 +13,7 @@ use Rattle.tree_status.specs.Status.{tallied, ruled}
 use Rattle.tree_report.specs.Report.{Text, Counts, success, TestSuite, Report}
 use Rattle.tree_report.specs.Encode.{fitsRow, fits}
 use Rattle.tree_report.specs.Fields.{live, hasBit, textAt}
-use Rattle.tree_report.specs.Layout.{goodText, goodTextAt, goodCommon, goodOutputs, goodCounts, goodReport, goodSuite, good}
-use Rattle.tree_report.specs.Layout.{goodRecord, goodOrder, mayEnd, mayFollow, following, recordsFrom, recordsOf, layout}
+use Rattle.tree_report.specs.Layout.{goodText, good, goodRecord, goodOrder, mayEnd, mayFollow, following, recordsFrom, recordsOf, layout}
 use Rattle.tree_report.specs.ReportOf.{only, reportFrom, reportOf}
 use Rattle.round_sound.proofs.Sound.{report-rows}
 use Rattle.read_report.specs.Answer.{Holds}
@@ -85,8 +84,7 @@ abbrev sharing : List ℕ
 sharing = (1 ∷ 1 ∷ 0 ∷ 1 ∷ zeros 28) ++ (2 ∷ 1 ∷ 0 ∷ 1 ∷ zeros 28)
 
 shared : Holds (called (suiteCalled (bytes "r") ∷ [])) sharing (bytes "r")
-unfolding layout goodText recordsOf recordsFrom goodRecord goodReport goodSuite good goodCommon goodOutputs goodCounts goodTextAt
-    goodOrder mayFollow following mayEnd tallied ruled reportOf need low high
+unfolding layout goodText recordsOf recordsFrom goodRecord good goodOrder mayFollow following mayEnd tallied ruled reportOf need low high
 shared = record { whole = refl; report = refl }
 
 shared-apart : fits (called (suiteCalled (bytes "r") ∷ [])) 64 1 ≡ false

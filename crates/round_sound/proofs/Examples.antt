@@ -7,7 +7,7 @@ use mathlib.Core.Path.{_≡_, refl}
 use Rattle.area.specs.Area.{zeros}
 use Rattle.tree_status.specs.Status.{ruled}
 use Rattle.tree_report.specs.Report.{Report}
-use Rattle.tree_report.specs.Layout.{goodText, goodCommon, goodCounts, goodReport, good, goodRecord, goodOrder, mayEnd, mayFollow, following, recordsFrom, recordsOf, layout}
+use Rattle.tree_report.specs.Layout.{goodText, good, goodRecord, goodOrder, mayEnd, mayFollow, following, recordsFrom, recordsOf, layout}
 use Rattle.tree_report.specs.ReportOf.{reportOf}
 use Rattle.tree_report.specs.Encode.{fitsRow}
 use Rattle.round_elements.specs.Plain.{sound}
@@ -25,7 +25,7 @@ wide-words : areWords wide ≡ false
 wide-words = refl
 
 wide-layout : layout wide [] ≡ true
-unfolding layout goodText recordsOf recordsFrom goodRecord goodReport good goodCommon goodCounts goodOrder mayFollow following mayEnd ruled
+unfolding layout goodText recordsOf recordsFrom goodRecord good goodOrder mayFollow following mayEnd ruled
 wide-layout = refl
 
 wide-unsound : soundIn (reportOf wide []) ≡ false

@@ -12,8 +12,9 @@ use Rattle.tree_record.specs.Words as word
 use Rattle.tree_record.specs.Bits as bit
 use Rattle.tree_report.specs.Report.{FlakyOrRerun, TestSuite, Report}
 use Rattle.tree_report.specs.Fields.{kindOf, hasBit, given, textAt, numberAt, momentOf, first, uuid, timestamp, time, counts}
-use Rattle.tree_report.specs.Layout.{filled, goodText, goodTextAt, zeroAt, slot, textSlot, momentSlot, timeSlot, onlyBits, reportBits, suiteBits}
-use Rattle.tree_report.specs.Layout.{caseBits, bitsFor, goodCommon, goodOutputs, goodCounts, goodReport, goodSuite, goodCase, goodOther}
+use Rattle.tree_report.specs.Layout.{filled, goodText, zeroAt}
+use Rattle.tree_report.specs.inside.Parts.{goodTextAt, slot, textSlot, momentSlot, timeSlot, onlyBits, reportBits, suiteBits}
+use Rattle.tree_report.specs.inside.Parts.{caseBits, bitsFor, goodCommon, goodOutputs, goodCounts, goodReport, goodSuite, goodCase, goodOther}
 use Rattle.tree_report.specs.ReportOf.{Branch, pairOf, reasonOf, runOf, caseOf, suiteOf}
 use Rattle.tree_report.specs.Encode.{Row, written, ofText, ofNumber, ofCount, uuidFront, uuidBack, fitsCell, fitsMoment, fitsTime, fitsRow, pairRow, mainRow, runRow, caseRow, suiteRow, reportRow}
 use Rattle.tree_report.proofs.ByTable.{report-good, suite-good, case-good}

@@ -9,7 +9,8 @@ use lib.Dec.{leb, eqb, lit≤}
 use Rattle.tree_record.specs.Kinds as kind
 use Rattle.tree_report.specs.Report.{failure, error, FlakyOrRerun, flaky, nonSuccess, skipped, Report}
 use Rattle.tree_report.specs.Fields.{kindOf, isReport, isSuite, isCase, isMain, isRun, first, uuid, timestamp, time, counts}
-use Rattle.tree_report.specs.Layout.{filled, goodText, goodOther, goodRecord}
+use Rattle.tree_report.specs.Layout.{filled, goodText, goodRecord}
+use Rattle.tree_report.specs.inside.Parts.{goodOther}
 use Rattle.tree_report.specs.ReportOf.{Branch, branches, pairOf, pairsOf, reasonOf, runOf, kindOfRuns, statusOf, caseOf, suiteOf}
 use Rattle.tree_report.specs.Encode.{Row, fitsRow, pairRow, mainRow, runRow, statusRows, caseRows, suiteRows, rowsOf}
 use Rattle.tree_report.proofs.EncodeLists.{and-left, and-right, Each, done, more, each-append}

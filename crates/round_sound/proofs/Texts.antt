@@ -15,7 +15,8 @@ use Rattle.text_filter.specs.Filter.{unfiltered}
 use Rattle.text_filter.proofs.Filtering.{unfiltered-append}
 use Rattle.tree_report.specs.Encode.{written, fitsCell}
 use Rattle.tree_report.specs.Fields.{textAt}
-use Rattle.tree_report.specs.Layout.{filled, allZero, goodText, goodTextAt}
+use Rattle.tree_report.specs.Layout.{filled, allZero, goodText}
+use Rattle.tree_report.specs.inside.Parts.{goodTextAt}
 use Rattle.tree_report.proofs.EncodeLists.{both, and-left, and-right}
 use Rattle.tree_layout.proofs.Filling.{filled-front}
 

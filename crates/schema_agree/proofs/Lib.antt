@@ -1,8 +1,6 @@
 pub mod Keys
 pub mod Written
 pub mod Shown
-pub mod Others
-pub mod ByKind
 pub mod Cells
 pub mod Encoded
 pub mod Placed

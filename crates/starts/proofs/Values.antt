@@ -13,7 +13,8 @@ use Rattle.instant.specs.Instant.{instantOf}
 use Rattle.tree_record.specs.Bits as bit
 use Rattle.tree_record.specs.Words as word
 use Rattle.tree_report.specs.Fields.{kindOf, isCase, hasBit, timestamp, momentOf}
-use Rattle.tree_report.specs.Layout.{slot, textSlot, momentSlot, timeSlot, onlyBits, caseBits, zeroAt, goodCommon, goodOutputs, goodCase, goodRecord, allGood}
+use Rattle.tree_report.specs.Layout.{zeroAt, goodRecord, allGood}
+use Rattle.tree_report.specs.inside.Parts.{slot, textSlot, momentSlot, timeSlot, onlyBits, caseBits, goodCommon, goodOutputs, goodCase}
 use Rattle.tree_report.proofs.ByTable as table
 use Rattle.tree_stamp.specs.Stamp.{cutMoment}
 use Rattle.tree_stamp.proofs.Layouts.{moment-own}
@@ -33,7 +34,7 @@ Small m = m .nanos < 1000000000
 
 -- ---- a case of a layout
 case-good : (texts r : List ℕ) → getD r 0 0 ≡ 3 → goodRecord texts r ≡ true → goodCase texts r ≡ true
-unfolding goodRecord
+unfolding goodRecord goodCase
 case-good texts r k g = rw k at g
 
 common-good : (texts r : List ℕ) → goodCase texts r ≡ true → goodCommon texts r ≡ true

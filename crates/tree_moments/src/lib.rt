@@ -9,7 +9,7 @@ ghost use Prim.Native.Nat.{_≤_};
 ghost use lib.ListN.{length};
 ghost use Rattle.timestamp.specs.Timestamp.{inRange};
 ghost use Rattle.tree_report.specs.Fields.{momentOf};
-ghost use Rattle.tree_report.specs.Layout.{momentSlot, timeSlot};
+ghost use Rattle.tree_report.specs.inside.Parts.{momentSlot, timeSlot};
 ghost use Rattle.tree_moments.specs.inside.Fitting.{momentFits};
 
 // The words of a timestamp fit the fields of a moment.

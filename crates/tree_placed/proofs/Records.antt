@@ -12,7 +12,8 @@ use Rattle.tree_report.proofs.ByTable.{report-good, suite-good, case-good}
 use Rattle.tree_report.specs.Encode.{firstWord, secondWord, isGiven, ofText, uuidBack, lowWord, highWord, fitsRow, presence, Row}
 use Rattle.tree_report.specs.Encode.{flagsOf, pairRow, mainRow, kindOfMain, kindOfRun, runRow, caseRow, suiteRow, reportRow}
 use Rattle.tree_report.specs.Fields.{hasBit}
-use Rattle.tree_report.specs.Layout.{goodTextAt, goodOutputs, goodReport, goodSuite, goodCase, bitsFor, goodOther, goodRecord}
+use Rattle.tree_report.specs.Layout.{goodRecord}
+use Rattle.tree_report.specs.inside.Parts.{goodTextAt, goodOutputs, goodReport, goodSuite, goodCase, bitsFor, goodOther}
 use Rattle.tree_report.specs.Report.{Text, Pair, NonSuccessKind, failure, error, FlakyOrRerun, TestRerun, Reason, TestCase, TestSuite, Report}
 use Rattle.tree_report.specs.ReportOf.{pairOf, reasonOf, runOf}
 use Rattle.tree_report.proofs.EncodeLists.{both}

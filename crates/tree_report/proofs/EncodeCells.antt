@@ -12,7 +12,8 @@ use lib.ListN.{getD, take, drop}
 use Rattle.tree_record.specs.Record.{maskOf}
 use Rattle.tree_report.specs.Encode.{Cell, isGiven, firstWord, secondWord, ofText, ofNumber, isSome, momentOrZero, timeOrZero, fitsMoment, fitsTime, flagsOf}
 use Rattle.tree_report.specs.Fields.{hasBit, given, textAt, numberAt, momentOf, timestamp, time}
-use Rattle.tree_report.specs.Layout.{zeroAt, slot, textSlot, goodTextAt, momentSlot, timeSlot, bitsOf, onlyBits}
+use Rattle.tree_report.specs.Layout.{zeroAt}
+use Rattle.tree_report.specs.inside.Parts.{slot, textSlot, goodTextAt, momentSlot, timeSlot, bitsOf, onlyBits}
 use Rattle.timestamp.specs.declared.Moment.{Moment}
 use Rattle.tree_report.specs.Report.{Text, Duration}
 pub use Rattle.schema.proofs.Tests.{bit-flag}

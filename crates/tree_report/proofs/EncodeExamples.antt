@@ -6,8 +6,7 @@ use mathlib.Core.Path.{_≡_, refl}
 use Rattle.area.specs.Area.{zeros}
 use Rattle.schema.specs.Records.{good}
 use Rattle.tree_report.specs.Encode.{recordAt, encode, wordsOf, textOf, fitsRow, fits}
-use Rattle.tree_report.specs.Layout.{goodText, goodTextAt, goodCommon, goodOutputs, goodCounts, goodReport, goodSuite, goodCase, bitsFor}
-use Rattle.tree_report.specs.Layout.{goodOther, goodRecord, mayEnd, mayFollow, following, goodOrder, recordsFrom, recordsOf, layout}
+use Rattle.tree_report.specs.Layout.{goodText, goodRecord, mayEnd, mayFollow, following, goodOrder, recordsFrom, recordsOf, layout}
 use Rattle.tree_report.specs.Report.{Counts, failure, flaky, nonSuccess, Report}
 use Rattle.tree_report.specs.ReportOf.{reportOf}
 use Rattle.tree_status.specs.Status.{tallied, ruled}
@@ -73,8 +72,8 @@ unfolding textOf encode
 flaky-texts = refl
 
 flaky-layout : layout (wordsOf flakyFailure 200) (textOf flakyFailure 5) ≡ true
-unfolding layout wordsOf textOf encode recordAt recordsOf recordsFrom goodText goodRecord goodReport goodSuite goodCase goodOther good
-    bitsFor goodCommon goodOutputs goodCounts goodTextAt goodOrder mayFollow mayEnd following tallied ruled need low high
+unfolding layout wordsOf textOf encode recordAt recordsOf recordsFrom goodText goodRecord good
+    goodOrder mayFollow mayEnd following tallied ruled need low high
 flaky-layout = refl
 
 flaky-read : reportOf (wordsOf flakyFailure 200) (textOf flakyFailure 5) ≡ some flakyFailure

@@ -10,10 +10,12 @@ use borrow.Author.Tests.{lt-ltb, le-leb, lt-leb, ne-eqb}
 use lib.Dec.{eqb, leb, lit≤}
 use lib.ListN.{take, drop}
 use Rattle.tree_report.proofs.ByTable.{report-good, suite-good, case-good}
+use Rattle.tree_report.proofs.ByKind.{record-parts}
 use Rattle.tree_report.specs.Encode.{Cell, absent, firstWord, secondWord, isGiven, ofText, uuidFront, uuidBack, lowWord, highWord, fitsCell, fitsMoment, fitsTime, fitsRow}
 use Rattle.tree_report.specs.Encode.{every, presence, cellsOf, Row, recordAt, flagsOf, pairRow, mainRow, kindOfMain, kindOfRun, runRow, caseRow, suiteRow, reportRow}
 use Rattle.tree_report.specs.Fields.{kindOf, hasBit, textAt, numberAt, first, systemOut, systemErr, second, description, stackTrace, uuid, timestamp, time, counts, assertions}
-use Rattle.tree_report.specs.Layout.{slot, zeroAt, goodCommon, goodOutputs, goodCounts, goodReport, goodSuite, goodCase, bitsFor, goodOther, goodRecord}
+use Rattle.tree_report.specs.Layout.{zeroAt, goodRecord}
+use Rattle.tree_report.specs.inside.Parts.{slot, goodCommon, goodOutputs, goodCounts, goodReport, goodSuite, goodCase, bitsFor, goodOther}
 use Rattle.timestamp.specs.declared.Moment.{Moment}
 use Rattle.uuid.specs.declared.Words.{Words}
 use Rattle.tree_report.specs.Report.{Text, Duration, Pair, Counts, NonSuccessKind, failure, error, FlakyOrRerun, flaky, rerun, TestRerun, Reason, TestCase, TestSuite, Report}
@@ -93,10 +95,9 @@ fits-times row f =
 
 -- a record that is no report, suite or case is good if its own test passes
 pub other-record : (texts r : List ℕ) → 4 ≤ kindOf r → kindOf r ≤ 14 → goodOther texts r ≡ true → goodRecord texts r ≡ true
-unfolding goodRecord
 other-record texts r l h g =
     let k : ℕ = kindOf r in
-    rw (lt-ltb k 16 (omega arith), ne-eqb k 1 (λ e. omega arith), ne-eqb k 2 (λ e. omega arith), ne-eqb k 3 (λ e. omega arith)) (both (le-leb k 14 h) g)
+    rw (record-parts texts r, lt-ltb k 16 (omega arith), ne-eqb k 1 (λ e. omega arith), ne-eqb k 2 (λ e. omega arith), ne-eqb k 3 (λ e. omega arith)) (both (le-leb k 14 h) g)
 
 module _ (kind : ℕ) (isFlaky : Bool) (e : TestRerun) where
   good-element : 4 ≤ kind → kind ≤ 14

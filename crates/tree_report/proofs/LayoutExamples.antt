@@ -8,9 +8,10 @@ use Rattle.area.specs.Area.{zeros}
 use Rattle.area.specs.Limits.{mostRecords, mostWords}
 use Rattle.tree_record.specs.Kinds as kind
 use Rattle.tree_status.specs.Status.{tallied, ruled}
-use Rattle.schema.specs.Records.{good}
+use Rattle.schema.specs.Schema.{text}
+use Rattle.schema.specs.Records.{goodValue, valueAt, good}
 use Rattle.tree_report.specs.Fields.{systemOut, systemErr}
-use Rattle.tree_report.specs.Layout.{allZero, goodTextAt, goodCommon, goodOutputs, goodCase, bitsFor, goodOther, goodRecord, nothing, mayEnd, mayFollow, following, goodOrder}
+use Rattle.tree_report.specs.Layout.{allZero, goodRecord, nothing, mayEnd, mayFollow, following, goodOrder}
 
 limit-words : mostRecords * 32 ≡ mostWords
 limit-words = refl
@@ -26,12 +27,10 @@ err-read : systemErr (97 ∷ 98 ∷ []) (3 ∷ 6 ∷ 0 ∷ 0 ∷ 0 ∷ 1 ∷ 1 �
 err-read = refl
 
 -- a text of one byte, that is the first of a character's two; a text of both
-text-cut : goodTextAt (0xC3 ∷ 0xA9 ∷ []) (3 ∷ 1 ∷ 0 ∷ 1 ∷ []) 2 ≡ false
-unfolding goodTextAt
+text-cut : goodValue (0xC3 ∷ 0xA9 ∷ []) text (valueAt text (3 ∷ 1 ∷ 0 ∷ 1 ∷ []) 2) ≡ false
 text-cut = refl
 
-text-whole : goodTextAt (0xC3 ∷ 0xA9 ∷ []) (3 ∷ 1 ∷ 0 ∷ 2 ∷ []) 2 ≡ true
-unfolding goodTextAt
+text-whole : goodValue (0xC3 ∷ 0xA9 ∷ []) text (valueAt text (3 ∷ 1 ∷ 0 ∷ 2 ∷ []) 2) ≡ true
 text-whole = refl
 
 -- a dead record: its kind with 16 more, and no kind is 0
@@ -53,20 +52,20 @@ dead-beyond = refl
 
 -- a case with a name, and with the bit of a stack trace
 case-named : goodRecord [] (3 ∷ 1 ∷ zeros 30) ≡ true
-unfolding goodRecord goodCase goodCommon goodOutputs goodTextAt good
+unfolding goodRecord good
 case-named = refl
 
 case-trace : goodRecord [] (3 ∷ 129 ∷ zeros 30) ≡ false
-unfolding goodRecord goodCase goodCommon goodOutputs goodTextAt good
+unfolding goodRecord good
 case-trace = refl
 
 -- `skipped` has no flaky bit, a failure may have it
 failure-flaky : goodRecord [] (6 ∷ 512 ∷ zeros 30) ≡ true
-unfolding goodRecord goodOther bitsFor goodCommon goodOutputs
+unfolding goodRecord good
 failure-flaky = refl
 
 skipped-flaky : goodRecord [] (8 ∷ 512 ∷ zeros 30) ≡ false
-unfolding goodRecord goodOther bitsFor goodCommon goodOutputs
+unfolding goodRecord good
 skipped-flaky = refl
 
 -- ---- orders of kinds

@@ -1,4 +1,6 @@
 pub mod ByTable
+pub mod ByOther
+pub mod ByKind
 pub mod EncodeLists
 pub mod EncodeText
 pub mod EncodeAreas

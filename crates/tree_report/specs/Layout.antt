@@ -5,20 +5,16 @@ use mathlib.Core.Bool.{Bool, true, false, cond, not, _&&_, _||_}
 use lib.ListN.{length, getD, take, drop}
 use lib.Dec.{leb, eqb}
 use Rattle.utf8.specs.Utf8.{utf8}
-use Rattle.utf8.specs.Characters.{boundary}
 use Rattle.text_filter.specs.Filter.{unfiltered}
-use Rattle.timestamp.specs.Timestamp.{inRange}
 use Rattle.area.specs.Limits.{mostWords, mostBytes}
-use Rattle.tree_record.specs.Words as word
 use Rattle.tree_record.specs.Bits as bit
 use Rattle.tree_record.specs.Kinds as kind
-use Rattle.tree_record.specs.Record.{maskOf}
 use Rattle.tree_status.specs.declared.Tally.{Tally}
 use Rattle.tree_status.specs.Status.{noStatus, tallied, ruled}
-use Rattle.schema.specs.Schema.{report, suite, case}
+use Rattle.schema.specs.Schema.{tableOf}
 unfoldable pub use Rattle.schema.specs.Records.{good}
 pub use Rattle.schema.specs.Records.{allZero, zeroAt}
-use Rattle.tree_report.specs.Fields.{kindOf, live, isReport, isSuite, isCase, isSuiteProperty, isCaseProperty, isSuiteExtra, isCaseExtra, hasBit, momentOf}
+use Rattle.tree_report.specs.Fields.{kindOf, live, isReport, isSuite, isCase, isSuiteProperty, isCaseProperty, isSuiteExtra, isCaseExtra, hasBit}
 
 -- beyond the limits an area isn't used (rule M1)
 abbrev pub usedWords : List ℕ → List ℕ
@@ -38,102 +34,11 @@ unfoldable pub goodText : List ℕ → Bool
 goodText text = utf8 (filled text) && (unfiltered (filled text) && allZero (drop (length (filled text)) text))
 
 -- ---- one record
--- a text: it ends within the texts, and its ends are no middle of a character
-unfoldable pub goodTextAt : List ℕ → List ℕ → ℕ → Bool
-goodTextAt texts r o =
-    leb (getD r o 0 + getD r (o + 1) 0) (length texts) && (boundary texts (getD r o 0) && boundary texts (getD r o 0 + getD r (o + 1) 0))
-
--- present with good words, or absent with words of zero
-abbrev pub slot : Bool → Bool → Bool → Bool
-slot present good absent = cond present good absent
-
-abbrev pub textSlot : List ℕ → List ℕ → ℕ → ℕ → Bool
-textSlot texts r k o = slot (hasBit k r) (goodTextAt texts r o) (zeroAt r o 2)
-
--- in their ranges (rule M10)
-abbrev pub momentSlot : List ℕ → Bool
-momentSlot r = slot (hasBit bit.timestamp r) (inRange (momentOf r)) (zeroAt r word.timestamp 8)
-
--- rule M10
-abbrev pub timeSlot : List ℕ → Bool
-timeSlot r = slot (hasBit bit.time r) (leb (getD r word.seconds 0) 8388607 && leb (getD r word.timeNanos 0) 999999999) (zeroAt r word.time 2)
-
--- no presence bits but these are set
-abbrev pub bitsOf : List ℕ → List ℕ → ℕ
-bitsOf [] r = 0
-bitsOf (k ∷ ks) r = cond (hasBit k r) (maskOf k) 0 + bitsOf ks r
-
-abbrev pub onlyBits : List ℕ → List ℕ → Bool
-onlyBits ks r = eqb (getD r word.bits 0) (bitsOf ks r)
-
--- what every record has: a name, message or key, a timestamp, a time
-unfoldable pub goodCommon : List ℕ → List ℕ → Bool
-goodCommon texts r = textSlot texts r bit.name word.name && (momentSlot r && timeSlot r)
-
--- the texts of an output, or a value
-unfoldable pub goodOutputs : List ℕ → List ℕ → Bool
-goodOutputs texts r = textSlot texts r bit.out word.out && textSlot texts r bit.err word.err
-
--- counts may be anything; words 28 to 31 are free
-unfoldable pub goodCounts : List ℕ → Bool
-goodCounts r = slot (hasBit bit.disabled r) true (zeroAt r word.disabled 2) && zeroAt r 28 4
-
-abbrev pub reportBits : List ℕ
-reportBits = bit.name ∷ bit.uuid ∷ bit.timestamp ∷ bit.time ∷ bit.disabled ∷ []
-
-abbrev pub suiteBits : List ℕ
-suiteBits = bit.name ∷ bit.out ∷ bit.err ∷ bit.timestamp ∷ bit.time ∷ bit.disabled ∷ []
-
-abbrev pub caseBits : List ℕ
-caseBits = bit.name ∷ bit.out ∷ bit.err ∷ bit.timestamp ∷ bit.time ∷ bit.classname ∷ bit.assertions ∷ []
-
-abbrev pub pairBits : List ℕ
-pairBits = bit.name ∷ bit.value ∷ []
-
--- failure and error
-abbrev pub mainBits : List ℕ
-mainBits = bit.message ∷ bit.type ∷ bit.description ∷ bit.flaky ∷ []
-
-abbrev pub skippedBits : List ℕ
-skippedBits = bit.message ∷ bit.type ∷ bit.description ∷ []
-
-abbrev pub runBits : List ℕ
-runBits = bit.message ∷ bit.out ∷ bit.err ∷ bit.timestamp ∷ bit.time ∷ bit.type ∷ bit.description ∷ bit.stackTrace ∷ []
-
--- by the tables of crate schema
-unfoldable pub goodReport : List ℕ → List ℕ → Bool
-goodReport texts r = good report texts r
-
-unfoldable pub goodSuite : List ℕ → List ℕ → Bool
-goodSuite texts r = good suite texts r
-
-unfoldable pub goodCase : List ℕ → List ℕ → Bool
-goodCase texts r = good case texts r
-
--- a property or extra has name or key and value; a main has message, type and description, and a failure or error the
--- flaky bit; a run has all texts, timestamp and time
-unfoldable pub bitsFor : ℕ → List ℕ
-bitsFor k =
-    cond (leb k kind.caseProperty || leb kind.suiteExtra k) pairBits
-    (cond (leb k kind.error) mainBits
-    (cond (leb k kind.skipped) skippedBits runBits))
-
-unfoldable pub goodOther : List ℕ → List ℕ → Bool
-goodOther texts r =
-    onlyBits (bitsFor (kindOf r)) r
-    && (((leb kind.failure (kindOf r) && leb (kindOf r) kind.rerunError) || (hasBit bit.name r && hasBit bit.value r))
-    && (goodCommon texts r
-    && (goodOutputs texts r
-    && (textSlot texts r bit.type word.type
-    && (textSlot texts r bit.description word.description && (textSlot texts r bit.stackTrace word.stackTrace && zeroAt r 24 8))))))
-
--- a dead record keeps its kind with 16 more, and nothing else of it is looked at
+-- rules M8 and M10: what the table of its kind says; a dead record keeps its kind with 16 more, and nothing else of it is looked at
 unfoldable pub goodRecord : List ℕ → List ℕ → Bool
 goodRecord texts r =
     cond (live r)
-    (cond (isReport r) (goodReport texts r)
-    (cond (isSuite r) (goodSuite texts r)
-    (cond (isCase r) (goodCase texts r) (leb (kindOf r) kind.caseExtra && goodOther texts r))))
+    (leb (kindOf r) kind.caseExtra && good (tableOf (kindOf r)) texts r)
     (leb (kind.dead + kind.report) (kindOf r) && leb (kindOf r) (kind.dead + kind.caseExtra))
 
 abbrev pub allGood : List ℕ → List (List ℕ) → Bool

@@ -12,7 +12,7 @@ use lib.Dec.{ltb, eqb}
 use lib.ListN.{getD}
 use lib.Pow.{mod-pow-add, pow-pos, shr-shr}
 use Rattle.tree_record.proofs.Bits.{mask-power}
-use Rattle.tree_report.specs.Layout.{bitsOf, onlyBits, reportBits, suiteBits, caseBits, pairBits, mainBits, skippedBits, runBits}
+use Rattle.tree_report.specs.inside.Parts.{bitsOf, onlyBits, reportBits, suiteBits, caseBits, pairBits, mainBits, skippedBits, runBits}
 
 -- n bits from the bit k on
 abbrev run : ℕ → ℕ → List ℕ

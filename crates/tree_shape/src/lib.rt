@@ -12,7 +12,8 @@ ghost use mathlib.Core.Path.{_≡_};
 ghost use Prim.Native.Nat.{_≤_};
 ghost use lib.ListN.{length};
 ghost use Rattle.tree_report.specs.Fields.{kindOf};
-ghost use Rattle.tree_report.specs.Layout.{onlyBits, bitsFor, goodCommon, goodOutputs, goodCounts, goodReport, goodSuite, goodCase, goodOther, goodRecord};
+ghost use Rattle.tree_report.specs.Layout.{goodRecord};
+ghost use Rattle.tree_report.specs.inside.Parts.{onlyBits, bitsFor, goodCommon, goodOutputs, goodCounts, goodReport, goodSuite, goodCase, goodOther};
 ghost use Rattle.tree_shape.specs.inside.Records.{isRecord};
 
 fn good_common(texts: &[u8], r: &[u32]) -> bool

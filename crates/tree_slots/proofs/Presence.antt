@@ -5,7 +5,8 @@ use mathlib.Core.List.{List}
 use mathlib.Core.Path.{_≡_, sym, ap, _∙_}
 use native.Mathlib.Omega.{arith}
 use lib.ListN.{take, drop}
-use Rattle.tree_report.specs.Layout.{allZero, zeroAt, slot}
+use Rattle.tree_report.specs.Layout.{allZero, zeroAt}
+use Rattle.tree_report.specs.inside.Parts.{slot}
 
 -- the slot's bit is set: the code's answer is the test of its value
 pub slot-present : {b p x y : Bool} (z : Bool) → b ≡ p → b ≡ true → x ≡ y → x ≡ slot p y z

@@ -6,7 +6,8 @@ ghost use mathlib.Core.Bool.{true};
 ghost use lib.ListN.{length};
 ghost use Rattle.utf8.specs.Characters.{boundary};
 ghost use Rattle.tree_record.specs.Record.{hasBit};
-ghost use Rattle.tree_report.specs.Layout.{allZero, goodTextAt, slot, zeroAt, textSlot};
+ghost use Rattle.tree_report.specs.Layout.{allZero, zeroAt};
+ghost use Rattle.tree_report.specs.inside.Parts.{goodTextAt, slot, textSlot};
 
 // No exit before the end: so the compiler takes many words at a time.
 pub fn is_zero(words: &[u32]) -> bool

@@ -1,6 +1,6 @@
 use mathlib.Core.Path.{refl}
 use borrow.Author.Needs.{needs}
-use Rattle.tree_report.specs.Layout.{goodCommon}
+use Rattle.tree_report.specs.inside.Parts.{goodCommon}
 use Rattle.tree_shape.proofs.good_common.Statement.{statement}
 use Rattle.tree_shape.proofs.good_common.Tie as tie
 

@@ -1,6 +1,6 @@
 use mathlib.Core.Path.{refl}
 use borrow.Author.Needs.{needs}
-use Rattle.tree_report.specs.Layout.{goodCounts}
+use Rattle.tree_report.specs.inside.Parts.{goodCounts}
 use Rattle.tree_shape.proofs.good_counts.Statement.{statement}
 use Rattle.tree_shape.proofs.good_counts.Tie as tie
 

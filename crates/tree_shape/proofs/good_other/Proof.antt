@@ -1,6 +1,6 @@
 use mathlib.Core.Path.{refl}
 use borrow.Author.Needs.{needs}
-use Rattle.tree_report.specs.Layout.{goodOther}
+use Rattle.tree_report.specs.inside.Parts.{goodOther}
 use Rattle.tree_shape.proofs.good_other.Statement.{statement}
 use Rattle.tree_shape.proofs.good_other.Tie as tie
 

@@ -1,6 +1,6 @@
 use mathlib.Core.Path.{refl}
 use borrow.Author.Needs.{needs}
-use Rattle.tree_report.specs.Layout.{goodOutputs}
+use Rattle.tree_report.specs.inside.Parts.{goodOutputs}
 use Rattle.tree_shape.proofs.good_outputs.Statement.{statement}
 use Rattle.tree_shape.proofs.good_outputs.Tie as tie
 

@@ -1,6 +1,6 @@
 use borrow.Author.Needs.{needs}
 use borrow.Author.Tests.{le-leb, lt-leb}
-use Rattle.tree_report.specs.Layout.{bitsFor}
+use Rattle.tree_report.specs.inside.Parts.{bitsFor}
 use Rattle.tree_shape.proofs.Bits.{pair-bits, main-bits, skipped-bits, run-bits}
 use Rattle.tree_shape.proofs.only_other.Statement.{statement}
 use Rattle.tree_shape.proofs.only_other.Tie as tie

@@ -1,5 +1,5 @@
 use borrow.Author.Needs.{needs}
-use Rattle.tree_report.specs.Layout.{goodTextAt}
+use Rattle.tree_report.specs.inside.Parts.{goodTextAt}
 use Rattle.tree_slots.proofs.is_text.Statement.{statement}
 use Rattle.tree_slots.proofs.is_text.Tie as tie
 

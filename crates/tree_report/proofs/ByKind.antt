@@ -1,4 +1,4 @@
--- Every record is a layout's exactly if the table of its kind says so. Assumes nothing.
+-- A record by the table of its kind, in the parts that laws are about. Assumes nothing.
 use Prim.Native.Nat.{ℕ, _≤_, _<_}
 use mathlib.Core.Bool.{Bool, true, false, cond, _&&_, _||_}
 use mathlib.Core.List.{List}
@@ -7,11 +7,12 @@ use native.Mathlib.Omega.{arith}
 use borrow.Author.Tests.{eqb-true, leb-true, leb-false, le-leb, lt-leb}
 use lib.Dec.{leb, eqb}
 use Rattle.tree_record.specs.Kinds as kind
-use Rattle.tree_report.specs.Fields.{kindOf, live}
-use Rattle.tree_report.specs.Layout.{bitsFor, goodReport, goodSuite, goodCase, goodOther, goodRecord}
+use Rattle.tree_report.specs.Fields.{kindOf, live, isReport, isSuite, isCase}
+use Rattle.tree_report.specs.inside.Parts.{bitsFor, goodReport, goodSuite, goodCase, goodOther}
+use Rattle.tree_report.specs.Layout.{goodRecord}
 use Rattle.schema.specs.Schema.{Row, report, suite, case, main, skipped, run, property, extra, tableOf}
 use Rattle.schema.specs.Records.{good}
-use Rattle.schema_agree.proofs.Others.{pair-good, main-good, skipped-good, run-good}
+use Rattle.tree_report.proofs.ByOther.{pair-good, main-good, skipped-good, run-good}
 
 module _ (texts r : List ℕ) where
   report-good : good report texts r ≡ goodReport texts r
@@ -78,8 +79,10 @@ module _ (texts r : List ℕ) where
       go false false true p q s = rw (le-leb k 14 (let e = eqb-true k 3 s in omega arith)) (sym case-good)
       go false false false p q s = ap (λ (t : Bool). leb k 14 && t) (sym other-good)
 
-  -- a dead record keeps its kind with 16 more, and nothing else of it is looked at (rule M8)
-  pub table-good : goodRecord texts r
-      ≡ cond (live r) (leb (kindOf r) kind.caseExtra && good (tableOf (kindOf r)) texts r) (leb 17 (kindOf r) && leb (kindOf r) 30)
+  -- a record by the parts of its kind
+  pub record-parts : goodRecord texts r
+      ≡ cond (live r)
+      (cond (isReport r) (goodReport texts r) (cond (isSuite r) (goodSuite texts r) (cond (isCase r) (goodCase texts r) (leb k kind.caseExtra && goodOther texts r))))
+      (leb 17 k && leb k 30)
   unfolding goodRecord
-  table-good = ap (λ (t : Bool). cond (live r) t (leb 17 (kindOf r) && leb (kindOf r) 30)) kind-good
+  record-parts = ap (λ (t : Bool). cond (live r) t (leb 17 k && leb k 30)) (sym kind-good)

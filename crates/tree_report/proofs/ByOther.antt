@@ -1,4 +1,4 @@
--- A record of another kind is a layout's exactly if its table says so: a property or extra, a main, a run. Assumes nothing.
+-- A record of another kind by its table, in the parts that laws are about: a property or extra, a main, a run. Assumes nothing.
 use Prim.Native.Nat.{ℕ, _+_, _/_, _%_, _≤_}
 use mathlib.Core.Bool.{Bool, true, false, cond, _&&_}
 use mathlib.Core.List.{List, [], _∷_, _++_}
@@ -8,10 +8,10 @@ use borrow.Author.Tests.{eqb-true, ne-eqb}
 use lib.Dec.{leb, eqb}
 use lib.ListN.{getD, take, drop}
 use lib.Seq.{take-add, drop-drop}
 use Rattle.tree_report.specs.Fields.{kindOf}
-use Rattle.tree_report.specs.Layout.{allZero, zeroAt, goodOther, goodCommon, goodOutputs, goodTextAt, bitsFor, pairBits, mainBits, skippedBits, runBits, bitsOf}
+use Rattle.tree_report.specs.inside.Parts.{goodOther, goodCommon, goodOutputs, goodTextAt, bitsFor, pairBits, mainBits, skippedBits, runBits, bitsOf}
 use Rattle.schema.specs.Schema.{text, time, timestamp, may, main, skipped, run, property}
-use Rattle.schema.specs.Records.{good, goodFrom, goodSlot, goodValue, valueAt, isSet, bitsIn}
+use Rattle.schema.specs.Records.{allZero, zeroAt, good, goodFrom, goodSlot, goodValue, valueAt, isSet, bitsIn}
 
 -- ---- zeros in parts
 zero-append : (a b : List ℕ) → allZero (a ++ b) ≡ (allZero a && allZero b)
