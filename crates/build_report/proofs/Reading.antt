@@ -66,7 +66,7 @@ module _ {b : Builder} {words text texts : List ℕ} (front : List Placed) (p : 
   unfolding isOf
   is-of-held k = ap₂ (λ (t : Bool) (j : ℕ). t && eqb j k) here-held kind-held
 
-  pub bit-held : (k : ℕ) → k ≤ 9 → hasBit k (drop (i * 32) words) ≡ getD (presence (p .row)) k false
+  pub bit-held : (k : ℕ) → k ≤ 31 → hasBit k (drop (i * 32) words) ≡ getD (presence (p .row)) k false
   unfolding recordOf
   bit-held k l =
       ap (λ (w : List ℕ). hasBit k (drop (i * 32) w)) (split-words front (p ∷ back) h)

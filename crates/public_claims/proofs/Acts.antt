@@ -224,7 +224,7 @@ unseen-two : (o k kind : ℕ) → Unseen o k kind → 2 ≤ o
 unseen-two o k kind (inl h) = let z : 4 ≤ o = h .0 in omega arith
 unseen-two o k kind (inr h) = let z : 18 ≤ o = h .0 in omega arith
 
-unseen-nine : (o k kind : ℕ) → Unseen o k kind → 9 ≡ min k 9 → ⊥
+unseen-nine : (o k kind : ℕ) → Unseen o k kind → 9 ≡ min k 31 → ⊥
 unseen-nine o k kind (inl h) e = let z : k ≤ 3 = h .3 in omega arith
 unseen-nine o k kind (inr h) e = let z : k ≤ 7 = h .3 in omega arith
 

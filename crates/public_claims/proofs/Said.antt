@@ -183,10 +183,10 @@ kept-time : (b : Bool) (d : ℕ × ℕ) (r : List ℕ) → Keeps 4 16 18 r (keep
 kept-time true d r = text-keeps 4 16 (d .0) (d .1) r (omega arith)
 kept-time false d r = keeps-all 4 16 18 r
 
-number-keeps : (k o n : ℕ) (r : List ℕ) → 2 ≤ o → Keeps (min k 9) o (o + 2) r (marked k (putCount o n r))
+number-keeps : (k o n : ℕ) (r : List ℕ) → 2 ≤ o → Keeps (min k 31) o (o + 2) r (marked k (putCount o n r))
 number-keeps k o n r h = text-keeps k o (n % 4294967296) (n / 4294967296) r h
 
-below-nine : (k : ℕ) → k < 9 → 9 ≡ min k 9 → ⊥
+below-nine : (k : ℕ) → k < 9 → 9 ≡ min k 31 → ⊥
 below-nine k h e = omega arith
 
 module _ {kind : ℕ} {t : List ℕ} {g : Given} (v : List ℕ) (h : Given) (b : Base kind t g) where

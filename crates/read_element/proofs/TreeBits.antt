@@ -28,7 +28,7 @@ set-same zero (b ∷ bs) e = ap (λ (c : Bool). c ∷ bs) e
 set-same (suc k) (b ∷ bs) e = ap (λ (l : List Bool). b ∷ l) (set-same k bs e)
 
 -- setting bit k of a record is setting flag k of the list that its bits are made of
-pub marked-flags : (κ k : ℕ) (bs : List Bool) (ws : List ℕ) → k < length bs → k ≤ 9 → marked k (κ ∷ flagsOf bs ∷ ws) ≡ κ ∷ flagsOf (set bs k true) ∷ ws
+pub marked-flags : (κ k : ℕ) (bs : List Bool) (ws : List ℕ) → k < length bs → k ≤ 31 → marked k (κ ∷ flagsOf bs ∷ ws) ≡ κ ∷ flagsOf (set bs k true) ∷ ws
 marked-flags κ k bs ws h s = go (getD bs k false) refl
   where
     bit : hasBit k (κ ∷ flagsOf bs ∷ ws) ≡ getD bs k false

@@ -14,12 +14,12 @@ use Rattle.tree_record.specs.Record.{maskOf, hasBit, marked}
 use Rattle.tree_put.specs.Put.{putPair, putText, putCount, putWords}
 use Rattle.tree_record.proofs.Marks.{marked-length, marked-other, marked-bit, marked-bits}
 
--- ---- a change of the words from lo to below hi, and of the bit k, which is at most 9
+-- ---- a change of the words from lo to below hi, and of the bit k, which is at most 31
 pub record Keeps (k lo hi : ℕ) (r s : List ℕ) : Type 0 where
   pub long : length s ≡ length r
   pub kind : kindOf s ≡ kindOf r
   pub word : (p : ℕ) → 2 ≤ p → (p < lo) ⊎ (hi ≤ p) → getD s p 0 ≡ getD r p 0
-  pub bits : (j : ℕ) → (min j 9 ≡ k → ⊥) → hasBit j s ≡ hasBit j r
+  pub bits : (j : ℕ) → (min j 31 ≡ k → ⊥) → hasBit j s ≡ hasBit j r
 
 pub keeps-all : (k lo hi : ℕ) (r : List ℕ) → Keeps k lo hi r r
 keeps-all k lo hi r = record { long = refl; kind = refl; word = λ p h o. refl; bits = λ j h. refl }
@@ -46,7 +46,7 @@ set-keeps k lo hi r o v h a b =
       bits = λ j g. ap (λ (n : ℕ). eqb (n / maskOf j % 2) 1) (getD-set-other r o 1 v 0 (λ e. omega arith));
     }
 
-pub marked-keeps : (k lo hi : ℕ) (r : List ℕ) → Keeps (min k 9) lo hi r (marked k r)
+pub marked-keeps : (k lo hi : ℕ) (r : List ℕ) → Keeps (min k 31) lo hi r (marked k r)
 marked-keeps k lo hi r =
     record {
       long = marked-length k r;
@@ -59,8 +59,8 @@ pub pair-keeps : (k o a b : ℕ) (r : List ℕ) → 2 ≤ o → Keeps k o (o + 2
 pair-keeps k o a b r h =
     keeps-then (set-keeps k o (o + 2) r o a h (omega arith) (omega arith)) (set-keeps k o (o + 2) (set r o a) (o + 1) b h (omega arith) (omega arith))
 
-pub text-keeps : (k o a b : ℕ) (r : List ℕ) → 2 ≤ o → Keeps (min k 9) o (o + 2) r (putText o k a b r)
-text-keeps k o a b r h = keeps-then (pair-keeps (min k 9) o a b r h) (marked-keeps k o (o + 2) (putPair o a b r))
+pub text-keeps : (k o a b : ℕ) (r : List ℕ) → 2 ≤ o → Keeps (min k 31) o (o + 2) r (putText o k a b r)
+text-keeps k o a b r h = keeps-then (pair-keeps (min k 31) o a b r h) (marked-keeps k o (o + 2) (putPair o a b r))
 
 pub words-keep : (k lo hi : ℕ) (o : ℕ) (vs : List ℕ) (r : List ℕ) → 2 ≤ lo → lo ≤ o → o + length vs ≤ hi → Keeps k lo hi r (putWords o vs r)
 words-keep k lo hi o [] r h a b = keeps-all k lo hi r

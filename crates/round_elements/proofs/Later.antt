@@ -26,7 +26,7 @@ module _ (o k a n : ℕ) (r : List ℕ) where
   later-word p h i j = marked-other k (putPair o a n r) p h ∙ pair-other o a n r p i j
 
   module _ (low : 1 < o) where
-    bits-apart : (j : ℕ) → (min j 9 ≡ min k 9 → ⊥) → hasBit j (putText o k a n r) ≡ hasBit j r
+    bits-apart : (j : ℕ) → (min j 31 ≡ min k 31 → ⊥) → hasBit j (putText o k a n r) ≡ hasBit j r
     bits-apart j h = marked-bits k (putPair o a n r) j h ∙ pair-bits o a n r j low
 
     module _ (high : o + 1 < length r) where
@@ -53,7 +53,7 @@ abbrev apart : ℕ → ℕ → Bool
 apart o p = not (eqb p 1) && (not (eqb p o) && not (eqb p (o + 1)))
 
 abbrev differs : ℕ → ℕ → Bool
-differs k j = not (eqb (min j 9) (min k 9))
+differs k j = not (eqb (min j 31) (min k 31))
 
 -- two records that differ in the words and the bit of a text at most
 record Beside (o k : ℕ) (r r′ : List ℕ) : Type 0 where
@@ -68,7 +68,7 @@ put-beside o k a n r low = record {
       (eqb-false p 1 (not-true (eqb p 1) (and-left (not (eqb p 1)) (not (eqb p o) && not (eqb p (o + 1))) e)))
       (eqb-false p o (not-true (eqb p o) (and-left (not (eqb p o)) (not (eqb p (o + 1))) f)))
       (eqb-false p (o + 1) (not-true (eqb p (o + 1)) (and-right (not (eqb p o)) (not (eqb p (o + 1))) f)));
-  bit = λ j e. bits-apart o k a n r low j (eqb-false (min j 9) (min k 9) (not-true (eqb (min j 9) (min k 9)) e));
+  bit = λ j e. bits-apart o k a n r low j (eqb-false (min j 31) (min k 31) (not-true (eqb (min j 31) (min k 31)) e));
 }
 
 module _ {o k : ℕ} {r r′ : List ℕ} (b : Beside o k r r′) where

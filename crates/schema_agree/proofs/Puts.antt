@@ -33,22 +33,21 @@ put-words (suc o) (v ∷ vs) (x ∷ r) h =
     words-under o (v ∷ vs) x r ∙ ap (λ (l : List ℕ). x ∷ l) (put-words o (v ∷ vs) r (omega arith))
     ∙ sym (ap (λ (n : ℕ). x ∷ (take o r ++ ((v ∷ vs) ++ drop n (x ∷ r)))) e)
 
--- the masks go up to bit 9
-pub put-bit : (k : ℕ) (r : List ℕ) → k ≤ 9 → marked k r ≡ withBit k r
+pub put-bit : (k : ℕ) (r : List ℕ) → k ≤ 31 → marked k r ≡ withBit k r
 unfolding marked
 put-bit k r h =
-    let e : min k 9 ≡ k = min-eq-left h in
+    let e : min k 31 ≡ k = min-eq-left h in
     ap (λ (n : ℕ). cond (eqb (getD r 1 0 / 2 ^ n % 2) 1) r (set r 1 (getD r 1 0 + 2 ^ n))) e
 
 -- ---- one law for each form
 module _ (r : List ℕ) (whole : length r ≡ 32) where
-  pub text-put : (o k start n : ℕ) → k ≤ 9 → o ≤ 30 → putText o k start n r ≡ withBit k (splice o (wordsOf text (record { start = start; size = n })) r)
+  pub text-put : (o k start n : ℕ) → k ≤ 31 → o ≤ 30 → putText o k start n r ≡ withBit k (splice o (wordsOf text (record { start = start; size = n })) r)
   text-put o k start n h l = ap (marked k) (put-words o (start ∷ n ∷ []) r (omega arith)) ∙ put-bit k (splice o (start ∷ n ∷ []) r) h
 
   pub count-put : (o n : ℕ) → o ≤ 30 → putCount o n r ≡ splice o (wordsOf number n) r
   count-put o n l = put-words o (wordsOf number n) r (omega arith)
 
-  pub number-put : (o k n : ℕ) → k ≤ 9 → o ≤ 30 → marked k (putCount o n r) ≡ withBit k (splice o (wordsOf number n) r)
+  pub number-put : (o k n : ℕ) → k ≤ 31 → o ≤ 30 → marked k (putCount o n r) ≡ withBit k (splice o (wordsOf number n) r)
   number-put o k n h l = ap (marked k) (count-put o n l) ∙ put-bit k (splice o (wordsOf number n) r) h
 
   pub uuid-put : (w : Words) → putUuid w r ≡ withBit 1 (splice 4 (wordsOf uuid w) r)

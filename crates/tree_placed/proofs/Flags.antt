@@ -42,7 +42,7 @@ pub unmarked-anew : (k : ℕ) (r : List ℕ) → hasBit k r ≡ true → unmarke
 unfolding unmarked
 unmarked-anew k r e = rw e refl
 
-module _ (κ k : ℕ) (bs : List Bool) (ws : List ℕ) (h : k < length bs) (s : k ≤ 9) where
+module _ (κ k : ℕ) (bs : List Bool) (ws : List ℕ) (h : k < length bs) (s : k ≤ 31) where
   bit : hasBit k (κ ∷ flagsOf bs ∷ ws) ≡ getD bs k false
   bit = ap (λ (m : ℕ). eqb (flagsOf bs / m % 2) 1) (mask-power k s) ∙ bit-flag k bs
 

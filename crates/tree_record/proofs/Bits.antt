@@ -1,14 +1,12 @@
 -- A bit that isn't set is set by a sum, which changes no other bit and has no carry. Assumes nothing.
-use Prim.Native.Nat.{ℕ, zero, suc, _+_, _-_, _*_, _/_, _%_, _^_, min, _≤_, _<_}
+use Prim.Native.Nat.{ℕ, suc, _+_, _-_, _*_, _/_, _%_, _^_, min, _≤_, _<_}
 use mathlib.Core.Path.{_≡_, refl, sym, ap, subst, _∙_}
 use mathlib.Core.Bool.{Bool, true, false}
-use mathlib.Core.List.{List, [], _∷_}
 use native.Mathlib.Omega.{arith}
-use native.Mathlib.Nat.{mul-one, one-mul, mul-comm, mul-assoc, pow-succ', min-eq-left, add-div-right, div-div-eq-div-mul, div-lt-iff-lt-mul, add-mul-div-left, add-mul-mod-self-left}
+use native.Mathlib.Nat.{one-mul, mul-comm, mul-assoc, min-eq-left, add-div-right, div-div-eq-div-mul, div-lt-iff-lt-mul, add-mul-div-left, add-mul-mod-self-left}
 use borrow.Author.Tests.{leb-true, leb-false}
-use lib.Dec.{leb}
-use lib.ListN.{getD}
-use lib.Pow.{pow-add, pow-pos}
+use lib.Dec.{leb, lit<}
+use lib.Pow.{pow-add, pow-pos, shl-exact}
 use Rattle.tree_record.specs.Record.{maskOf}
 
 -- a higher power of two by a lower one
@@ -63,22 +61,12 @@ module _ (n k : ℕ) (unset : n / 2 ^ k % 2 ≡ 1 → ⊥) where
       let e = higher-power k j l in
       subst (λ (z : ℕ). n + 2 ^ k < z) (sym e) (no-carry n (2 ^ k) (pow-pos k) unset (2 ^ (j - suc k)) (subst (λ (z : ℕ). n < z) e h))
 
--- the n powers of two from x on
-abbrev pub powers : ℕ → ℕ → List ℕ
-powers zero x = []
-powers (suc n) x = x ∷ powers n (x * 2)
-
-power-at : (n x k : ℕ) → k < n → getD (powers n x) k 0 ≡ x * 2 ^ k
-power-at zero x k h = absurd (omega arith)
-power-at (suc n) x zero h = sym (mul-one x)
-power-at (suc n) x (suc k) h = power-at n (x * 2) k (omega arith) ∙ mul-assoc x 2 (2 ^ k) ∙ ap (λ (z : ℕ). x * z) (sym (pow-succ' 2 k))
-
--- the table of masks
-pub mask-power : (k : ℕ) → k ≤ 9 → maskOf k ≡ 2 ^ k
+-- the code's masks
+pub mask-power : (k : ℕ) → k ≤ 31 → maskOf k ≡ 2 ^ k
 mask-power k h = ap (λ (z : ℕ). 2 ^ z) (min-eq-left h)
 
-pub mask-past : (k : ℕ) → 9 < k → 512 ≡ maskOf k
-mask-past k h = let e : 9 ≡ min k 9 = omega arith in ap (λ (z : ℕ). 2 ^ z) e
+pub mask-past : (k : ℕ) → 31 < k → 2147483648 ≡ maskOf k
+mask-past k h = let e : 31 ≡ min k 31 = omega arith in ap (λ (z : ℕ). 2 ^ z) e
 
-pub mask-at : (k : ℕ) → k ≤ 9 → getD (powers 10 1) k 0 ≡ maskOf k
-mask-at k h = power-at 10 1 k (omega arith) ∙ one-mul (2 ^ k) ∙ sym (mask-power k h)
+pub mask-at : (k : ℕ) → k ≤ 31 → (1 * 2 ^ k) % 2 ^ 32 ≡ maskOf k
+mask-at k h = shl-exact 1 k 32 (lit< tt) (omega arith) ∙ one-mul (2 ^ k) ∙ sym (mask-power k h)

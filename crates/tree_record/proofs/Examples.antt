@@ -20,6 +20,14 @@ flaky-set = refl
 next-unset : hasBit 8 (6 ∷ 512 ∷ []) ≡ false
 next-unset = refl
 
+-- bits that no field has yet are bits of their own, up to the word's last
+next-free : hasBit 10 (2 ∷ 512 ∷ []) ≡ false
+next-free = refl
+
+last-set : marked 31 (2 ∷ 512 ∷ []) ≡ 2 ∷ 2147484160 ∷ []
+unfolding marked
+last-set = refl
+
 -- start 1, length 2
 text-cut : textAt (97 ∷ 98 ∷ 99 ∷ 100 ∷ []) (3 ∷ 1 ∷ 1 ∷ 2 ∷ []) 2 ≡ 98 ∷ 99 ∷ []
 text-cut = refl

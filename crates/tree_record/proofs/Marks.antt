@@ -43,16 +43,16 @@ module _ (k : ℕ) (r : List ℕ) where
   pub marked-bit : 1 < length r → hasBit k (marked k r) ≡ true
   marked-bit h = by-cases (λ x. hasBit k x ≡ true) (λ e. e) λ e.
       ap (λ (n : ℕ). eqb (n / maskOf k % 2) 1) (field-same r 1 (getD r 1 0 + maskOf k) h)
-      ∙ eq-eqb ((getD r 1 0 + maskOf k) / maskOf k % 2) 1 (bit-set (getD r 1 0) (min k 9) (eqb-false (getD r 1 0 / maskOf k % 2) 1 e))
+      ∙ eq-eqb ((getD r 1 0 + maskOf k) / maskOf k % 2) 1 (bit-set (getD r 1 0) (min k 31) (eqb-false (getD r 1 0 / maskOf k % 2) 1 e))
 
   -- and no other bit
-  pub marked-bits : (j : ℕ) → (min j 9 ≡ min k 9 → ⊥) → hasBit j (marked k r) ≡ hasBit j r
+  pub marked-bits : (j : ℕ) → (min j 31 ≡ min k 31 → ⊥) → hasBit j (marked k r) ≡ hasBit j r
   marked-bits j h = by-cases (λ x. hasBit j x ≡ hasBit j r) (λ _. refl) (λ e. go e (ltb 1 (length r)) refl)
     where
       go : hasBit k r ≡ false → (t : Bool) → ltb 1 (length r) ≡ t → hasBit j (set r 1 (getD r 1 0 + maskOf k)) ≡ hasBit j r
       go e true q =
           ap (λ (n : ℕ). eqb (n / maskOf j % 2) 1) (field-same r 1 (getD r 1 0 + maskOf k) (ltb-true 1 (length r) q))
-          ∙ ap (λ (n : ℕ). eqb n 1) (bit-other (getD r 1 0) (min k 9) (eqb-false (getD r 1 0 / maskOf k % 2) 1 e) (min j 9) h)
+          ∙ ap (λ (n : ℕ). eqb n 1) (bit-other (getD r 1 0) (min k 31) (eqb-false (getD r 1 0 / maskOf k % 2) 1 e) (min j 31) h)
       go e false q = ap (hasBit j) (set-out r 1 (getD r 1 0 + maskOf k) (ltb-false 1 (length r) q))
 
   -- in a part, just the record at its front
@@ -84,7 +84,7 @@ module _ (k : ℕ) (r : List ℕ) (bits mask : ℕ) (b : bits ≡ getD r 1 0) (m
   pub mark-fits : hasBit k r ≡ false → bits < 2 ^ 32 → bits + mask < 2 ^ 32
   mark-fits e h =
       let l : getD r 1 0 < 2 ^ 32 = omega arith in
-      let f : getD r 1 0 + maskOf k < 2 ^ 32 = bit-fits (getD r 1 0) (min k 9) (eqb-false (getD r 1 0 / maskOf k % 2) 1 e) 32 (omega arith) l in
+      let f : getD r 1 0 + maskOf k < 2 ^ 32 = bit-fits (getD r 1 0) (min k 31) (eqb-false (getD r 1 0 / maskOf k % 2) 1 e) 32 (omega arith) l in
       omega arith
 
   pub mark-put : hasBit k r ≡ false → set r 1 (bits + mask) ≡ marked k r

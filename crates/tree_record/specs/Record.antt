@@ -14,9 +14,9 @@ kindOf r = getD r word.kind 0
 abbrev pub live : List ℕ → Bool
 live r = ltb (kindOf r) kind.dead
 
--- Word 1 holds the presence bits: the value of bit k from 0 to 9, the last; a higher k counts as 9
+-- Word 1 holds the presence bits: the value of bit k from 0 to 31, the word's last; a higher k counts as 31
 abbrev pub maskOf : ℕ → ℕ
-maskOf k = 2 ^ min k 9
+maskOf k = 2 ^ min k 31
 
 -- the presence bit k is set
 abbrev pub hasBit : ℕ → List ℕ → Bool

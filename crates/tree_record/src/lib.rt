@@ -28,17 +28,14 @@ pub fn put_field(words: &mut [u32], o: usize, v: u32)
     words[o] = v;
 }
 
-// The values of the ten presence bits.
-const MASKS: [u32; 10] = [1, 2, 4, 8, 16, 32, 64, 128, 256, 512];
-
-// A higher k counts as 9.
+// The value of bit k; a higher k counts as 31.
 fn mask_of(k: u32) -> u32
     ensures { λ r. ⌜ r ≡ maskOf k ⌝ }
 {
-    if 9 < k {
-        return 512;
+    if 31 < k {
+        return 2147483648;
     }
-    MASKS[k as usize]
+    1u32 << k
 }
 
 // Whether the presence bit k is set.

@@ -23,7 +23,7 @@ use Rattle.tree_report.proofs.EncodeText.{Standing, text-read, text-goo
 -- what these bits come to, of all that are set
 abbrev pub weights : List ℕ → List Bool → ℕ
 weights [] bs = 0
-weights (k ∷ ks) bs = maskOf k * cond (getD bs (min k 9) false) 1 0 + weights ks bs
+weights (k ∷ ks) bs = maskOf k * cond (getD bs (min k 31) false) 1 0 + weights ks bs
 
 weight : (b : Bool) (n : ℕ) → cond b n 0 ≡ n * cond b 1 0
 weight true n = omega arith
@@ -32,8 +32,8 @@ weight false n = omega arith
 bits-weights : (r : List ℕ) (bs : List Bool) → getD r 1 0 ≡ flagsOf bs → (ks : List ℕ) → bitsOf ks r ≡ weights ks bs
 bits-weights r bs e [] = refl
 bits-weights r bs e (k ∷ ks) =
-    let b : hasBit k r ≡ getD bs (min k 9) false = ap (λ (n : ℕ). eqb (n / maskOf k % 2) 1) e ∙ bit-flag (min k 9) bs in
-    rw (b, weight (getD bs (min k 9) false) (maskOf k), bits-weights r bs e ks) refl
+    let b : hasBit k r ≡ getD bs (min k 31) false = ap (λ (n : ℕ). eqb (n / maskOf k % 2) 1) e ∙ bit-flag (min k 31) bs in
+    rw (b, weight (getD bs (min k 31) false) (maskOf k), bits-weights r bs e ks) refl
 
 -- a record whose flags come to no more than these bits' has only these bits set
 pub only-bits : (r : List ℕ) (bs : List Bool) (ks : List ℕ) → getD r 1 0 ≡ flagsOf bs → flagsOf bs ≡ weights ks bs → onlyBits ks r ≡ true

@@ -36,7 +36,7 @@ carry b y w =
     omega arith
 
 module _ (r : List ℕ) where
-  bits-run : (k n : ℕ) → k + n ≤ 10 → bitsOf (run k n) r ≡ getD r 1 0 / 2 ^ k % 2 ^ n * 2 ^ k
+  bits-run : (k n : ℕ) → k + n ≤ 32 → bitsOf (run k n) r ≡ getD r 1 0 / 2 ^ k % 2 ^ n * 2 ^ k
   bits-run k zero h =
       let z : getD r 1 0 / 2 ^ k % 1 ≡ 0 = omega arith in
       sym (ap (λ (x : ℕ). x * 2 ^ k) z ∙ zero-mul (2 ^ k))
@@ -53,7 +53,7 @@ module _ (r : List ℕ) where
       ∙ carry (f / 2 ^ k % 2) (f / 2 ^ (k + 1) % 2 ^ n) (2 ^ k)
       ∙ ap (λ (x : ℕ). x * 2 ^ k) (sym q)
 
-  low-bits : (n : ℕ) → n ≤ 10 → ltb (getD r 1 0) (2 ^ n) ≡ eqb (getD r 1 0) (bitsOf (run 0 n) r)
+  low-bits : (n : ℕ) → n ≤ 32 → ltb (getD r 1 0) (2 ^ n) ≡ eqb (getD r 1 0) (bitsOf (run 0 n) r)
   low-bits n l = go (decLt (getD r 1 0) (2 ^ n))
     where
       e : bitsOf (run 0 n) r ≡ getD r 1 0 % 2 ^ n

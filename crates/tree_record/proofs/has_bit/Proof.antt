@@ -14,7 +14,7 @@ mask-of-requires : tie.Need-mask-of-requires
 mask-of-requires c κs = search needs
 
 div-result : tie.Need-div-result
-div-result c = omega (arith, pow-pos (min (c .before .before .before .args .k) 9), c .mask-of .ensures)
+div-result c = omega (arith, pow-pos (min (c .before .before .before .args .k) 31), c .mask-of .ensures)
 
 returns : tie.Need-returns
 returns c =

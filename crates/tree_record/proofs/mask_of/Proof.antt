@@ -6,14 +6,11 @@ use Rattle.tree_record.proofs.mask_of.Tie as tie
 returns : tie.Need-returns
 returns c = mask-past _ (c .if1 .taken)
 
-mul-result : tie.Need-mul-result
-mul-result c = search needs
-
-array-read-result : tie.Need-array-read-result
-array-read-result c = search needs
+shl-result : tie.Need-shl-result
+shl-result c = search needs
 
 returns-2 : tie.Need-returns-2
 returns-2 c = mask-at _ (c .if1 .left)
 
 pub mask-of-spec : {M : Type 1} → statement M
-mask-of-spec = tie.close (tie.spec returns mul-result array-read-result returns-2)
+mask-of-spec = tie.close (tie.spec returns shl-result returns-2)
