@@ -8,3 +8,4 @@ pub mod Puts
 pub mod Lookups
 pub mod Fitting
 pub mod Required
+pub mod Numbers
