@@ -19,7 +19,7 @@ use Rattle.tree_counts.specs.declared.Outcome.{Outcome as Status}
 use Rattle.tree_counts.specs.declared.Outcome.the-variants as status
 use Rattle.tree_counts.specs.Counts.{withSuite, withCase}
 use Rattle.tree_report.specs.Report.{Text, Counts, TestSuite, Report}
-use Rattle.tree_report.specs.Encode.{Row, every, fitsRow, caseRow, statusRows, suiteRow, rowsOf}
+use Rattle.tree_report.specs.inside.Cells.{Row, every, fitsRow, caseRow, statusRows, suiteRow, rowsOf}
 use Rattle.tree_report.proofs.EncodeLists.{both}
 use Rattle.tree_placed.specs.inside.Placed.{Placed, rowsIn}
 use Rattle.tree_placed.specs.inside.Changed.{blankRow, blankPlaced, firstText}

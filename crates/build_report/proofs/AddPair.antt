@@ -17,7 +17,7 @@ use Rattle.text_filter.specs.Filter.{filtered}
 use Rattle.text_filter.proofs.Filtering.{utf8-filtered, unfiltered-filtered}
 use Rattle.tree_put.specs.Put.{putPair, putText}
 use Rattle.tree_report.specs.Report.{Pair, TestCase, TestSuite, Report}
-use Rattle.tree_report.specs.Encode.{Row, written, pairRow, fitsRow}
+use Rattle.tree_report.specs.inside.Cells.{Row, written, pairRow, fitsRow}
 use Rattle.tree_placed.specs.inside.Placed.{StandsAt}
 use Rattle.tree_placed.proofs.Growing.{text-new, stands-more}
 use Rattle.build_draft.specs.declared.Builder.{Builder}

@@ -12,7 +12,7 @@ use Rattle.text_filter.specs.Filter.{filtered, unfiltered}
 use Rattle.text_filter.proofs.Filtering.{utf8-filtered, unfiltered-filtered}
 use Rattle.tree_record.specs.Kinds as kind
 use Rattle.tree_report.specs.Report.{Text, Report}
-use Rattle.tree_report.specs.Encode.{fitsRow, suiteRow}
+use Rattle.tree_report.specs.inside.Cells.{fitsRow, suiteRow}
 use Rattle.tree_report.proofs.EncodeLists.{both, done, more, each-append}
 use Rattle.tree_placed.specs.inside.Placed.{Placed, recordOf, recordsIn}
 use Rattle.tree_placed.specs.inside.Changed.{blankPlaces, blankPlaced, atFirst, firstText}

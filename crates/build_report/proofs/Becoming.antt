@@ -11,7 +11,7 @@ use Rattle.uuid.specs.declared.Words.{Words}
 use Rattle.tree_record.specs.Record.{marked, unmarked}
 use Rattle.tree_put.specs.Put.{putText, putCount, putUuid, putMoment, putTime}
 use Rattle.tree_report.specs.Report.{Text}
-use Rattle.tree_report.specs.Encode.{written, isGiven, ofNumber, ofCount, uuidFront, uuidBack, Row}
+use Rattle.tree_report.specs.inside.Cells.{written, isGiven, ofNumber, ofCount, uuidFront, uuidBack, Row}
 use Rattle.tree_placed.specs.inside.Placed.{Placed, recordOf, StandsAt, InTexts}
 use Rattle.tree_placed.specs.inside.Changed.{withFirst, withOut, withErr, withMiddle, withTimestamp, withTime, withSecond, withThird, withFourth}
 use Rattle.tree_placed.specs.inside.Changed.{withFifth, withSixth, withFlaky, onRow, firstText, outText, errText, secondText, thirdText, fourthText}

@@ -9,7 +9,7 @@ use native.Mathlib.Omega.{arith}
 use borrow.Author.Tests.{leb-true, le-leb}
 use lib.Dec.{leb}
 use Rattle.tree_report.specs.Report.{Counts}
-use Rattle.tree_report.specs.Encode.{Cell, firstWord, secondWord, lowWord, highWord, ofNumber, ofCount, isGiven, fitsCell, fitsRow, presence, Row}
+use Rattle.tree_report.specs.inside.Cells.{Cell, firstWord, secondWord, lowWord, highWord, ofNumber, ofCount, isGiven, fitsCell, fitsRow, presence, Row}
 use Rattle.tree_report.proofs.EncodeCells.{bit-flag}
 use Rattle.tree_report.proofs.EncodeLists.{both, and-left, and-right}
 use Rattle.tree_placed.specs.inside.Placed.{Placed, recordOf, InTexts}

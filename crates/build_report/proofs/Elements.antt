@@ -10,7 +10,7 @@ use Rattle.refusal.specs.Refusal.{nowhere}
 use Rattle.tree_record.specs.Kinds as kind
 use Rattle.tree_counts.specs.declared.Outcome.{Outcome}
 use Rattle.tree_report.specs.Report.{Text, TestCase, TestSuite, Report}
-use Rattle.tree_report.specs.Encode.{Row, pairRow, statusRows, caseRow, caseRows, rowsOfEach, suiteRow, suiteRows, reportRow, rowsOf}
+use Rattle.tree_report.specs.inside.Cells.{Row, pairRow, statusRows, caseRow, caseRows, rowsOfEach, suiteRow, suiteRows, reportRow, rowsOf}
 use Rattle.build_draft.specs.declared.Builder.{Builder}
 use Rattle.build_report.specs.Operations.{lastIn, hasMain, newSuite, newCase, newStatus, withSuites, withCases, onSuite, sum, oneMore, addTestCase}
 use Rattle.build_report.specs.Stands.{allButLast, suiteMark, caseMark, mainMark, Marked}

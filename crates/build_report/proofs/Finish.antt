@@ -7,7 +7,7 @@ use Rattle.refusal.specs.Refusal.{nowhere, accepted}
 use Rattle.refusal.specs.declared.Cause.the-variants as cause
 use Rattle.tree_record.specs.Kinds as kind
 use Rattle.tree_report.specs.Report.{Report}
-use Rattle.tree_report.specs.Encode.{reportRow}
+use Rattle.tree_report.specs.inside.Cells.{reportRow}
 use Rattle.build_draft.specs.declared.Builder.{Builder}
 use Rattle.build_draft.specs.Draft.{isOf, withBuilder}
 use Rattle.build_draft.specs.Calls as call

@@ -11,7 +11,7 @@ use Rattle.timestamp.specs.declared.Moment.{Moment}
 use Rattle.utf8.specs.Utf8.{utf8}
 use Rattle.text_filter.specs.Filter.{unfiltered}
 use Rattle.tree_report.specs.Report.{Text, Duration}
-use Rattle.tree_report.specs.Encode.{Cell, written, lowWord, highWord, ofNumber, ofCount, Row, every, fitsCell, fitsMoment, fitsTime, fitsRow}
+use Rattle.tree_report.specs.inside.Cells.{Cell, written, lowWord, highWord, ofNumber, ofCount, Row, every, fitsCell, fitsMoment, fitsTime, fitsRow}
 use Rattle.tree_report.proofs.EncodeLists.{both, and-left, and-right}
 use Rattle.tree_placed.specs.inside.Changed.{withFirst, withOut, withErr, withMiddle, withTimestamp, withTime, withSecond, withThird, withFourth, withFifth, withSixth}
 use Rattle.build_draft.specs.declared.TextField.{TextField}

@@ -4,7 +4,7 @@ use mathlib.Core.List.{List, [], _∷_, _++_, append-assoc, append-nil}
 use mathlib.Core.Option.{none, some}
 use mathlib.Core.Path.{_≡_, refl, sym, ap, _∙_}
 use native.Mathlib.Omega.{arith}
-use Rattle.tree_report.specs.Encode.{Row, rowsOfEach}
+use Rattle.tree_report.specs.inside.Cells.{Row, rowsOfEach}
 use Rattle.build_report.specs.Operations.{onLast, lastIn}
 use Rattle.build_report.specs.Stands.{allButLast}
 

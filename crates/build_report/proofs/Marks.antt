@@ -7,7 +7,7 @@ use mathlib.Core.Path.{_≡_, refl, sym, ap, _∙_}
 use lib.ListN.{length}
 use Rattle.refusal.specs.Refusal.{nowhere}
 use Rattle.tree_report.specs.Report.{TestCaseStatus, success, nonSuccess, skipped, TestCase, TestSuite, Report, Reason, TestRerun, FlakyOrRerun}
-use Rattle.tree_report.specs.Encode.{rowsOfEach, caseRows, suiteRows}
+use Rattle.tree_report.specs.inside.Cells.{rowsOfEach, caseRows, suiteRows}
 use Rattle.build_draft.specs.declared.Builder.{Builder}
 use Rattle.build_report.specs.Operations.{onLast, lastIn, openCase, hasMain, withCases, withStatus, onSuite, onCase, onStatus, onReason, onRun, withRun, withFamily}
 use Rattle.build_report.specs.Stands.{allButLast, suiteMark, caseMark, mainMark, suiteMarkOf, caseMarkOf, mainMarkOf, Marked}

@@ -13,7 +13,7 @@ use Rattle.utf8.specs.Utf8.{utf8}
 use Rattle.text_filter.specs.Filter.{unfiltered}
 use Rattle.tree_put.specs.Put.{putText}
 use Rattle.tree_report.specs.Report.{Text}
-use Rattle.tree_report.specs.Encode.{Row, written, every, fitsRow}
+use Rattle.tree_report.specs.inside.Cells.{Row, written, every, fitsRow}
 use Rattle.tree_report.proofs.EncodeLists.{Each, done}
 use Rattle.tree_placed.specs.inside.Placed.{Placed, recordOf, recordsIn, StandsAt, InTexts}
 use Rattle.tree_placed.specs.inside.Changed.{firstText}

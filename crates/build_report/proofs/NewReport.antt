@@ -16,7 +16,7 @@ use Rattle.text_filter.proofs.Filtering.{utf8-filtered, unfiltered-filtered}
 use Rattle.tree_record.specs.Kinds as kind
 use Rattle.tree_put.specs.Put.{putText}
 use Rattle.tree_report.specs.Report.{Text}
-use Rattle.tree_report.specs.Encode.{Row, written, fitsRow, reportRow}
+use Rattle.tree_report.specs.inside.Cells.{Row, written, fitsRow, reportRow}
 use Rattle.tree_report.proofs.EncodeLists.{both, done, more}
 use Rattle.tree_placed.specs.inside.Placed.{Placed, recordOf, recordsIn}
 use Rattle.tree_placed.specs.inside.Changed.{blankPlaces, blankPlaced, withFirst}

@@ -9,7 +9,7 @@ use lib.Dec.{ltb}
 use lib.ListN.{length, length-map}
 use Rattle.names.specs.Names.{sameBytes}
 use Rattle.tree_report.specs.Report.{Text, Pair}
-use Rattle.tree_report.specs.Encode.{Row, pairRow}
+use Rattle.tree_report.specs.inside.Cells.{Row, pairRow}
 use Rattle.tree_placed.specs.inside.Placed.{Placed, rowsIn}
 use Rattle.build_draft.specs.declared.Builder.{Builder}
 use Rattle.build_draft.specs.Parts.{keyPlace}

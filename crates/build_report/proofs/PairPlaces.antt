@@ -8,7 +8,7 @@ use native.Mathlib.Omega.{arith}
 use lib.ListN.{length, length-append}
 use Rattle.tree_record.specs.Kinds as kind
 use Rattle.tree_report.specs.Report.{Pair, NonSuccessKind, failure, error, FlakyOrRerun, flaky, rerun, TestRerun, TestCaseStatus, success, nonSuccess, skipped, TestCase, TestSuite, Report}
-use Rattle.tree_report.specs.Encode.{Row, pairRow, mainRow, kindOfMain, runRow, kindOfRun, isFlakyAlone, statusRows, caseRow, caseRows, rowsOfEach, suiteRow, suiteRows, reportRow, rowsOf}
+use Rattle.tree_report.specs.inside.Cells.{Row, pairRow, mainRow, kindOfMain, runRow, kindOfRun, isFlakyAlone, statusRows, caseRow, caseRows, rowsOfEach, suiteRow, suiteRows, reportRow, rowsOf}
 use Rattle.build_draft.specs.declared.Holder.{Holder}
 use Rattle.build_draft.specs.declared.Holder.the-variants as holder
 use Rattle.build_draft.specs.Parts.{isMainKind, mayStandBehind}

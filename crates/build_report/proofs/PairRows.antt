@@ -8,7 +8,7 @@ use native.Mathlib.Omega.{arith}
 use lib.ListN.{length, length-append}
 use Rattle.tree_record.specs.Kinds as kind
 use Rattle.tree_report.specs.Report.{Pair, TestCaseStatus, success, nonSuccess, skipped, TestCase, TestSuite, Report}
-use Rattle.tree_report.specs.Encode.{Row, pairRow, statusRows, caseRow, suiteRow, rowsOf}
+use Rattle.tree_report.specs.inside.Cells.{Row, pairRow, statusRows, caseRow, suiteRow, rowsOf}
 use Rattle.tree_report.proofs.EncodeLists.{and-left, and-right}
 use Rattle.build_draft.specs.declared.Builder.{Builder}
 use Rattle.build_draft.specs.declared.Holder.{Holder}

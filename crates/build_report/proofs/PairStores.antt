@@ -11,7 +11,7 @@ use Rattle.utf8.specs.Utf8.{utf8}
 use Rattle.text_filter.specs.Filter.{unfiltered}
 use Rattle.tree_put.specs.Put.{putPair, putText}
 use Rattle.tree_report.specs.Report.{Text, Pair, Report}
-use Rattle.tree_report.specs.Encode.{written, isGiven, isSome, flagsOf, Row, pairRow, every, fitsRow, rowsOf}
+use Rattle.tree_report.specs.inside.Cells.{written, isGiven, isSome, flagsOf, Row, pairRow, every, fitsRow, rowsOf}
 use Rattle.tree_report.proofs.EncodeLists.{both}
 use Rattle.tree_placed.specs.inside.Placed.{Placed, recordOf, rowsIn, StandsAt, InTexts}
 use Rattle.tree_placed.specs.inside.Changed.{blankPlaced, withOut, outText}

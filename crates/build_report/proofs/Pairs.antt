@@ -9,7 +9,7 @@ use lib.ListN.{length, length-append}
 use Rattle.refusal.specs.Refusal.{nowhere}
 use Rattle.tree_record.specs.Kinds as kind
 use Rattle.tree_report.specs.Report.{Pair, TestCase, TestSuite, Report}
-use Rattle.tree_report.specs.Encode.{Row, pairRow, statusRows, caseRow, caseRows, rowsOfEach, suiteRow, rowsOf}
+use Rattle.tree_report.specs.inside.Cells.{Row, pairRow, statusRows, caseRow, caseRows, rowsOfEach, suiteRow, rowsOf}
 use Rattle.build_draft.specs.declared.Builder.{Builder}
 use Rattle.build_draft.specs.declared.Holder.the-variants as holder
 use Rattle.build_report.specs.Operations.{lastIn, hasMain, onSuite, onCase, insert, suitePairs, casePairs, addProperty, addExtra}

@@ -10,7 +10,7 @@ use lib.ListN.{length, length-append}
 use Rattle.refusal.specs.Refusal.{nowhere}
 use Rattle.tree_record.specs.Kinds as kind
 use Rattle.tree_report.specs.Report.{TestCase, TestSuite, Report}
-use Rattle.tree_report.specs.Encode.{Row, pairRow, statusRows, caseRow, caseRows, rowsOfEach, suiteRow, suiteRows, reportRow, rowsOf}
+use Rattle.tree_report.specs.inside.Cells.{Row, pairRow, statusRows, caseRow, caseRows, rowsOfEach, suiteRow, suiteRows, reportRow, rowsOf}
 use Rattle.build_draft.specs.declared.Builder.{Builder}
 use Rattle.build_draft.specs.declared.Element.{Element}
 use Rattle.build_draft.specs.declared.Element.the-variants as element

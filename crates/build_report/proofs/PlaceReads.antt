@@ -8,7 +8,7 @@ use native.Mathlib.Omega.{arith}
 use lib.ListN.{length, length-append}
 use Rattle.tree_record.specs.Kinds as kind
 use Rattle.tree_report.specs.Report.{FlakyOrRerun, flaky, TestRerun, TestCaseStatus, success, nonSuccess, skipped, TestCase, TestSuite, Report}
-use Rattle.tree_report.specs.Encode.{Row, pairRow, kindOfMain, runRow, mainRow, isFlakyAlone, statusRows, caseRow, caseRows, rowsOfEach, suiteRow, suiteRows, reportRow, rowsOf}
+use Rattle.tree_report.specs.inside.Cells.{Row, pairRow, kindOfMain, runRow, mainRow, isFlakyAlone, statusRows, caseRow, caseRows, rowsOfEach, suiteRow, suiteRows, reportRow, rowsOf}
 use Rattle.build_report.specs.Operations.{lastIn, hasMain, runsIn, Target, main, run}
 use Rattle.build_report.specs.Stands.{allButLast, suiteMark, caseMark, mainMark}
 use Rattle.build_report.proofs.Openings.{beforeSuite, upToCase, upToStatus, length-before-suite, length-up-to-case, length-up-to-status, rows-suite, rows-case, rows-status}

@@ -8,7 +8,7 @@ use lib.ListN.{length}
 use Rattle.refusal.specs.Refusal.{nowhere}
 use Rattle.tree_record.specs.Kinds as kind
 use Rattle.tree_report.specs.Report.{Pair, TestRerun, TestCase, TestSuite, Report}
-use Rattle.tree_report.specs.Encode.{Row, pairRow, rowsOf}
+use Rattle.tree_report.specs.inside.Cells.{Row, pairRow, rowsOf}
 use Rattle.build_draft.specs.declared.TextField.{TextField}
 use Rattle.build_draft.specs.Parts.{hasText, hasTimes}
 use Rattle.build_report.specs.Operations.{lastIn, hasMain, runsIn, Target, report, suite, case, main, run, nothing, kindOfTarget}

@@ -9,7 +9,7 @@ use lib.Dec.{eqb}
 use lib.ListN.{length, length-append}
 use Rattle.tree_record.specs.Kinds as kind
 use Rattle.tree_report.specs.Report.{Pair, NonSuccessKind, failure, error, FlakyOrRerun, flaky, rerun, TestCaseStatus, success, nonSuccess, skipped, Report}
-use Rattle.tree_report.specs.Encode.{Row, pairRow, kindOfMain, kindOfRun, statusRows, rowsOf}
+use Rattle.tree_report.specs.inside.Cells.{Row, pairRow, kindOfMain, kindOfRun, statusRows, rowsOf}
 use Rattle.build_draft.specs.declared.TextField.{TextField}
 use Rattle.build_draft.specs.declared.TextField.the-variants as field
 use Rattle.build_draft.specs.Parts.{isStatus, isRun, hasText}

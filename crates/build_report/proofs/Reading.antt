@@ -14,7 +14,7 @@ use Rattle.utf8.specs.Characters.{joined}
 use Rattle.tree_record.specs.Record.{hasBit, textAt}
 use Rattle.tree_record.proofs.Bits.{mask-power}
 use Rattle.tree_report.specs.Report.{Text}
-use Rattle.tree_report.specs.Encode.{Cell, written, firstWord, secondWord, presence}
+use Rattle.tree_report.specs.inside.Cells.{Cell, written, firstWord, secondWord, presence}
 use Rattle.tree_report.proofs.EncodeCells.{bit-flag}
 use Rattle.tree_report.proofs.EncodeLists.{Each, done, more, each-append}
 use Rattle.tree_placed.specs.inside.Placed.{Placed, recordOf, recordsIn, StandsAt, InTexts}

@@ -11,7 +11,7 @@ use lib.ListN.{length, drop, length-append, length-map}
 use Rattle.refusal.specs.Refusal.{nowhere}
 use Rattle.tree_record.specs.Record.{hasBit}
 use Rattle.tree_report.specs.Report.{NonSuccessKind, failure, error, FlakyOrRerun, flaky, rerun, TestRerun, Reason, TestCaseStatus, success, nonSuccess, skipped, TestCase, TestSuite, Report}
-use Rattle.tree_report.specs.Encode.{Row, mainRow, kindOfMain, kindOfRun, runRow, isFlakyAlone, statusRows, rowsOf}
+use Rattle.tree_report.specs.inside.Cells.{Row, mainRow, kindOfMain, kindOfRun, runRow, isFlakyAlone, statusRows, rowsOf}
 use Rattle.build_draft.specs.declared.Builder.{Builder}
 use Rattle.build_draft.specs.declared.FlakyOrRerun.{FlakyOrRerun as Family}
 use Rattle.build_draft.specs.declared.FlakyOrRerun.the-variants as families

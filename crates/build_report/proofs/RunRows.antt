@@ -5,7 +5,7 @@ use mathlib.Core.List.{List, [], _∷_, _++_, map, append-assoc, map-append}
 use mathlib.Core.Option.{some}
 use mathlib.Core.Path.{_≡_, refl, sym, ap, _∙_}
 use Rattle.tree_report.specs.Report.{NonSuccessKind, failure, error, FlakyOrRerun, flaky, rerun, TestRerun, Reason, TestCaseStatus, success, nonSuccess, TestCase, TestSuite, Report}
-use Rattle.tree_report.specs.Encode.{Row, mainRow, kindOfMain, kindOfRun, runRow, isFlakyAlone, statusRows, rowsOf}
+use Rattle.tree_report.specs.inside.Cells.{Row, mainRow, kindOfMain, kindOfRun, runRow, isFlakyAlone, statusRows, rowsOf}
 use Rattle.tree_placed.specs.inside.Changed.{withKind}
 use Rattle.build_draft.specs.declared.NonSuccessKind.{NonSuccessKind as KindOfRun}
 use Rattle.build_draft.specs.declared.NonSuccessKind.the-variants as kinds

@@ -9,7 +9,7 @@ use lib.Dec.{ltb}
 use lib.ListN.{length, length-append, length-map}
 use Rattle.tree_record.specs.Record.{unmarked}
 use Rattle.tree_report.specs.Report.{NonSuccessKind, FlakyOrRerun, flaky, rerun, TestRerun, Reason, TestCaseStatus, success, nonSuccess, skipped, TestCase, TestSuite, Report}
-use Rattle.tree_report.specs.Encode.{Row, mainRow, kindOfMain, runRow, isFlakyAlone, statusRows, every, fitsRow, rowsOf}
+use Rattle.tree_report.specs.inside.Cells.{Row, mainRow, kindOfMain, runRow, isFlakyAlone, statusRows, every, fitsRow, rowsOf}
 use Rattle.tree_placed.specs.inside.Placed.{Placed, rowsIn, InTexts}
 use Rattle.tree_placed.specs.inside.Changed.{blankRow, blankPlaced, withKind, withFlaky}
 use Rattle.build_draft.specs.declared.Builder.{Builder}

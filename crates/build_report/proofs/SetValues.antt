@@ -12,7 +12,7 @@ use Rattle.uuid.specs.declared.Words.{Words}
 use Rattle.tree_record.specs.Kinds as kind
 use Rattle.tree_put.specs.Put.{putUuid, putMoment, putTime}
 use Rattle.tree_report.specs.Report.{Duration, TestCase, TestSuite, Report}
-use Rattle.tree_report.specs.Encode.{Row, isGiven, ofNumber, uuidFront, uuidBack, fitsRow, reportRow, rowsOfEach, suiteRows}
+use Rattle.tree_report.specs.inside.Cells.{Row, isGiven, ofNumber, uuidFront, uuidBack, fitsRow, reportRow, rowsOfEach, suiteRows}
 use Rattle.tree_report.proofs.EncodeLists.{both, and-left, and-right}
 use Rattle.tree_placed.specs.inside.Placed.{Placed, InTexts}
 use Rattle.tree_placed.specs.inside.Changed.{withMiddle, withTimestamp, withTime, withThird, withSixth}

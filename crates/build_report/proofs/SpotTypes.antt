@@ -4,7 +4,7 @@ use mathlib.Core.List.{List, _∷_, _++_}
 use mathlib.Core.Path.{_≡_}
 use lib.ListN.{length}
 use Rattle.tree_report.specs.Report.{Report}
-use Rattle.tree_report.specs.Encode.{Row, rowsOf}
+use Rattle.tree_report.specs.inside.Cells.{Row, rowsOf}
 
 -- the same rows but for the one of number i
 pub record Spot (r : Report) (i : ℕ) (row : Row) (r′ : Report) (row′ : Row) : Type 0 where

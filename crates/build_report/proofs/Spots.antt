@@ -8,7 +8,7 @@ use native.Mathlib.Omega.{arith}
 use lib.ListN.{length, length-append, length-map}
 use Rattle.tree_record.specs.Kinds as kind
 use Rattle.tree_report.specs.Report.{Pair, NonSuccessKind, FlakyOrRerun, flaky, rerun, TestRerun, Reason, TestCaseStatus, success, nonSuccess, skipped, TestCase, TestSuite, Report}
-use Rattle.tree_report.specs.Encode.{Row, pairRow, mainRow, kindOfMain, runRow, isFlakyAlone, statusRows, caseRow, caseRows, rowsOfEach, suiteRow, suiteRows, reportRow, rowsOf}
+use Rattle.tree_report.specs.inside.Cells.{Row, pairRow, mainRow, kindOfMain, runRow, isFlakyAlone, statusRows, caseRow, caseRows, rowsOfEach, suiteRow, suiteRows, reportRow, rowsOf}
 use Rattle.build_draft.specs.declared.Holder.the-variants as holder
 use Rattle.build_report.specs.Operations.{onLast, lastIn, onSuite, onCase, onStatus, onReason, onRun, withFamily, insert, suitePairs, casePairs, addExtra}
 use Rattle.build_report.specs.Stands.{allButLast, suiteMark, caseMark, mainMark}

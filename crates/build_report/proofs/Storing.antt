@@ -11,7 +11,7 @@ use Rattle.refusal.specs.Refusal.{nowhere}
 use Rattle.utf8.specs.Utf8.{utf8}
 use Rattle.text_filter.specs.Filter.{unfiltered}
 use Rattle.tree_report.specs.Report.{Report}
-use Rattle.tree_report.specs.Encode.{Row, written, every, fitsRow, rowsOf}
+use Rattle.tree_report.specs.inside.Cells.{Row, written, every, fitsRow, rowsOf}
 use Rattle.tree_report.proofs.EncodeLists.{both, and-left, and-right}
 use Rattle.tree_placed.specs.inside.Placed.{Placed, recordOf, rowsIn, StandsAt, InTexts}
 use Rattle.tree_placed.proofs.Growing.{text-new}

@@ -12,7 +12,7 @@ use Rattle.refusal.specs.declared.Cause.the-variants as cause
 use Rattle.utf8.specs.Characters.{joined}
 use Rattle.tree_record.specs.Kinds as kind
 use Rattle.tree_report.specs.Report.{Counts, TestSuite, Report}
-use Rattle.tree_report.specs.Encode.{Row, suiteRow, reportRow}
+use Rattle.tree_report.specs.inside.Cells.{Row, suiteRow, reportRow}
 use Rattle.tree_placed.specs.inside.Placed.{Placed, recordOf, recordsIn, InTexts}
 use Rattle.tree_placed.proofs.Putting.{record-length}
 use Rattle.tree_counts.specs.declared.Counts.{Counts as Numbers}

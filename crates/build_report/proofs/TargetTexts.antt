@@ -4,7 +4,7 @@ use mathlib.Core.Bool.{Bool, true, false≢true}
 use mathlib.Core.Option.{some}
 use mathlib.Core.Path.{_≡_, refl}
 use Rattle.tree_report.specs.Report.{Text, FlakyOrRerun, TestRerun, Reason, TestCase, TestSuite, Report}
-use Rattle.tree_report.specs.Encode.{mainRow, runRow}
+use Rattle.tree_report.specs.inside.Cells.{mainRow, runRow}
 use Rattle.build_draft.specs.declared.Builder.{Builder}
 use Rattle.build_draft.specs.declared.TextField.{TextField}
 use Rattle.build_draft.specs.declared.TextField.the-variants as field

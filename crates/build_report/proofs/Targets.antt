@@ -8,7 +8,7 @@ use native.Mathlib.Omega.{arith}
 use lib.ListN.{length}
 use Rattle.refusal.specs.Refusal.{nowhere}
 use Rattle.tree_report.specs.Report.{FlakyOrRerun, flaky, TestRerun, Reason, TestCaseStatus, success, nonSuccess, skipped, TestCase, TestSuite, Report}
-use Rattle.tree_report.specs.Encode.{Row, mainRow, kindOfMain, isFlakyAlone, runRow, caseRow, suiteRow, reportRow, rowsOf}
+use Rattle.tree_report.specs.inside.Cells.{Row, mainRow, kindOfMain, isFlakyAlone, runRow, caseRow, suiteRow, reportRow, rowsOf}
 use Rattle.build_draft.specs.declared.Builder.{Builder}
 use Rattle.build_draft.specs.declared.TextField.{TextField}
 use Rattle.build_draft.specs.declared.TextField.the-variants as field

@@ -8,7 +8,7 @@
 --   Ended, Finished (Stands)                                     nothing is open any more; the areas hold a finished report
 --   Comes (Stands)                                               what a call comes to: the first test that fails decides the refusal
 --   layout, reportOf (crate tree_report: Layout, ReportOf)       docs/TREE.md: whether two areas are a layout; the report that they hold
---   rowsOf (crate tree_report: Encode)                           a report's records, which are counted against the room
+--   rowsOf (crate tree_report: inside/Cells)                     a report's records, which are counted against the room
 --   Builder, Element, Holder, .. (crate build_draft, as declared)
 --                                                                the marks of a builder; what a call is for
 --   unnamedReport, newReport, .., finish (crate build_draft: Calls)
@@ -41,7 +41,7 @@ use Rattle.uuid.specs.declared.Words.{Words}
 use Rattle.tree_counts.specs.declared.Outcome.{Outcome as Status}
 use Rattle.tree_counts.specs.declared.Outcome.the-variants as outcome
 use Rattle.tree_report.specs.Report.{Text, Pair, Counts, TestCaseStatus, success, nonSuccess, skipped, TestCase, TestSuite, Report}
-use Rattle.tree_report.specs.Encode.{rowsOf}
+use Rattle.tree_report.specs.inside.Cells.{rowsOf}
 use Rattle.build_draft.specs.declared.Builder.{Builder}
 use Rattle.build_draft.specs.declared.Element.{Element}
 use Rattle.build_draft.specs.declared.Holder.{Holder}

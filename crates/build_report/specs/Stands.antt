@@ -14,7 +14,7 @@ use Rattle.text_filter.specs.Filter.{unfiltered}
 use Rattle.tree_report.specs.Report.{TestCase, TestSuite, Report}
 use Rattle.tree_report.specs.Layout.{layout}
 use Rattle.tree_report.specs.ReportOf.{reportOf}
-use Rattle.tree_report.specs.Encode.{every, fitsRow, rowsOfEach, caseRows, suiteRows, rowsOf}
+use Rattle.tree_report.specs.inside.Cells.{every, fitsRow, rowsOfEach, caseRows, suiteRows, rowsOf}
 use Rattle.tree_report.specs.inside.Each.{Each}
 use Rattle.tree_placed.specs.inside.Placed.{Placed, recordsIn, rowsIn, InTexts}
 use Rattle.build_draft.specs.declared.Builder.{Builder}

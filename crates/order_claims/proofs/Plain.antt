@@ -1,5 +1,5 @@
 -- The report that is ordered is plain and sound, so that demand 2 speaks of it. Assumes nothing.
-use Prim.Native.Nat.{ℕ, _+_, _*_, _/_, _%_, _≤_}
+use Prim.Native.Nat.{ℕ, _+_, _*_, _≤_}
 use mathlib.Core.Path.{_≡_, refl, ap, _∙_}
 use mathlib.Core.List.{List, [], _∷_, _++_, append-nil}
 use mathlib.Core.Bool.{Bool, true, not, _&&_}
@@ -13,7 +13,7 @@ use Rattle.utf8.proofs.Rules.{ascii-utf8}
 use Rattle.text_filter.specs.Filter.{unfiltered}
 use Rattle.timestamp.specs.declared.Moment.{Moment}
 use Rattle.tree_report.specs.Report.{Text, Duration, Reason, TestRerun, TestCase}
-use Rattle.tree_report.specs.Encode.{Row, every, fitsRow, lowWord, highWord, caseRows, rowsOfEach, rowsOf}
+use Rattle.tree_report.specs.Encode.{Row, every, fitsRow, caseRows, rowsOfEach, rowsOf}
 use Rattle.tree_report.proofs.EncodeLists.{both}
 use Rattle.write_report.specs.Written.{each, isEmpty}
 use Rattle.round_elements.specs.Plain.{listed, casesOf, reasonsIn, runsIn, runsOf, descriptions, outputs, times, timestamps, keysOf, bare}
@@ -129,9 +129,9 @@ module _ (o : Order) (m : o .cases ≤ mostCases) (h : stated o ≤ o .cases) wh
       (both (ap (every wholeTime) (no-times o))
       (both (ap (every wholeMoment) (no-timestamps o)) (both refl (both (keyed o) (both (ruled o) (order-fits o m h)))))))
 
--- ---- sound: texts are UTF-8 without filtered characters, counts are words
-small : (n : ℕ) → n ≤ mostCases → (leb (lowWord n) 4294967295 && leb (highWord n) 4294967295) ≡ true
-small n h = both (le-leb (n % 4294967296) 4294967295 (omega arith)) (le-leb (n / 4294967296) 4294967295 (omega arith))
+-- ---- sound: texts are UTF-8 without filtered characters, counts have 64 bits
+small : (n : ℕ) → n ≤ mostCases → leb n 18446744073709551615 ≡ true
+small n h = le-leb n 18446744073709551615 (omega arith)
 
 case-fits : (i : ℕ) (k : Kind) → every fitsRow (caseRows (caseOf i k)) ≡ true
 unfolding fitsRow

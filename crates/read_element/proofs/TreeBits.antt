@@ -7,7 +7,7 @@ use native.Mathlib.Nat.{pow-succ'}
 use native.Mathlib.Omega.{arith}
 use lib.Dec.{eqb}
 use lib.ListN.{length, getD, set}
-use Rattle.tree_report.specs.Encode.{flagsOf}
+use Rattle.tree_report.specs.inside.Cells.{flagsOf}
 use Rattle.tree_report.proofs.EncodeCells.{bit-flag}
 use Rattle.tree_record.specs.Record.{marked, hasBit}
 use Rattle.tree_record.proofs.Bits.{mask-power}

@@ -24,7 +24,7 @@ use Rattle.timestamp.proofs.Ranges.{timestamp-range}
 use Rattle.uuid.specs.Uuid.{uuidOf}
 use Rattle.refusal.specs.Refusal.{Outcome}
 use Rattle.table.specs.Event.{Attribute}
-use Rattle.tree_report.specs.Encode.{absent, valued, fitsTime}
+use Rattle.tree_report.specs.inside.Cells.{absent, valued, fitsTime}
 use Rattle.tree_report.proofs.EncodeLists.{both, Each, done, more, each-append, each-on}
 use Rattle.read_element.specs.Outcome.{Place, need, within, Rooms, fits}
 use Rattle.read_keys.specs.declared.Role.{Role}

@@ -9,7 +9,7 @@ use borrow.Author.Tests.{le-leb}
 use lib.Dec.{leb, lit≤}
 use lib.ListN.{take, drop}
 use Rattle.timestamp.specs.declared.Moment.{Moment}
-use Rattle.tree_report.specs.Encode.{Cell, absent, isGiven, firstWord, secondWord, flagsOf, fitsMoment, fitsTime}
+use Rattle.tree_report.specs.inside.Cells.{Cell, absent, isGiven, firstWord, secondWord, flagsOf, fitsMoment, fitsTime}
 use Rattle.tree_report.specs.Report.{Duration}
 use Rattle.tree_report.specs.Fields.{hasBit}
 use Rattle.tree_report.proofs.ByTable as table
@@ -17,7 +17,7 @@ use Rattle.tree_report.specs.Layout.{zeroAt, goodRecord}
 use Rattle.tree_report.specs.inside.Parts.{slot, textSlot, goodTextAt, goodCommon, goodOutputs, goodCounts, bitsFor, goodReport, goodSuite, goodCase, goodOther}
 use Rattle.tree_report.proofs.EncodeLists.{both}
 use Rattle.tree_report.proofs.EncodeCells.{bit-flag, only-bits, weights, Pairing, moment-back, time-back}
-use Rattle.tree_report.proofs.EncodeRecords.{other-record}
+use Rattle.tree_report.proofs.ByKind.{other-record}
 use Rattle.read_element.proofs.TreeSheet.{Sort, text, name, number, count, nothing, Fits, textless, placed, named, numberless, numbered, counted, empty, Middle, outputs}
 use Rattle.read_element.proofs.TreeSheet.{uuid, pair, hidden, InMiddle, two, idless, id, full-value, without, untimed, timed, Sorts, flags, rest, Sheet, sheet}
 

@@ -5,7 +5,7 @@ use mathlib.Core.List.{List}
 use mathlib.Core.Option.{none}
 use mathlib.Core.Path.{_≡_, refl, sym, _∙_}
 use lib.Dec.{eqb, leb}
-use Rattle.tree_report.specs.Encode.{Cell, absent, constant, isGiven}
+use Rattle.tree_report.specs.inside.Cells.{Cell, absent, constant, isGiven}
 use Rattle.tree_report.proofs.EncodeCells.{bit-flag}
 use Rattle.tree_record.specs.Record.{hasBit}
 use Rattle.tree_put.specs.Put.{blank}

@@ -14,7 +14,7 @@ use Rattle.utf8.proofs.Boundaries.{boundary-append, boundary-in}
 use Rattle.timestamp.specs.Timestamp.{inRange}
 use Rattle.timestamp.specs.declared.Moment.{Moment}
 use Rattle.uuid.specs.declared.Words.{Words}
-use Rattle.tree_report.specs.Encode.{Cell, absent, valued, constant, isGiven, firstWord, secondWord, isSome, momentOrZero, timeOrZero, flagsOf, fitsMoment, fitsTime}
+use Rattle.tree_report.specs.inside.Cells.{Cell, absent, valued, constant, isGiven, firstWord, secondWord, isSome, momentOrZero, timeOrZero, flagsOf, fitsMoment, fitsTime}
 use Rattle.tree_report.specs.Report.{Duration}
 use Rattle.tree_report.specs.Fields.{kindOf, hasBit}
 use Rattle.tree_report.proofs.EncodeLists.{both, and-left, and-right}

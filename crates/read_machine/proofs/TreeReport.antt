@@ -9,7 +9,7 @@ use borrow.Author.Tests.{leb-true, le-leb, eqb-true, ltb-true}
 use lib.Dec.{leb, eqb, lit≤}
 use lib.ListN.{length, getD, take, drop}
 use Rattle.utf8.specs.Characters.{boundary}
-use Rattle.tree_report.specs.Encode.{Cell, isGiven, firstWord, secondWord, flagsOf}
+use Rattle.tree_report.specs.inside.Cells.{Cell, isGiven, firstWord, secondWord, flagsOf}
 use Rattle.tree_report.specs.Fields.{kindOf, live, isSuite, isCase, isMain, isRun, hasBit, given, textAt, first, systemOut}
 use Rattle.tree_report.specs.Fields.{systemErr, second, description, stackTrace, uuid, timestamp, time, counts, assertions}
 use Rattle.tree_report.specs.Report.{failure, error, success, nonSuccess, skipped}

@@ -9,7 +9,7 @@ use Rattle.table.specs.Event.{Start, Empty, Event, Tag}
 use Rattle.tree_record.specs.Kinds as kind
 use Rattle.tree_status.specs.Status.{noStatus}
 use Rattle.tree_report.specs.Report.{Text, Pair, TestCaseStatus, TestCase}
-use Rattle.tree_report.specs.Encode.{every, fitsRow, caseRows}
+use Rattle.tree_report.specs.inside.Cells.{every, fitsRow, caseRows}
 use Rattle.read_state.specs.Control.{suite}
 use Rattle.read_machine.specs.Machine.{Machine}
 use Rattle.write_report.specs.Written.{startTag, endTag, element, caseAttributes, serializeProperties, serializeElements, serializeOutputs, serializeTestCase, numbered}

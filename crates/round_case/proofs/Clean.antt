@@ -17,7 +17,7 @@ use Rattle.text_filter.proofs.Filtering.{filtered-same}
 use Rattle.text.proofs.Putting.{both-yes}
 use Rattle.table.specs.Event.{Text as TextPiece}
 use Rattle.tree_report.specs.Report.{Text}
-use Rattle.tree_report.specs.Encode.{ofText, fitsCell, every}
+use Rattle.tree_report.specs.inside.Cells.{ofText, fitsCell, every}
 use Rattle.write_escape.specs.Escape.{escaped}
 use Rattle.write_escape.proofs.Keeping.{utf8-escaped}
 use Rattle.write_back.proofs.Escaped.{refs-escaped, decoded-escaped}

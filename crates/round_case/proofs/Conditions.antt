@@ -6,7 +6,7 @@ use mathlib.Core.Option.{Option}
 use mathlib.Core.Path.{_≡_, refl}
 use Rattle.tree_record.specs.Kinds as kind
 use Rattle.tree_report.specs.Report.{Text, FlakyOrRerun, flaky, TestRerun, Reason, TestCaseStatus, success, nonSuccess, skipped, TestCase}
-use Rattle.tree_report.specs.Encode.{Row, every, fitsRow, pairRow, mainRow, kindOfMain, runRow, isFlakyAlone, statusRows, caseRow, caseRows}
+use Rattle.tree_report.specs.inside.Cells.{Row, every, fitsRow, pairRow, mainRow, kindOfMain, runRow, isFlakyAlone, statusRows, caseRow, caseRows}
 use Rattle.tree_report.proofs.EncodeLists.{both, and-left, and-right, Each, done, more}
 use Rattle.write_report.specs.Written.{each, isEmpty}
 use Rattle.round_elements.specs.Plain.{listed, reasonsIn, runsIn, bare}

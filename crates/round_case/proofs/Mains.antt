@@ -13,7 +13,7 @@ use Rattle.table.specs.Event.{Start, Empty, End, PieceKind, Text as TextPiece, 
 use Rattle.tree_status.specs.declared.Tally.{Tally}
 use Rattle.tree_status.specs.Status.{tallied}
 use Rattle.tree_report.specs.Report.{Text, NonSuccessKind, failure, error, Reason}
-use Rattle.tree_report.specs.Encode.{ofText, fitsCell, kindOfMain}
+use Rattle.tree_report.specs.inside.Cells.{ofText, fitsCell, kindOfMain}
 use Rattle.read_state.specs.Control.{Level, case, status, at, openStatus, closeStatus, gathers}
 use Rattle.read_rules.specs.Rules.{atCase, atStatus, planAt}
 use Rattle.read_content.specs.Content.{pieceOf}

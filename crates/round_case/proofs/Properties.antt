@@ -11,7 +11,7 @@ use Rattle.table.specs.Event.{Attribute, Start, Empty, End}
 use Rattle.tree_record.specs.Kinds as kind
 use Rattle.tree_status.specs.declared.Tally.{Tally}
 use Rattle.tree_report.specs.Report.{Pair}
-use Rattle.tree_report.specs.Encode.{every, fitsRow, pairRow}
+use Rattle.tree_report.specs.inside.Cells.{every, fitsRow, pairRow}
 use Rattle.tree_report.proofs.EncodeLists.{and-left, and-right}
 use Rattle.read_state.specs.Control.{case, at, listing, pass, openList, readProperty, turn}
 use Rattle.read_rules.specs.Rules.{atCase, inList, planAt}

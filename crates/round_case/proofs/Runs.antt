@@ -14,7 +14,7 @@ use Rattle.table.specs.Event.{Attribute, Start, End, Text as TextPiece, Indent,
 use Rattle.tree_status.specs.declared.Tally.{Tally}
 use Rattle.tree_status.specs.Status.{tallied}
 use Rattle.tree_report.specs.Report.{Text, NonSuccessKind, failure, error, FlakyOrRerun, flaky, rerun, TestRerun}
-use Rattle.tree_report.specs.Encode.{kindOfRun, runRow, fitsRow}
+use Rattle.tree_report.specs.inside.Cells.{kindOfRun, runRow, fitsRow}
 use Rattle.read_state.specs.Control.{case, status, at, openStatus, closeStatus, gathers}
 use Rattle.read_rules.specs.Rules.{atCase, atStatus, planAt}
 use Rattle.read_content.specs.Content.{pieceOf}

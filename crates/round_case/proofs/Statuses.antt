@@ -5,7 +5,7 @@ use mathlib.Core.List.{List, [], _∷_}
 use mathlib.Core.Path.{_≡_}
 use Rattle.tree_status.specs.Status.{noStatus}
 use Rattle.tree_report.specs.Report.{flaky, Reason, TestCaseStatus, success, nonSuccess, skipped}
-use Rattle.tree_report.specs.Encode.{ofText, fitsCell}
+use Rattle.tree_report.specs.inside.Cells.{ofText, fitsCell}
 use Rattle.tree_report.proofs.EncodeLists.{Each}
 use Rattle.read_state.specs.Control.{case, at}
 use Rattle.read_machine.specs.Machine.{Machine}

@@ -48,7 +48,7 @@ unfolding utf8.need utf8.low utf8.high chars.encode codeFrom sameBytes keys tags
     timeText thousandthsOf floatSum add sum div ofInt round units odd size span climb trailingZeros
     isLeap monthLength stamp.places stamp.isUtc stamp.isTimestamp stamp.timestampOf stamp.inRange isUuid uuidOf
     reference.entities reference.entityChars reference.isEntity reference.entityChar reference.isCharRef reference.refAt
-    tallied ruled encode.fitsRow encode.recordAt encode.encode
+    tallied ruled encode.fitsRow encode.encode
     role.roleIn role.reportRole role.suiteRole role.caseRole role.propertyRole role.statusRole role.roleOf marked
     outcome._>>=_ outcome.there outcome.need outcome.fits
     attributes.readText attributes.newExtra attributes.readExtra attributes.byRole attributes.readAttributes attributes.complete attributes.readElement

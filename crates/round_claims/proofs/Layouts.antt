@@ -2,8 +2,8 @@
 use Prim.Native.Nat.{ℕ, zero, suc, _+_, _*_, _≤_}
 use mathlib.Core.Bool.{Bool, true, false, not, cond, _&&_}
 use mathlib.Core.List.{List, [], _∷_, _++_}
-use mathlib.Core.Option.{Option, none, some}
-use mathlib.Core.Path.{_≡_, refl, ap, _∙_}
+use mathlib.Core.Option.{none, some}
+use mathlib.Core.Path.{_≡_, refl, _∙_}
 use native.Mathlib.Omega.{arith}
 use borrow.Author.Tests.{le-leb, leb-true, not-false}
 use lib.Dec.{leb, eqb, lit≤}
@@ -11,21 +11,25 @@ use lib.ListN.{length, getD, take, drop, length-append, length-replicate}
 use Rattle.area.specs.Area.{zeros, laid}
 use Rattle.area.specs.Limits.{mostRecords, mostBytes}
 use Rattle.area.proofs.Laying.{length-laid}
-use Rattle.utf8.specs.Utf8.{utf8}
 use Rattle.utf8.specs.Characters.{joined}
 use Rattle.utf8.specs.Grammar as grammar
 use Rattle.utf8.specs.Grammar.{In, Char}
 use Rattle.utf8.proofs.Rules.{utf8-grammar}
-use Rattle.text_filter.specs.Filter.{unfiltered}
 use Rattle.calendar.specs.Calendar.{isLeap, lengths, monthLength}
-use Rattle.timestamp.specs.declared.Moment.{Moment}
 use Rattle.timestamp.proofs.Ranges.{range-facts}
-use Rattle.tree_report.specs.Report.{Duration, Report}
-use Rattle.tree_report.specs.Encode.{Cell, absent, written, valued, constant, stored, firstWord, secondWord, cellWords}
-use Rattle.tree_report.specs.Encode.{storedIn, Row, momentOrZero, timeOrZero, momentCells, timeCells, cellsOf, cellsIn}
-use Rattle.tree_report.specs.Encode.{presence, flagsOf, recordAt, recordsAt, rowsOf, encode, wordsOf, textOf, every, fitsCell, fitsMoment, fitsTime, fitsRow, fits}
+use Rattle.schema.specs.Schema as schema
+use Rattle.schema.specs.Schema.{Form, text, number, time, timestamp, uuid, flag, Presence, always, must, may, unkept, width, behind, fine}
+use Rattle.schema.specs.Records as records
+use Rattle.schema.specs.Records.{Span, Of, Held, Fields, slotWords, wordsFrom, marksFrom, flagsOf}
+use Rattle.schema.specs.Texts as texts
+use Rattle.schema.specs.Texts.{storedValue, stored, placeValue, placeSlot, placedAt, soundValue, soundSlot}
+use Rattle.schema.proofs.RecordLaws.{flags-below}
+use Rattle.tree_report.specs.Report.{Text, Report}
+use Rattle.tree_report.specs.Encode.{Row, textsOf, recordAt, storedIn, recordsAt, rowsOf, encode, wordsOf, textOf, every, fitsRow, fits}
+use Rattle.tree_report.proofs.Encode.{rows-utf8}
+use Rattle.tree_report.proofs.EncodeGood.{Known, known-rows}
 use Rattle.tree_report.proofs.EncodeKinds.{suiteKinds, report-kinds}
-use Rattle.tree_report.proofs.EncodeLists.{Each, done, more, both, and-left, and-right, each-append, every-each, stored-append, among, Kinds, missed-one}
+use Rattle.tree_report.proofs.EncodeLists.{Each, done, more, both, and-left, and-right, every-each, among, Kinds, missed-one}
 use Rattle.round_sound.specs.Words.{areWords}
 use Rattle.round_report.proofs.Parts.{every-append}
 use Rattle.round_claims.specs.Demand2.{areBytes}
@@ -71,12 +75,9 @@ text-bytes : {s : List ℕ} → grammar.Text s → areBytes s ≡ true
 text-bytes grammar.none = refl
 text-bytes (grammar.some {c} {s} h t) = every-append (λ (b : ℕ). leb b 255) c s (char-bytes h) (text-bytes t)
 
--- ---- cells that fit
-abbrev Fit : Cell → Type 0
-Fit c = fitsCell c ≡ true
-
-constants : (a b : ℕ) → a ≤ 4294967295 → b ≤ 4294967295 → Fit (constant a b)
-constants a b h k = both (le-leb a 4294967295 h) (le-leb b 4294967295 k)
+-- ---- words that fit
+abbrev isWord : ℕ → Bool
+isWord w = leb w 4294967295
 
 -- no month has more than 31 days
 month-most : (y m : ℕ) → monthLength y m ≤ 31
@@ -92,97 +93,71 @@ month-most y m = go (eqb m 2 && isLeap y)
     go true = lit≤ tt
     go false = most (0 ∷ lengths) m refl
 
-moment-cells : (m : Option Moment) → fitsMoment m ≡ true → Each Fit (momentCells (momentOrZero m))
-moment-cells none e = more refl (more refl (more refl (more refl done)))
-moment-cells (some m) e =
-    let i = range-facts m e in
-    let d = month-most (m .year) (m .month) in
-    more (constants (m .year) (m .month) (omega (arith, i .year-most)) (omega (arith, i .month-most)))
-    (more (constants (m .day) (m .hour) (omega (arith, i .day-most, d)) (omega (arith, i .hour-most)))
-    (more (constants (m .minute) (m .second) (omega (arith, i .minute-most)) (omega (arith, i .second-most)))
-    (more (constants (m .nanos) (m .offset) (omega (arith, i .nanos-below)) (omega (arith, i .offset-most))) done)))
+module _ (fill : ℕ) where
+  value-words : (t : Form) (v : Of Text t) → soundValue t v ≡ true → fill + length (storedValue t v) ≤ mostBytes → areWords (records.wordsOf t (placeValue fill t v)) ≡ true
+  value-words text v s h = both (le-leb fill 4294967295 (omega (arith, h))) (both (le-leb (length v) 4294967295 (omega (arith, h))) refl)
+  value-words number v s h =
+      let l = leb-true v 18446744073709551615 s in
+      both (le-leb (v % 4294967296) 4294967295 (omega arith)) (both (le-leb (v / 4294967296) 4294967295 (omega (arith, l))) refl)
+  value-words time v s h =
+      let a = leb-true (v .seconds) 8388607 (and-left (leb (v .seconds) 8388607) (leb (v .nanos) 999999999) s) in
+      let b = leb-true (v .nanos) 999999999 (and-right (leb (v .seconds) 8388607) (leb (v .nanos) 999999999) s) in
+      both (le-leb (v .seconds) 4294967295 (omega (arith, a))) (both (le-leb (v .nanos) 4294967295 (omega (arith, b))) refl)
+  value-words timestamp v s h =
+      let i = range-facts v s in
+      let d = month-most (v .year) (v .month) in
+      both (le-leb (v .year) 4294967295 (omega (arith, i .year-most)))
+      (both (le-leb (v .month) 4294967295 (omega (arith, i .month-most)))
+      (both (le-leb (v .day) 4294967295 (omega (arith, i .day-most, d)))
+      (both (le-leb (v .hour) 4294967295 (omega (arith, i .hour-most)))
+      (both (le-leb (v .minute) 4294967295 (omega (arith, i .minute-most)))
+      (both (le-leb (v .second) 4294967295 (omega (arith, i .second-most)))
+      (both (le-leb (v .nanos) 4294967295 (omega (arith, i .nanos-below))) (both (le-leb (v .offset) 4294967295 (omega (arith, i .offset-most))) refl)))))))
+  value-words uuid v s h =
+      let b = and-right (isWord (v .a)) (isWord (v .b) && (isWord (v .c) && isWord (v .d))) s in
+      let c = and-right (isWord (v .b)) (isWord (v .c) && isWord (v .d)) b in
+      both (and-left (isWord (v .a)) (isWord (v .b) && (isWord (v .c) && isWord (v .d))) s)
+      (both (and-left (isWord (v .b)) (isWord (v .c) && isWord (v .d)) b) (both (and-left (isWord (v .c)) (isWord (v .d)) c) (both (and-right (isWord (v .c)) (isWord (v .d)) c) refl)))
+  value-words flag v s h = refl
 
-time-cells : (d : Option Duration) → fitsTime d ≡ true → Each Fit (timeCells (timeOrZero d))
-time-cells none e = more refl done
-time-cells (some d) e =
-    let s = leb-true (d .seconds) 8388607 (and-left (leb (d .seconds) 8388607) (leb (d .nanos) 999999999) e) in
-    let n = leb-true (d .nanos) 999999999 (and-right (leb (d .seconds) 8388607) (leb (d .nanos) 999999999) e) in
-    more (constants (d .seconds) (d .nanos) (omega arith) (omega arith)) done
+  slot-words : (p : Presence) (t : Form) (v : Held p (Of Text t)) → soundSlot p t v ≡ true → fill + length (stored p t v) ≤ mostBytes → areWords (slotWords p t (placeSlot fill p t v)) ≡ true
+  slot-words always t v s h = value-words t v s h
+  slot-words (must k) t v s h = value-words t v s h
+  slot-words (may k) t none s h = every-zeros isWord refl (width t)
+  slot-words (may k) t (some v) s h = value-words t v s h
+  slot-words unkept t v s h = refl
 
-row-cells : (row : Row) → fitsRow row ≡ true → Each Fit (cellsOf row)
-unfolding fitsRow
-row-cells row f =
-    let fields : List Cell = row .first ∷ row .out ∷ row .err ∷ row .second ∷ row .third ∷ row .fourth ∷ row .fifth ∷ row .sixth ∷ [] in
-    let times : Bool = fitsMoment (row .timestamp) && fitsTime (row .time) in
-    let t = and-right (every fitsCell fields) times f in
-    within (every-each fitsCell fields (and-left (every fitsCell fields) times f))
-    (moment-cells (row .timestamp) (and-left (fitsMoment (row .timestamp)) (fitsTime (row .time)) t))
-    (time-cells (row .time) (and-right (fitsMoment (row .timestamp)) (fitsTime (row .time)) t))
-  where
-    within : Each Fit (row .first ∷ row .out ∷ row .err ∷ row .second ∷ row .third ∷ row .fourth ∷ row .fifth ∷ row .sixth ∷ [])
-        → Each Fit (momentCells (momentOrZero (row .timestamp))) → Each Fit (timeCells (timeOrZero (row .time))) → Each Fit (cellsOf row)
-    within (more a (more b (more c (more d (more e (more f (more g (more h done)))))))) m t =
-        more a (more b (more c (each-append m (each-append t (more d (more e (more f (more g (more h (more refl (more refl done)))))))))))
+from-words : (n fill : ℕ) (xs : List schema.Row) (f : Fields Text xs) → texts.sound xs f ≡ true → fill + length (texts.storedIn xs f) ≤ mostBytes
+    → areWords (wordsFrom n xs (placedAt fill xs f)) ≡ true
+from-words n fill [] f s h = every-zeros isWord refl (32 - n)
+from-words n fill (x ∷ xs) f s h =
+    let own : List ℕ = stored (x .presence) (x .form) (f .0) in
+    let l : length (own ++ texts.storedIn xs (f .1)) ≡ length own + length (texts.storedIn xs (f .1)) = length-append own (texts.storedIn xs (f .1)) in
+    let ws = slotWords (x .presence) (x .form) (placeSlot fill (x .presence) (x .form) (f .0)) in
+    let rest = wordsFrom (behind x) xs (placedAt (fill + length own) xs (f .1)) in
+    let a = and-left (soundSlot (x .presence) (x .form) (f .0)) (texts.sound xs (f .1)) s in
+    let b = and-right (soundSlot (x .presence) (x .form) (f .0)) (texts.sound xs (f .1)) s in
+    every-append isWord (zeros (x .word - n)) (ws ++ rest) (every-zeros isWord refl (x .word - n))
+    (every-append isWord ws rest (slot-words fill (x .presence) (x .form) (f .0) a (omega (arith, h, l))) (from-words (behind x) (fill + length own) xs (f .1) b (omega (arith, h, l))))
 
-rows-cells : {rows : List Row} → Each (λ r. fitsRow r ≡ true) rows → Each Fit (cellsIn rows)
-rows-cells done = done
-rows-cells (more {x = r} f fs) = each-append (row-cells r f) (rows-cells fs)
-
--- ---- their texts are bytes
-stored-bytes : {cs : List Cell} → Each Fit cs → areBytes (storedIn cs) ≡ true
-stored-bytes done = refl
-stored-bytes (more {x = c} {xs = cs} h hs) = every-append (λ (b : ℕ). leb b 255) (stored c) (storedIn cs) (cell-bytes c h) (stored-bytes hs)
-  where
-    cell-bytes : (c : Cell) → Fit c → areBytes (stored c) ≡ true
-    cell-bytes absent e = refl
-    cell-bytes (written t) e = text-bytes (utf8-grammar t .0 (and-left (utf8 t) (unfiltered t) e))
-    cell-bytes (valued a b) e = refl
-    cell-bytes (constant a b) e = refl
-
--- ---- their words have 32 bits
-abbrev isWord : ℕ → Bool
-isWord w = leb w 4294967295
-
-cell-words : (c : Cell) (fill : ℕ) → fill + length (stored c) ≤ mostBytes → Fit c → (isWord (firstWord fill c) ≡ true) × (isWord (secondWord c) ≡ true)
-cell-words absent fill h e = (refl, refl)
-cell-words (written t) fill h e = (le-leb fill 4294967295 (omega arith), le-leb (length t) 4294967295 (omega arith))
-cell-words (valued a b) fill h e = (and-left (isWord a) (isWord b) e, and-right (isWord a) (isWord b) e)
-cell-words (constant a b) fill h e = (and-left (isWord a) (isWord b) e, and-right (isWord a) (isWord b) e)
-
-cells-words : {cs : List Cell} → Each Fit cs → (fill : ℕ) → fill + length (storedIn cs) ≤ mostBytes → areWords (cellWords fill cs) ≡ true
-cells-words done fill h = refl
-cells-words (more {x = c} {xs = cs} f fs) fill h =
-    let l : length (stored c ++ storedIn cs) ≡ length (stored c) + length (storedIn cs) = length-append (stored c) (storedIn cs) in
-    let w = cell-words c fill (omega arith) f in
-    both (w .0) (both (w .1) (cells-words fs (fill + length (stored c)) (omega arith)))
-
--- ten presence bits
-flags-word : (r : Row) → isWord (flagsOf (presence r)) ≡ true
-flags-word r = let h : suc (flagsOf (presence r)) ≤ 1024 = below (presence r) in le-leb (flagsOf (presence r)) 4294967295 (omega arith)
-  where
-    power : List Bool → ℕ
-    power [] = 1
-    power (b ∷ bs) = 2 * power bs
-
-    below : (bs : List Bool) → suc (flagsOf bs) ≤ power bs
-    below [] = omega arith
-    below (true ∷ bs) = let h = below bs in omega arith
-    below (false ∷ bs) = let h = below bs in omega arith
+-- up to 32 presence bits
+flags-word : (xs : List schema.Row) → fine xs ≡ true → (f : Fields Span xs) → isWord (flagsOf (marksFrom Span 0 xs f)) ≡ true
+flags-word xs h f = let b = flags-below xs h f in le-leb (flagsOf (marksFrom Span 0 xs f)) 4294967295 (omega (arith, b))
 
 kind-word : (k : ℕ) → among (1 ∷ 2 ∷ suiteKinds) k ≡ true → isWord k ≡ true
 kind-word k e = not-false (isWord k) (missed-one (λ (j : ℕ). not (isWord j)) (1 ∷ 2 ∷ suiteKinds) k refl e)
 
-records-words : {rows : List Row} → Each (λ r. fitsRow r ≡ true) rows → Kinds (1 ∷ 2 ∷ suiteKinds) rows
-    → (fill : ℕ) → fill + length (storedIn (cellsIn rows)) ≤ mostBytes → areWords (joined (recordsAt fill rows)) ≡ true
-unfolding recordAt
-records-words done k fill h = refl
-records-words (more {x = r} {xs = rows} f fs) (more k ks) fill h =
-    let a : ℕ = length (storedIn (cellsOf r)) in
-    let l : length (storedIn (cellsOf r ++ cellsIn rows)) ≡ a + length (storedIn (cellsIn rows)) =
-    ap length (stored-append (cellsOf r) (cellsIn rows)) ∙ length-append (storedIn (cellsOf r)) (storedIn (cellsIn rows)) in
-    every-append isWord (recordAt fill r) (joined (recordsAt (fill + a) rows))
-    (both (kind-word (r .kind) k) (both (flags-word r) (cells-words (row-cells r f) fill (omega arith))))
-    (records-words fs ks (fill + a) (omega arith))
+records-words : {rows : List Row} → Each Known rows → Each (λ r. fitsRow r ≡ true) rows → Kinds (1 ∷ 2 ∷ suiteKinds) rows
+    → (fill : ℕ) → fill + length (storedIn rows) ≤ mostBytes → areWords (joined (recordsAt fill rows)) ≡ true
+unfolding texts.recordAt records.encode fitsRow
+records-words done done done fill h = refl
+records-words (more {x = r} {xs = rows} w ws) (more f fs) (more k ks) fill h =
+    let own : List ℕ = textsOf r in
+    let l : length (own ++ storedIn rows) ≡ length own + length (storedIn rows) = length-append own (storedIn rows) in
+    every-append isWord (recordAt fill r) (joined (recordsAt (fill + length own) rows))
+    (both (kind-word (r .kind) k)
+    (both (flags-word (r .table) (w .tested) (placedAt fill (r .table) (r .fields))) (from-words 2 fill (r .table) (r .fields) f (omega (arith, h, l)))))
+    (records-words ws fs ks (fill + length own) (omega (arith, h, l)))
 
 -- ---- the areas
 module _ (r : Report) where
@@ -195,7 +170,7 @@ module _ (r : Report) where
   text-length m = length-laid (zeros m) (encode r .texts) ∙ length-replicate {A = ℕ} m 0
 
   abbrev size : ℕ
-  size = length (storedIn (cellsIn (rowsOf r)))
+  size = length (storedIn (rowsOf r))
 
   module _ (n m : ℕ) (f : fits r n m ≡ true) where
     texts-fit : (leb size mostBytes && (leb size m && every fitsRow (rowsOf r))) ≡ true
@@ -213,8 +188,8 @@ module _ (r : Report) where
     unfolding wordsOf encode
     words-lent =
         let h = leb-true size mostBytes (and-left (leb size mostBytes) (leb size m && every fitsRow (rowsOf r)) texts-fit) in
-        every-laid isWord refl n (joined (recordsAt 0 (rowsOf r))) (records-words rows-fit (report-kinds r) 0 (omega arith))
+        every-laid isWord refl n (joined (recordsAt 0 (rowsOf r))) (records-words (known-rows r) rows-fit (report-kinds r) 0 (omega arith))
 
     pub text-lent : areBytes (textOf r m) ≡ true
     unfolding textOf encode
-    text-lent = every-laid (λ (b : ℕ). leb b 255) refl m (storedIn (cellsIn (rowsOf r))) (stored-bytes (rows-cells rows-fit))
+    text-lent = every-laid (λ (b : ℕ). leb b 255) refl m (storedIn (rowsOf r)) (text-bytes (utf8-grammar (storedIn (rowsOf r)) .0 (rows-utf8 rows-fit)))

@@ -9,7 +9,7 @@ use Rattle.names.specs.Bytes.{bytes}
 use Rattle.names.specs.Names.{sameBytes}
 use Rattle.tree_record.specs.Kinds as kind
 use Rattle.tree_report.specs.Report.{Pair, FlakyOrRerun, TestRerun, Reason, TestCase, TestSuite, Report}
-use Rattle.tree_report.specs.Encode.{fitsCell, fitsRow, every, ofText, stored, presence, pairRow, runRow, caseRow, suiteRow, reportRow, kindOfRun}
+use Rattle.tree_report.specs.inside.Cells.{fitsCell, fitsRow, every, ofText, stored, presence, pairRow, runRow, caseRow, suiteRow, reportRow, kindOfRun}
 use Rattle.tree_report.proofs.EncodeLists.{and-left, and-right, Each, done, more}
 use Rattle.tree_report.proofs.EncodeCells.{bit-flag}
 use Rattle.read_element.specs.Outcome.{Place, unlimited}

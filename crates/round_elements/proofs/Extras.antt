@@ -21,7 +21,7 @@ use Rattle.text_filter.proofs.Filtering.{filtered-same}
 use Rattle.text.proofs.Putting.{both-yes}
 use Rattle.tree_report.specs.Report.{Pair}
 use Rattle.tree_report.specs.Fields.{textAt}
-use Rattle.tree_report.specs.Encode.{valued, written, fitsCell}
+use Rattle.tree_report.specs.inside.Cells.{valued, written, fitsCell}
 use Rattle.tree_report.proofs.EncodeLists.{and-left, and-right, Each, more}
 use Rattle.tree_put.specs.Put.{blank, putText}
 use Rattle.read_keys.specs.declared.Role.the-variants as role

@@ -11,7 +11,7 @@ use Rattle.names.specs.Names.{sameBytes, codeFrom}
 use Rattle.names.specs.Keys.{keys}
 use Rattle.tree_record.specs.Kinds as kind
 use Rattle.tree_report.specs.Report.{Pair, TestRerun, Reason, TestCase, TestSuite, Report}
-use Rattle.tree_report.specs.Encode.{fitsCell, fitsMoment, fitsTime, ofText, written, stored, reportRow, suiteRow, caseRow}
+use Rattle.tree_report.specs.inside.Cells.{fitsCell, fitsMoment, fitsTime, ofText, written, stored, reportRow, suiteRow, caseRow}
 use Rattle.schema.specs.Schema as table
 use Rattle.schema.specs.Lookups.{namesIn}
 use Rattle.read_keys.specs.Roles.{roleIn, reportRole, suiteRole, caseRole, roleOf}

@@ -2,7 +2,7 @@
 use mathlib.Core.Bool.{Bool, true, _&&_}
 use mathlib.Core.List.{List, [], _∷_}
 use mathlib.Core.Path.{_≡_}
-use Rattle.tree_report.specs.Encode.{Cell, Row, every, fitsCell, fitsMoment, fitsTime, fitsRow}
+use Rattle.tree_report.specs.inside.Cells.{Cell, Row, every, fitsCell, fitsMoment, fitsTime, fitsRow}
 use Rattle.tree_report.proofs.EncodeLists.{and-left, and-right}
 
 pub record Fitting (r : Row) : Type 0 where

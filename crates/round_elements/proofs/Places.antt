@@ -8,7 +8,7 @@ use lib.Seq.{take-at, drop-append-seam}
 use Rattle.tree_report.specs.Report.{Text, Pair, TestCase, TestSuite, Report}
 use Rattle.tree_report.specs.Fields.{hasBit, given, textAt, first, second}
 use Rattle.tree_report.specs.ReportOf.{pairOf}
-use Rattle.tree_report.specs.Encode.{isGiven, firstWord, secondWord, stored, ofText}
+use Rattle.tree_report.specs.inside.Cells.{isGiven, firstWord, secondWord, stored, ofText}
 use Rattle.tree_record.specs.Words as word
 use Rattle.round_elements.specs.inside.Opened.{Lasting, PairShown, PairsShown, none as noPairs, more, ReportShown, SuiteShown, CaseShown}
 use Rattle.round_elements.proofs.Steps.{textCell}

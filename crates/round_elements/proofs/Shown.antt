@@ -10,7 +10,7 @@ use Rattle.uuid.specs.declared.Words.{Words}
 use Rattle.tree_record.specs.Kinds as kind
 use Rattle.tree_report.specs.Report.{Pair, Counts, FlakyOrRerun, TestRerun, Reason, TestCase, TestSuite, Report}
 use Rattle.tree_report.specs.Fields.{hasBit, numberAt, uuid, counts}
-use Rattle.tree_report.specs.Encode.{absent, isGiven, firstWord, secondWord, ofNumber, ofCount, uuidFront, uuidBack, kindOfRun, Row, presence}
+use Rattle.tree_report.specs.inside.Cells.{absent, isGiven, firstWord, secondWord, ofNumber, ofCount, uuidFront, uuidBack, kindOfRun, Row, presence}
 use Rattle.tree_report.proofs.EncodeCells.{bit-flag, NumberBack, number-back, moment-back, time-back}
 use Rattle.round_elements.specs.inside.Opened.{PairShown, ReportShown, SuiteShown, CaseShown, RunShown, MainShown}
 use Rattle.round_elements.proofs.Rows.{words}

@@ -12,7 +12,7 @@ use Rattle.timestamp.specs.declared.Moment.{Moment}
 use Rattle.uuid.specs.declared.Words.{Words}
 use Rattle.table.specs.Event.{Attribute}
 use Rattle.tree_report.specs.Report.{Text, Duration}
-use Rattle.tree_report.specs.Encode.{Cell, absent, valued, stored, ofText, ofNumber, ofCount, uuidFront, uuidBack, Row, fitsCell, fitsMoment, fitsTime}
+use Rattle.tree_report.specs.inside.Cells.{Cell, absent, valued, stored, ofText, ofNumber, ofCount, uuidFront, uuidBack, Row, fitsCell, fitsMoment, fitsTime}
 use Rattle.tree_report.proofs.EncodeLists.{and-left}
 use Rattle.tree_put.specs.Put.{putText, putCount}
 use Rattle.read_keys.specs.declared.Role.{Role}

@@ -24,7 +24,7 @@ use Rattle.utf8.specs.Utf8.{utf8}
 use Rattle.uuid.specs.declared.Words.{Words}
 use Rattle.tree_record.specs.Record.{marked}
 use Rattle.tree_report.specs.Report.{Duration}
-use Rattle.tree_report.specs.Encode.{written, fitsCell, ofCount, fitsTime, uuidFront, uuidBack}
+use Rattle.tree_report.specs.inside.Cells.{written, fitsCell, ofCount, fitsTime, uuidFront, uuidBack}
 use Rattle.tree_report.proofs.EncodeLists.{and-left, and-right}
 use Rattle.tree_put.specs.Put.{putText, putCount, putUuid, putMoment, putTime}
 use Rattle.read_keys.specs.declared.Role.the-variants as role

@@ -4,7 +4,7 @@ use mathlib.Core.Bool.{true}
 use mathlib.Core.List.{List, [], _∷_}
 use mathlib.Core.Path.{_≡_}
 use Rattle.tree_report.specs.Report.{TestCase}
-use Rattle.tree_report.specs.Encode.{every, fitsRow, caseRows}
+use Rattle.tree_report.specs.inside.Cells.{every, fitsRow, caseRows}
 use Rattle.tree_report.proofs.EncodeLists.{Each, done, more}
 use Rattle.read_state.specs.Control.{suite}
 use Rattle.read_machine.specs.Machine.{Machine}

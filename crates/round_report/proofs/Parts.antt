@@ -4,7 +4,7 @@ use mathlib.Core.Bool.{Bool, true}
 use mathlib.Core.List.{List, [], _∷_, _++_, append-assoc}
 use mathlib.Core.Path.{_≡_, refl, sym, ap, _∙_}
 use lib.ListN.{length}
-use Rattle.tree_report.specs.Encode.{Row, rowsOfEach, every}
+use Rattle.tree_report.specs.inside.Cells.{Row, rowsOfEach, every}
 use Rattle.tree_report.proofs.EncodeLists.{both, and-left, and-right, Each, done, more}
 use Rattle.read_element.specs.Attributes.{changed}
 use Rattle.write_report.specs.Written.{each}

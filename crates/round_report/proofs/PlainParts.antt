@@ -2,11 +2,12 @@
 use Prim.Native.Nat.{_*_}
 use mathlib.Core.Bool.{Bool, true, not, _&&_}
 use mathlib.Core.List.{List, _++_, map}
-use mathlib.Core.Path.{_≡_}
+use mathlib.Core.Path.{_≡_, _∙_}
 use Rattle.area.specs.Limits.{mostEntries, mostBytes}
 use Rattle.tree_record.specs.Kinds as kind
 use Rattle.tree_report.specs.Report.{Text, Reason, TestRerun, TestCase, TestSuite, Report}
-use Rattle.tree_report.specs.Encode.{every, fitsRow, pairRow, caseRows, rowsOfEach, suiteRow, suiteRows, reportRow}
+use Rattle.tree_report.specs.inside.Cells.{every, fitsRow, pairRow, caseRows, rowsOfEach, suiteRow, suiteRows, reportRow, rowsOf}
+use Rattle.tree_report.proofs.CellFits.{rows-fit}
 use Rattle.tree_report.proofs.EncodeLists.{and-left, and-right, Each, each-on, every-each}
 use Rattle.write_report.specs.Written.{each, isEmpty, written}
 use Rattle.write_table.specs.Laid.{laidOut, fits}
@@ -193,8 +194,9 @@ module _ (r : Report) (k : Conditions r) where
 
 pub plain-parts : (r : Report) → sound r ≡ true → plain r ≡ true → PlainReport r
 unfolding sound
-plain-parts r e p =
+plain-parts r s p =
     let k = conditions r p in
+    let e : every fitsRow (rowsOf r) ≡ true = rows-fit r ∙ s in
     record {
       row = and-left (fitsRow (reportRow r)) (every fitsRow (rowsOfEach suiteRows (r .suites))) e;
       time = own-good r k wholeTime (listed (r .time)) (λ s. listed (s .time)) (λ c. listed (c .time)) (λ e. listed (e .time)) (k .times);

@@ -10,7 +10,7 @@ use Rattle.table.specs.Event.{Attribute, Start, Empty, End, Event, Tag}
 use Rattle.tree_record.specs.Kinds as kind
 use Rattle.tree_report.specs.Report.{Pair}
 use Rattle.tree_report.specs.Fields.{kindOf}
-use Rattle.tree_report.specs.Encode.{every, fitsRow, pairRow}
+use Rattle.tree_report.specs.inside.Cells.{every, fitsRow, pairRow}
 use Rattle.tree_report.proofs.EncodeLists.{and-left, and-right, Each}
 use Rattle.read_state.specs.Control.{suite, listing, readProperty}
 use Rattle.read_machine.specs.Machine.{Machine}

@@ -9,7 +9,7 @@ use Rattle.names.specs.Bytes.{bytes}
 use Rattle.table.specs.Event.{Event}
 use Rattle.tree_put.specs.Put.{putText}
 use Rattle.tree_report.specs.Report.{Text, TestSuite}
-use Rattle.tree_report.specs.Encode.{every, fitsRow, suiteRow}
+use Rattle.tree_report.specs.inside.Cells.{every, fitsRow, suiteRow}
 use Rattle.read_state.specs.Control.{suite, out, err}
 use Rattle.read_content.specs.Content.{wordOf, bitOf}
 use Rattle.read_machine.specs.Machine.{Machine}

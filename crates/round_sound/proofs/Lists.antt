@@ -4,7 +4,7 @@ use mathlib.Core.Bool.{Bool, true, false, cond}
 use mathlib.Core.List.{List, [], _∷_, map}
 use mathlib.Core.Path.{_≡_, refl}
 use Rattle.tree_report.specs.ReportOf.{Branch, only, until, branches}
-use Rattle.tree_report.specs.Encode.{Row, rowsOfEach, every}
+use Rattle.tree_report.specs.inside.Cells.{Row, rowsOfEach, every}
 use Rattle.tree_report.proofs.EncodeLists.{both, Each, done, more, each-append}
 
 pub each-every : {A : Type 0} (p : A → Bool) {xs : List A} → Each (λ x. p x ≡ true) xs → every p xs ≡ true

@@ -16,7 +16,8 @@ use Rattle.tree_report.specs.Layout.{filled, goodText, zeroAt}
 use Rattle.tree_report.specs.inside.Parts.{goodTextAt, slot, textSlot, momentSlot, timeSlot, onlyBits, reportBits, suiteBits}
 use Rattle.tree_report.specs.inside.Parts.{caseBits, bitsFor, goodCommon, goodOutputs, goodCounts, goodReport, goodSuite, goodCase, goodOther}
 use Rattle.tree_report.specs.ReportOf.{Branch, pairOf, reasonOf, runOf, caseOf, suiteOf}
-use Rattle.tree_report.specs.Encode.{Row, written, ofText, ofNumber, ofCount, uuidFront, uuidBack, fitsCell, fitsMoment, fitsTime, fitsRow, pairRow, mainRow, runRow, caseRow, suiteRow, reportRow}
+use Rattle.tree_report.specs.inside.Cells.{Row, written, ofText, ofNumber, ofCount, uuidFront, uuidBack, fitsCell, fitsMoment, fitsTime, fitsRow}
+use Rattle.tree_report.specs.inside.Cells.{pairRow, mainRow, runRow, caseRow, suiteRow, reportRow}
 use Rattle.tree_report.proofs.ByTable.{report-good, suite-good, case-good}
 use Rattle.tree_report.proofs.EncodeLists.{both, and-left, and-right}
 use Rattle.round_elements.proofs.Fits.{Fitting}

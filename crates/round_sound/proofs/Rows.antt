@@ -12,7 +12,7 @@ use Rattle.tree_report.specs.Fields.{kindOf, isReport, isSuite, isCase, isMain,
 use Rattle.tree_report.specs.Layout.{filled, goodText, goodRecord}
 use Rattle.tree_report.specs.inside.Parts.{goodOther}
 use Rattle.tree_report.specs.ReportOf.{Branch, branches, pairOf, pairsOf, reasonOf, runOf, kindOfRuns, statusOf, caseOf, suiteOf}
-use Rattle.tree_report.specs.Encode.{Row, fitsRow, pairRow, mainRow, runRow, statusRows, caseRows, suiteRows, rowsOf}
+use Rattle.tree_report.specs.inside.Cells.{Row, fitsRow, pairRow, mainRow, runRow, statusRows, caseRows, suiteRows, rowsOf}
 use Rattle.tree_report.proofs.EncodeLists.{and-left, and-right, Each, done, more, each-append}
 use Rattle.tree_shape.proofs.Presence.{report-record, suite-record, case-record, other-record}
 use Rattle.round_sound.proofs.Lists.{map-each, rows-each, Grown, Passing, each-only, each-branches}

@@ -12,7 +12,9 @@ use Rattle.tree_report.specs.Report.{Report}
 use Rattle.tree_report.specs.Fields.{live}
 use Rattle.tree_report.specs.Layout.{usedText, filled, goodText, recordsOf, layout}
 use Rattle.tree_report.specs.ReportOf.{only, reportFrom, reportOf}
-use Rattle.tree_report.specs.Encode.{fitsRow, rowsOf}
+use Rattle.tree_report.specs.Encode.{rowsOf}
+use Rattle.tree_report.specs.inside.Cells as cells
+use Rattle.tree_report.proofs.CellFits.{rows-fit}
 use Rattle.tree_report.proofs.EncodeLists.{Each, more, each-on}
 use Rattle.round_elements.specs.Plain.{sound}
 use Rattle.round_sound.specs.Words.{areWords}
@@ -38,9 +40,9 @@ module _ (text : List ℕ) where
   rows-sound good rs b p f e =
       let g : Each (Fine (filled text)) (b .top ∷ b .behind) = subst (Each (Fine (filled text))) (b .whole) (each-on (λ r h. h .0) (each-only live f)) in
       let same : reportAt text (b .top) (b .behind) ≡ p = report-same (b .top) (b .behind) p (ap (reportFrom text) (sym (b .whole)) ∙ e) in
-      subst (λ (q : Report). sound q ≡ true) same (each-every fitsRow (whole g))
+      subst (λ (q : Report). sound q ≡ true) same (sym (rows-fit (reportAt text (b .top) (b .behind))) ∙ each-every cells.fitsRow (whole g))
     where
-      whole : Each (Fine (filled text)) (b .top ∷ b .behind) → Each Fits (rowsOf (reportAt text (b .top) (b .behind)))
+      whole : Each (Fine (filled text)) (b .top ∷ b .behind) → Each Fits (cells.rowsOf (reportAt text (b .top) (b .behind)))
       whole (more h hs) = report-fits text good (b .top) (b .behind) (b .report) h hs
 
 module _ (words text : List ℕ) where

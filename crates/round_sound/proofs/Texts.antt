@@ -13,7 +13,7 @@ use Rattle.utf8.specs.Utf8.{utf8}
 use Rattle.utf8.proofs.Boundaries.{utf8-part}
 use Rattle.text_filter.specs.Filter.{unfiltered}
 use Rattle.text_filter.proofs.Filtering.{unfiltered-append}
-use Rattle.tree_report.specs.Encode.{written, fitsCell}
+use Rattle.tree_report.specs.inside.Cells.{written, fitsCell}
 use Rattle.tree_report.specs.Fields.{textAt}
 use Rattle.tree_report.specs.Layout.{filled, allZero, goodText}
 use Rattle.tree_report.specs.inside.Parts.{goodTextAt}

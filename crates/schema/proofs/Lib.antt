@@ -1,5 +1,6 @@
 pub mod Tests
 pub mod Laws
 pub mod TextLaws
+pub mod RecordLaws
 pub mod StoreLaws
 pub mod Examples

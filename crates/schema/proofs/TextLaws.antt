@@ -33,7 +33,7 @@ slot-read texts (must k) t r o = refl
 slot-read texts (may k) t r o = given-read texts k t (isSet k r) (valueAt t r o)
 slot-read texts unkept t r o = refl
 
-fields-read : (xs : List Row) (texts r : List ℕ) → fieldsOf xs texts r ≡ readAll texts xs (fieldsAt xs r)
+pub fields-read : (xs : List Row) (texts r : List ℕ) → fieldsOf xs texts r ≡ readAll texts xs (fieldsAt xs r)
 fields-read [] texts r = refl
 fields-read (x ∷ xs) texts r = λ i. (slot-read texts (x .presence) (x .form) r (x .word) i, fields-read xs texts r i)
 

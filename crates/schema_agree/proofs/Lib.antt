@@ -1,11 +1,7 @@
 pub mod Keys
 pub mod Written
 pub mod Shown
-pub mod Cells
-pub mod Encoded
-pub mod Placed
 pub mod Puts
 pub mod Lookups
-pub mod Fitting
 pub mod Required
 pub mod Numbers

@@ -11,7 +11,7 @@ use Rattle.tree_record.specs.Words as word
 use Rattle.tree_report.specs.Report.{failure, error}
 use Rattle.tree_report.specs.Fields.{kindOf, hasBit, given, isSuite, isCase, isMain, isRun, isSuiteExtra, isSuiteProperty, isCaseExtra, isCaseProperty}
 use Rattle.tree_report.specs.Fields.{textAt, first, systemOut, systemErr, second, description, stackTrace, uuid, timestamp, time, counts, assertions}
-use Rattle.tree_report.specs.Encode.{isSome}
+use Rattle.schema.specs.Records.{isSome}
 use Rattle.tree_report.specs.ReportOf as tree
 use Rattle.schema.specs.Schema.{main}
 use Rattle.schema.specs.Texts.{fieldsOf}

@@ -6,7 +6,7 @@ use mathlib.Core.Option.{Option, some}
 use Rattle.timestamp.specs.declared.Moment.{Moment}
 use Rattle.uuid.specs.declared.Words.{Words}
 use Rattle.tree_report.specs.Report.{Text, Duration}
-use Rattle.tree_report.specs.Encode.{Cell, written, ofNumber, ofCount, uuidFront, uuidBack}
+use Rattle.tree_report.specs.inside.Cells.{Cell, written, ofNumber, ofCount, uuidFront, uuidBack}
 use Rattle.tree_placed.specs.inside.Placed.{Placed, StandsAt, InTexts}
 use Rattle.tree_placed.specs.inside.Changed.{blankPlaced, withKind, withMiddle, withTimestamp, withTime, withSecond, withThird, withFourth}
 use Rattle.tree_placed.specs.inside.Changed.{withFifth, withSixth, withFlaky, onRow, firstText, outText, errText, secondText, thirdText, fourthText}

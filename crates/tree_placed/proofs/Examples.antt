@@ -8,7 +8,7 @@ use lib.Dec.{lit≤}
 use Rattle.area.specs.Area.{zeros, laid}
 use Rattle.utf8.specs.Characters.{joined}
 use Rattle.utf8.specs.Utf8.{need, low, high}
-use Rattle.tree_report.specs.Encode.{fitsRow, reportRow, suiteRow}
+use Rattle.tree_report.specs.inside.Cells.{fitsRow, reportRow, suiteRow}
 use Rattle.tree_report.specs.Layout.{layout}
 use Rattle.tree_report.specs.Report.{Counts, TestSuite, Report}
 use Rattle.tree_report.specs.ReportOf.{reportOf}

@@ -1,17 +1,18 @@
 -- Texts that grow by whole characters keep what stands in them, and hold the new text. Assumes nothing.
-use Prim.Native.Nat.{ℕ, _+_, _-_, _≤_}
+use Prim.Native.Nat.{ℕ, _+_, _≤_}
 use mathlib.Core.Bool.{Bool, true, false, not, _&&_, _||_}
 use mathlib.Core.List.{List, _++_}
 use mathlib.Core.Path.{_≡_, refl, sym, ap, _∙_}
 use native.Mathlib.Omega.{arith}
 use borrow.Author.Tests.{eqb-true, eq-eqb, ne-eqb, leb-true, le-leb, ltb-true, lt-ltb}
 use lib.Dec.{eqb, leb, ltb}
-use lib.ListN.{length, getD, take, drop, length-append, length-drop, List·getD-append}
-use lib.Seq.{take-length, take-append-le, drop-append-le, drop-append-seam}
+use lib.ListN.{length, getD, take, drop, length-append, List·getD-append}
+use lib.Seq.{take-length, drop-append-seam}
 use Rattle.utf8.specs.Utf8.{utf8, within}
 use Rattle.utf8.specs.Characters.{boundary}
 use Rattle.utf8.proofs.Boundaries.{boundary-append, boundary-in}
-use Rattle.tree_report.specs.Encode.{Cell, absent, written, valued, constant}
+use Rattle.schema.proofs.RecordLaws.{text-read}
+use Rattle.tree_report.specs.inside.Cells.{Cell, absent, written, valued, constant}
 use Rattle.tree_report.specs.Report.{Text}
 use Rattle.tree_report.proofs.EncodeLists.{both, and-left, and-right, Each, each-on}
 use Rattle.tree_placed.specs.inside.Placed.{Placed, goodAt, StandsAt, InTexts}
@@ -51,10 +52,7 @@ good-new s v u =
 -- ---- a text
 -- it is read back, whatever stands behind the texts
 pub stands-read : (texts : List ℕ) (x : ℕ) (t : Text) → StandsAt texts x (written t) → (z : List ℕ) → take (length t) (drop x (texts ++ z)) ≡ t
-stands-read texts x t h z =
-    let l = good-ends texts x (length t) (h .1) in
-    let n : length (drop x texts) ≡ length texts - x = length-drop x texts in
-    ap (take (length t)) (drop-append-le x texts z (omega arith)) ∙ take-append-le (length t) (drop x texts) z (omega arith) ∙ h .0
+stands-read texts x t h z = text-read texts x t h z
 
 -- a text that stands in the texts stands there when UTF-8 is put behind them
 pub stands-more : (texts v : List ℕ) → utf8 v ≡ true → (x : ℕ) (c : Cell) → StandsAt texts x c → StandsAt (texts ++ v) x c

@@ -4,8 +4,5 @@ pub mod Fronts
 pub mod Growing
 pub mod Changing
 pub mod Records
-pub mod Lists
-pub mod Order
-pub mod Reading
 pub mod Whole
 pub mod Examples

@@ -1,235 +1,260 @@
--- The record of each kind of row, wherever its texts stand: good in a layout, and read back. Assumes nothing.
-use Prim.Native.Nat.{ℕ, _+_, _*_, _≤_}
-use mathlib.Core.Bool.{Bool, true, false, cond, _&&_, _||_, or-true}
-use mathlib.Core.List.{List, [], _∷_, _++_}
+-- The record of each element by cells, wherever its texts stand, is its table's: it shows the fields, and is good in a layout. Assumes nothing.
+use Prim.Native.Nat.{ℕ}
+use mathlib.Core.Bool.{Bool, true, false, cond}
+use mathlib.Core.List.{List, _∷_, _++_}
 use mathlib.Core.Option.{Option, none, some}
-use mathlib.Core.Path.{_≡_, refl, ap, ap₂, _∙_}
-use native.Mathlib.Nat.{mod-add-div'}
-use native.Mathlib.Omega.{arith}
-use borrow.Author.Tests.{le-leb}
-use lib.Dec.{leb, lit≤}
-use Rattle.tree_report.proofs.ByTable.{report-good, suite-good, case-good}
-use Rattle.tree_report.specs.Encode.{firstWord, secondWord, isGiven, ofText, uuidBack, lowWord, highWord, fitsRow, presence, Row}
-use Rattle.tree_report.specs.Encode.{flagsOf, pairRow, mainRow, kindOfMain, kindOfRun, runRow, caseRow, suiteRow, reportRow}
-use Rattle.tree_report.specs.Fields.{hasBit}
+use mathlib.Core.Path.{_≡_, refl, sym, ap, _∙_}
+use lib.Dec.{eqb}
+use lib.ListN.{length, getD}
+use Rattle.area.specs.Area.{zeros}
+use Rattle.timestamp.specs.declared.Moment.{Moment}
+use Rattle.uuid.specs.declared.Words.{Words}
+use Rattle.tree_record.specs.Kinds as kind
+use Rattle.schema.specs.Schema.{text, number, time, timestamp, uuid, may, fine}
+use Rattle.schema.specs.Schema as table
+use Rattle.schema.specs.Records.{Fields, Span, isSome, flagsOf, slotWords, marksFrom, encode, good}
+use Rattle.schema.specs.Texts.{placeSlot, fieldsOf}
+use Rattle.schema.specs.Elements as named
+use Rattle.schema.proofs.RecordLaws.{placedBy, marks-by, GivenStands, StandBy, anywhere-back, anywhere-good}
+use Rattle.tree_report.specs.Report.{Text, Duration, Pair, FlakyOrRerun, TestRerun, Reason, TestCase, TestSuite, Report}
+use Rattle.tree_report.specs.Fields.{kindOf, given}
 use Rattle.tree_report.specs.Layout.{goodRecord}
-use Rattle.tree_report.specs.inside.Parts.{goodTextAt, goodOutputs, goodReport, goodSuite, goodCase, bitsFor, goodOther}
-use Rattle.tree_report.specs.Report.{Text, Pair, NonSuccessKind, failure, error, FlakyOrRerun, TestRerun, Reason, TestCase, TestSuite, Report}
 use Rattle.tree_report.specs.ReportOf.{pairOf, reasonOf, runOf}
-use Rattle.tree_report.proofs.EncodeLists.{both}
-use Rattle.tree_report.proofs.EncodeCells.{bit-flag, weights, only-bits, Pairing, TextBack, number-back, moment-back, time-back}
-use Rattle.tree_report.proofs.EncodeRecords.{Common, good-common, elementRow, fits-times, other-record, ofPair, ofReason, run-kind}
-use Rattle.tree_report.proofs.EncodeRecords.{run-bounds, run-bits, CaseBack, counts-back, SuiteBack, uuid-back, back-hidden, ReportBack}
+use Rattle.tree_report.specs.Encode as row
+use Rattle.tree_report.specs.inside.Cells.{firstWord, secondWord, isGiven, ofText, ofNumber, uuidFront, uuidBack, momentOrZero, timeOrZero, lowWord, highWord, presence, Row}
+use Rattle.tree_report.specs.inside.Cells.{kindOfRun, pairRow, mainRow, runRow, caseRow, suiteRow, reportRow}
+use Rattle.tree_report.proofs.EncodeCells.{back-hidden}
+use Rattle.tree_report.proofs.EncodeGood.{Known}
+use Rattle.tree_report.proofs.EncodeReading.{given-flag}
+use Rattle.tree_report.proofs.EncodeReading as reading
+use Rattle.tree_report.proofs.EncodeShown.{Headed, Shown}
+use Rattle.tree_report.proofs.CellFits.{Alike}
 use Rattle.tree_placed.specs.inside.Placed.{Places, Placed, recordOf, StandsAt, InTexts}
-use Rattle.tree_placed.proofs.Growing.{stands-read}
-
-text-back : {texts : List ℕ} (x : ℕ) (r : List ℕ) (k o : ℕ) (t : Option Text) → StandsAt texts x (ofText t) → hasBit k r ≡ isGiven (ofText t)
-    → Pairing r o (firstWord x (ofText t)) (secondWord (ofText t)) → TextBack texts r k o t
-unfolding goodTextAt
-text-back x r k o none h b w = record { good = rw (b, w .2) refl; back = λ z. rw b refl }
-text-back {texts} x r k o (some t) h b w = record { good = rw (b, w .0, w .1) (h .1); back = λ z. rw (b, w .0, w .1) (ap (λ (s : Text). some s) (stands-read texts x t h z)) }
 
 abbrev pub rowAt : Places → Row → Placed
-rowAt q row = record { places = q; row = row }
+rowAt q r = record { places = q; row = r }
 
--- a row whose record is good wherever its texts stand
-abbrev pub GoodRow : Row → Type 0
-GoodRow row = (texts : List ℕ) (q : Places) → InTexts texts (rowAt q row) → fitsRow row ≡ true → goodRecord texts (recordOf (rowAt q row)) ≡ true
+-- where the text at a word starts
+abbrev pub startIn : Places → ℕ → ℕ
+startIn q w =
+    cond (eqb w 2) (q .first)
+    (cond (eqb w 4) (q .out)
+    (cond (eqb w 6) (q .err)
+    (cond (eqb w 18) (q .second)
+    (cond (eqb w 20) (q .third)
+    (cond (eqb w 22) (q .fourth) 0)))))
 
--- ---- pairs and status elements: an element that has all texts, timestamp and time, if any
-record ElementBack (texts r : List ℕ) (e : TestRerun) : Type 0 where
-  common : Common texts r (e .message) (e .timestamp) (e .time)
-  out : TextBack texts r 1 4 (e .systemOut)
-  err : TextBack texts r 2 6 (e .systemErr)
-  type : TextBack texts r 5 18 (e .type)
-  description : TextBack texts r 6 20 (e .description)
-  stackTrace : TextBack texts r 7 22 (e .stackTrace)
+-- ---- presence
+given-text : (v : Option Text) → isGiven (ofText v) ≡ isSome v
+given-text none = refl
+given-text (some v) = refl
 
-module _ (kind : ℕ) (isFlaky : Bool) (e : TestRerun) where
-  element-back : {texts : List ℕ} (q : Places) → InTexts texts (rowAt q (elementRow kind isFlaky e)) → ElementBack texts (recordOf (rowAt q (elementRow kind isFlaky e))) e
-  unfolding recordOf
-  element-back q h =
-      let row : Row = elementRow kind isFlaky e in
-      let r : List ℕ = recordOf (rowAt q row) in
-      let bs : List Bool = presence row in
-      record {
-        common = record {
-          text = text-back (q .first) r 0 2 (e .message) (h .first) (bit-flag 0 bs) (refl, refl, refl);
-          moment = moment-back r (e .timestamp) (bit-flag 3 bs) refl refl;
-          time = time-back r (e .time) (bit-flag 4 bs) (refl, refl, refl);
-        };
-        out = text-back (q .out) r 1 4 (e .systemOut) (h .out) (bit-flag 1 bs) (refl, refl, refl);
-        err = text-back (q .err) r 2 6 (e .systemErr) (h .err) (bit-flag 2 bs) (refl, refl, refl);
-        type = text-back (q .second) r 5 18 (e .type) (h .second) (bit-flag 5 bs) (refl, refl, refl);
-        description = text-back (q .third) r 6 20 (e .description) (h .third) (bit-flag 6 bs) (refl, refl, refl);
-        stackTrace = text-back (q .fourth) r 7 22 (e .stackTrace) (h .fourth) (bit-flag 7 bs) (refl, refl, refl);
-      }
+given-number : (v : Option ℕ) → isGiven (ofNumber v) ≡ isSome v
+given-number none = refl
+given-number (some v) = refl
 
-  good-element : 4 ≤ kind → kind ≤ 14
-      → flagsOf (presence (elementRow kind isFlaky e)) ≡ weights (bitsFor kind) (presence (elementRow kind isFlaky e))
-      → ((leb 6 kind && leb kind 12) || (isGiven (ofText (e .message)) && isGiven (ofText (e .systemOut)))) ≡ true
-      → GoodRow (elementRow kind isFlaky e)
-  unfolding recordOf goodOther goodOutputs
-  good-element l m w c texts q h f =
-      let row : Row = elementRow kind isFlaky e in
-      let r : List ℕ = recordOf (rowAt q row) in
-      let bs : List Bool = presence row in
-      let t = element-back q h in
-      let g = fits-times row f in
-      other-record texts r l m
-      (both (only-bits r bs (bitsFor kind) refl w)
-      (both (ap₂ (λ (a b : Bool). (leb 6 kind && leb kind 12) || (a && b)) (bit-flag 0 bs) (bit-flag 1 bs) ∙ c)
-      (both (good-common (t .common) (g .0) (g .1))
-      (both (both (t .out .good) (t .err .good)) (both (t .type .good) (both (t .description .good) (both (t .stackTrace .good) refl)))))))
+given-uuid : (v : Option Words) → isGiven (uuidFront v) ≡ isSome v
+given-uuid none = refl
+given-uuid (some v) = refl
 
--- a property or extra
-pub good-pair : (kind : ℕ) → 4 ≤ kind → kind ≤ 14 → bitsFor kind ≡ 0 ∷ 1 ∷ [] → (p : Pair) → GoodRow (pairRow kind p)
-good-pair kind l m b p = good-element kind false (ofPair p) l m (rw b refl) (or-true (leb 6 kind && leb kind 12))
+-- ---- words
+module _ (k x : ℕ) where
+  text-words : (v : Option Text) (l : List ℕ) → firstWord x (ofText v) ∷ secondWord (ofText v) ∷ l ≡ slotWords (may k) text (placeSlot x (may k) text v) ++ l
+  text-words none l = refl
+  text-words (some v) l = refl
 
+  number-words : (v : Option ℕ) (y : ℕ) (l : List ℕ) → firstWord y (ofNumber v) ∷ secondWord (ofNumber v) ∷ l ≡ slotWords (may k) number (placeSlot x (may k) number v) ++ l
+  number-words none y l = refl
+  number-words (some v) y l = refl
+
+  time-words : (v : Option Duration) (l : List ℕ) → timeOrZero v .seconds ∷ timeOrZero v .nanos ∷ l ≡ slotWords (may k) time (placeSlot x (may k) time v) ++ l
+  time-words none l = refl
+  time-words (some v) l = refl
+
+  moment-words : (v : Option Moment) (l : List ℕ)
+      → momentOrZero v .year ∷ momentOrZero v .month ∷ momentOrZero v .day ∷ momentOrZero v .hour ∷ momentOrZero v .minute ∷ momentOrZero v .second ∷ momentOrZero v .nanos ∷ momentOrZero v .offset ∷ l
+      ≡ slotWords (may k) timestamp (placeSlot x (may k) timestamp v) ++ l
+  moment-words none l = refl
+  moment-words (some v) l = refl
+
+  uuid-words : (v : Option Words) (y : ℕ) (l : List ℕ)
+      → firstWord x (uuidFront v) ∷ secondWord (uuidFront v) ∷ firstWord y (uuidBack v) ∷ secondWord (uuidBack v) ∷ l ≡ slotWords (may k) uuid (placeSlot x (may k) uuid v) ++ l
+  uuid-words none y l = refl
+  uuid-words (some v) y l = refl
+
+-- the words of a number that is always there
+abbrev counted : ℕ → List ℕ → List ℕ
+counted n l = lowWord n ∷ highWord n ∷ l
+
+flag-words : (x : ℕ) (b : Bool) (l : List ℕ) → l ≡ slotWords (may 9) table.flag (placeSlot x (may 9) table.flag (given b tt)) ++ l
+flag-words x true l = refl
+flag-words x false l = refl
+
+-- ---- texts
+stands-text : (texts : List ℕ) (x : ℕ) (v : Option Text) → StandsAt texts x (ofText v) → GivenStands texts x text v
+stands-text texts x none h = tt
+stands-text texts x (some v) h = h
+
+-- ---- a row by cells that comes to the same words and texts as this row
+pub record Placing (r : row.Row) (c : Row) : Type 0 where
+  pub words : (q : Places) → recordOf (rowAt q c) ≡ encode (r .kind) (r .table) (placedBy (startIn q) (r .table) (r .fields))
+  pub stand : (texts : List ℕ) (q : Places) → InTexts texts (rowAt q c) → StandBy texts (startIn q) (r .table) (r .fields)
+
+-- its presence bits, with texts placed
+flags-by : (q : Places) (xs : List table.Row) (f : Fields Text xs) (n : ℕ) → n ≡ flagsOf (marksFrom Text 0 xs f) → n ≡ flagsOf (marksFrom Span 0 xs (placedBy (startIn q) xs f))
+flags-by q xs f n e = e ∙ ap flagsOf (sym (marks-by (startIn q) 0 xs f))
+
+report-bits : (r : Report) → flagsOf (presence (reportRow r)) ≡ flagsOf (marksFrom Text 0 table.report (named.reportFields r))
+report-bits r = rw (given-text (r .name), given-uuid (r .uuid), back-hidden (r .uuid), given-number (r .counts .disabled)) refl
+
+suite-bits : (s : TestSuite) → flagsOf (presence (suiteRow s)) ≡ flagsOf (marksFrom Text 0 table.suite (named.suiteFields s))
+suite-bits s = rw (given-text (s .systemOut), given-text (s .systemErr), given-number (s .counts .disabled)) refl
+
+case-bits : (c : TestCase) → flagsOf (presence (caseRow c)) ≡ flagsOf (marksFrom Text 0 table.case (named.caseFields c))
+case-bits c = rw (given-text (c .systemOut), given-text (c .systemErr), given-text (c .classname), given-number (c .assertions)) refl
+
+main-bits : (k : ℕ) (b : Bool) (r : Reason) → flagsOf (presence (mainRow k b r)) ≡ flagsOf (marksFrom Text 0 table.main (named.mainFields b r))
+main-bits k b r = rw (given-text (r .message), given-text (r .type), given-text (r .description), given-flag b) refl
+
+skipped-bits : (r : Reason) → flagsOf (presence (mainRow kind.skipped false r)) ≡ flagsOf (marksFrom Text 0 table.skipped (named.skippedFields r))
+skipped-bits r = rw (given-text (r .message), given-text (r .type), given-text (r .description)) refl
+
+run-bits : (family : FlakyOrRerun) (r : TestRerun) → flagsOf (presence (runRow family r)) ≡ flagsOf (marksFrom Text 0 table.run (named.runFields r))
+run-bits family r =
+    rw (
+      given-text (r .message),
+      given-text (r .systemOut),
+      given-text (r .systemErr),
+      given-text (r .type),
+      given-text (r .description),
+      given-text (r .stackTrace),
+    ) refl
+
+pub report-placing : (r : Report) → Placing (row.reportRow r) (reportRow r)
+unfolding recordOf encode
+report-placing r =
+    let c = r .counts in
+    record {
+      words = λ q.
+          let bits = flags-by q table.report (named.reportFields r) (flagsOf (presence (reportRow r))) (report-bits r) in
+          λ i. kind.report ∷ bits i ∷ text-words 0 (q .first) (r .name) (uuid-words 1 (q .out) (r .uuid) (q .err) (moment-words 3 0 (r .timestamp) (time-words 4 0 (r .time)
+          (counted (c .tests) (counted (c .failures) (counted (c .errors) (counted (c .skipped) (number-words 8 0 (c .disabled) 0 (zeros 4) i))))) i) i) i) i;
+      stand = λ texts q h. (stands-text texts (q .first) (r .name) (h .first), (tt, (tt, (tt, (tt, (tt, (tt, (tt, (tt, tt)))))))));
+    }
+
+pub suite-placing : (s : TestSuite) → Placing (row.suiteRow s) (suiteRow s)
+unfolding recordOf encode
+suite-placing s =
+    let c = s .counts in
+    record {
+      words = λ q.
+          let bits = flags-by q table.suite (named.suiteFields s) (flagsOf (presence (suiteRow s))) (suite-bits s) in
+          λ i. kind.suite ∷ bits i ∷ q .first ∷ length (s .name) ∷ text-words 1 (q .out) (s .systemOut) (text-words 2 (q .err) (s .systemErr) (moment-words 3 0 (s .timestamp)
+          (time-words 4 0 (s .time) (counted (c .tests) (counted (c .failures) (counted (c .errors) (counted (c .skipped) (number-words 8 0 (c .disabled) 0 (zeros 4) i))))) i) i) i) i;
+      stand = λ texts q h. (h .first, (stands-text texts (q .out) (s .systemOut) (h .out), (stands-text texts (q .err) (s .systemErr) (h .err), (tt, (tt, (tt, (tt, (tt, (tt, (tt, tt))))))))));
+    }
+
+pub case-placing : (c : TestCase) → Placing (row.caseRow c) (caseRow c)
+unfolding recordOf encode
+case-placing c = record {
+  words = λ q.
+      let bits = flags-by q table.case (named.caseFields c) (flagsOf (presence (caseRow c))) (case-bits c) in
+      λ i. kind.case ∷ bits i ∷ q .first ∷ length (c .name) ∷ text-words 1 (q .out) (c .systemOut) (text-words 2 (q .err) (c .systemErr) (moment-words 3 0 (c .timestamp)
+      (time-words 4 0 (c .time) (text-words 5 (q .second) (c .classname) (number-words 6 (q .third) (c .assertions) (q .third) (zeros 10) i) i) i) i) i) i;
+  stand = λ texts q h.
+      (h .first, (stands-text texts (q .out) (c .systemOut) (h .out), (stands-text texts (q .err) (c .systemErr) (h .err),
+      (tt, (tt, (stands-text texts (q .second) (c .classname) (h .second), (tt, tt)))))));
+}
+
+-- a failure or error
+pub main-placing : (k : ℕ) (b : Bool) (r : Reason) → Placing (record { kind = k; table = table.main; fields = named.mainFields b r }) (mainRow k b r)
+unfolding recordOf encode
+main-placing k b r = record {
+  words = λ q.
+      let bits = flags-by q table.main (named.mainFields b r) (flagsOf (presence (mainRow k b r))) (main-bits k b r) in
+      λ i. k ∷ bits i ∷ text-words 0 (q .first) (r .message) (zeros 14 ++ text-words 5 (q .second) (r .type) (text-words 6 (q .third) (r .description) (flag-words (q .fourth) b (zeros 10) i) i) i) i;
+  stand = λ texts q h.
+      (stands-text texts (q .first) (r .message) (h .first), (tt, (tt, (stands-text texts (q .second) (r .type) (h .second), (stands-text texts (q .third) (r .description) (h .third), (tt, tt))))));
+}
+
+pub skipped-placing : (r : Reason) → Placing (row.skippedRow r) (mainRow kind.skipped false r)
+unfolding recordOf encode
+skipped-placing r = record {
+  words = λ q.
+      let bits = flags-by q table.skipped (named.skippedFields r) (flagsOf (presence (mainRow kind.skipped false r))) (skipped-bits r) in
+      λ i. kind.skipped ∷ bits i ∷ text-words 0 (q .first) (r .message) (zeros 14 ++ text-words 5 (q .second) (r .type) (text-words 6 (q .third) (r .description) (zeros 10) i) i) i;
+  stand = λ texts q h.
+      (stands-text texts (q .first) (r .message) (h .first), (tt, (tt, (stands-text texts (q .second) (r .type) (h .second), (stands-text texts (q .third) (r .description) (h .third), tt)))));
+}
+
+pub run-placing : (family : FlakyOrRerun) (r : TestRerun) → Placing (row.runRow family r) (runRow family r)
+unfolding recordOf encode
+run-placing family r = record {
+  words = λ q.
+      let bits = flags-by q table.run (named.runFields r) (flagsOf (presence (runRow family r))) (run-bits family r) in
+      λ i. kindOfRun family (r .kind) ∷ bits i ∷ text-words 0 (q .first) (r .message) (text-words 1 (q .out) (r .systemOut) (text-words 2 (q .err) (r .systemErr) (moment-words 3 0 (r .timestamp)
+      (time-words 4 0 (r .time) (text-words 5 (q .second) (r .type) (text-words 6 (q .third) (r .description) (text-words 7 (q .fourth) (r .stackTrace) (zeros 8) i) i) i) i) i) i) i) i;
+  stand = λ texts q h.
+      (stands-text texts (q .first) (r .message) (h .first), (stands-text texts (q .out) (r .systemOut) (h .out), (stands-text texts (q .err) (r .systemErr) (h .err),
+      (tt, (tt, (stands-text texts (q .second) (r .type) (h .second), (stands-text texts (q .third) (r .description) (h .third), (stands-text texts (q .fourth) (r .stackTrace) (h .fourth), tt))))))));
+}
+
+pub pair-placing : (k : ℕ) (p : Pair) → Placing (row.pairRow k p) (pairRow k p)
+unfolding recordOf encode
+pair-placing k p = record { words = λ q. refl; stand = λ texts q h. (h .first, (h .out, tt)) }
+
+pub all-placing : Alike Placing
+all-placing = record {
+  report = report-placing;
+  suite = suite-placing;
+  case = case-placing;
+  pair = pair-placing;
+  main = λ k b r. main-placing (row.kindOfMain k) b r;
+  skipped = skipped-placing;
+  run = run-placing;
+}
+
+-- ---- such a record shows the row's fields, whatever stands behind the texts, and is good if they fit
+module _ {texts : List ℕ} {r : row.Row} {c : Row} (p : Placing r c) (q : Places) (h : InTexts texts (rowAt q c)) where
+  pub fields-placed : fine (r .table) ≡ true → (z : List ℕ) → fieldsOf (r .table) (texts ++ z) (recordOf (rowAt q c)) ≡ r .fields
+  fields-placed f z =
+      ap (fieldsOf (r .table) (texts ++ z)) (p .words q)
+      ∙ anywhere-back texts (r .table) f (r .kind) (startIn q) (r .fields) (p .stand texts q h) z
+
+  head-placed : Headed r (recordOf (rowAt q c))
+  unfolding encode
+  head-placed = record {
+    kind = ap kindOf (p .words q);
+    bits = ap (λ (w : List ℕ). getD w 1 0) (p .words q) ∙ ap flagsOf (marks-by (startIn q) 0 (r .table) (r .fields));
+  }
+
+  pub shown-placed : Known r → (z : List ℕ) → Shown (texts ++ z) r (recordOf (rowAt q c))
+  shown-placed k z = record { head = head-placed; fields = fields-placed (k .tested) z }
+
+  pub good-placed : Known r → row.fitsRow r ≡ true → goodRecord texts (recordOf (rowAt q c)) ≡ true
+  unfolding row.fitsRow
+  good-placed k s =
+      k .passes texts (recordOf (rowAt q c)) (head-placed .kind)
+      (ap (good (r .table) texts) (p .words q) ∙ anywhere-good texts (r .table) (k .tested) (r .kind) (startIn q) (r .fields) (p .stand texts q h) s)
+
+-- ---- what the records of elements show
 pub pair-back : (kind : ℕ) (p : Pair) {texts : List ℕ} (q : Places) → InTexts texts (rowAt q (pairRow kind p)) → (z : List ℕ) → pairOf (texts ++ z) (recordOf (rowAt q (pairRow kind p))) ≡ p
-unfolding recordOf
-pair-back kind p {texts} q h z =
-    let key = stands-read texts (q .first) (p .key) (h .first) z in
-    let value = stands-read texts (q .out) (p .value) (h .out) z in
-    λ i. record { key = key i; value = value i }
-
--- a main status element
-pub good-main : (kind : NonSuccessKind) (isFlaky : Bool) (r : Reason) → GoodRow (mainRow (kindOfMain kind) isFlaky r)
-unfolding bitsFor
-good-main failure isFlaky r = good-element 6 isFlaky (ofReason r) (lit≤ tt) (lit≤ tt) (omega arith) refl
-good-main error isFlaky r = good-element 7 isFlaky (ofReason r) (lit≤ tt) (lit≤ tt) (omega arith) refl
-
-pub good-skipped : (r : Reason) → GoodRow (mainRow 8 false r)
-unfolding bitsFor
-good-skipped r = good-element 8 false (ofReason r) (lit≤ tt) (lit≤ tt) (omega arith) refl
+pair-back kind p q h z = ap (λ (f : Fields Text table.property). named.pairOf f) (fields-placed (pair-placing kind p) q h refl z)
 
 pub reason-back : (kind : ℕ) (isFlaky : Bool) (r : Reason) {texts : List ℕ} (q : Places) → InTexts texts (rowAt q (mainRow kind isFlaky r))
     → (z : List ℕ) → reasonOf (texts ++ z) (recordOf (rowAt q (mainRow kind isFlaky r))) ≡ r
-reason-back kind isFlaky r q h z =
-    let t = element-back kind isFlaky (ofReason r) q h in
-    λ i. record { message = t .common .text .back z i; type = t .type .back z i; description = t .description .back z i }
-
--- a run
-pub good-run : (family : FlakyOrRerun) (e : TestRerun) → GoodRow (runRow family e)
-good-run family e =
-    let kind : ℕ = kindOfRun family (e .kind) in
-    let l : 9 ≤ kind = run-bounds family (e .kind) .0 in
-    let m : kind ≤ 12 = run-bounds family (e .kind) .1 in
-    good-element kind false e (omega arith) (omega arith) (rw (run-bits kind l m) (omega arith)) (rw (le-leb 6 kind (omega arith), le-leb kind 12 m) refl)
+reason-back kind isFlaky r q h z = ap (λ (f : Fields Text table.main). named.mainOf f) (fields-placed (main-placing kind isFlaky r) q h refl z)
 
 pub run-back : (family : FlakyOrRerun) (e : TestRerun) {texts : List ℕ} (q : Places)
     → InTexts texts (rowAt q (runRow family e)) → (z : List ℕ) → runOf (texts ++ z) (recordOf (rowAt q (runRow family e))) ≡ e
-unfolding recordOf
-run-back family e q h z =
-    let t = element-back (kindOfRun family (e .kind)) false e q h in
-    λ i. record {
-      kind = run-kind family (e .kind) i;
-      timestamp = t .common .moment .back i;
-      time = t .common .time .back i;
-      message = t .common .text .back z i;
-      type = t .type .back z i;
-      stackTrace = t .stackTrace .back z i;
-      systemOut = t .out .back z i;
-      systemErr = t .err .back z i;
-      description = t .description .back z i;
-    }
+run-back family e {texts} q h z =
+    reading.run-back (texts ++ z) family e (recordOf (rowAt q (runRow family e)))
+    (record { head = head-placed (run-placing family e) q h; fields = fields-placed (run-placing family e) q h refl z })
 
--- ---- a case
-pub case-back : (c : TestCase) {texts : List ℕ} (q : Places) → InTexts texts (rowAt q (caseRow c)) → CaseBack texts (recordOf (rowAt q (caseRow c))) c
-unfolding recordOf
-case-back c {texts} q h =
-    let row : Row = caseRow c in
-    let r : List ℕ = recordOf (rowAt q row) in
-    let bs : List Bool = presence row in
-    record {
-      common = record {
-        text = text-back (q .first) r 0 2 (some (c .name)) (h .first) (bit-flag 0 bs) (refl, refl, refl);
-        moment = moment-back r (c .timestamp) (bit-flag 3 bs) refl refl;
-        time = time-back r (c .time) (bit-flag 4 bs) (refl, refl, refl);
-      };
-      name = stands-read texts (q .first) (c .name) (h .first);
-      out = text-back (q .out) r 1 4 (c .systemOut) (h .out) (bit-flag 1 bs) (refl, refl, refl);
-      err = text-back (q .err) r 2 6 (c .systemErr) (h .err) (bit-flag 2 bs) (refl, refl, refl);
-      classname = text-back (q .second) r 5 18 (c .classname) (h .second) (bit-flag 5 bs) (refl, refl, refl);
-      assertions = number-back (q .third) r 6 20 (c .assertions) (bit-flag 6 bs) (refl, refl, refl);
-    }
+pub case-back : (c : TestCase) {texts : List ℕ} (q : Places) → InTexts texts (rowAt q (caseRow c))
+    → (z : List ℕ) → fieldsOf table.case (texts ++ z) (recordOf (rowAt q (caseRow c))) ≡ named.caseFields c
+case-back c q h z = fields-placed (case-placing c) q h refl z
 
-pub good-case : (c : TestCase) → GoodRow (caseRow c)
-unfolding recordOf goodRecord goodCase goodOutputs
-good-case c texts q h f =
-    let row : Row = caseRow c in
-    let bs : List Bool = presence row in
-    let t = case-back c q h in
-    let g = fits-times row f in
-    case-good texts (recordOf (rowAt q row))
-    ∙ both (only-bits (recordOf (rowAt q row)) bs (0 ∷ 1 ∷ 2 ∷ 3 ∷ 4 ∷ 5 ∷ 6 ∷ []) refl (omega arith))
-    (both (bit-flag 0 bs)
-    (both (good-common (t .common) (g .0) (g .1))
-    (both (both (t .out .good) (t .err .good)) (both (t .classname .good) (both (t .assertions .good) refl)))))
-
--- ---- a suite
-pub suite-back : (s : TestSuite) {texts : List ℕ} (q : Places) → InTexts texts (rowAt q (suiteRow s)) → SuiteBack texts (recordOf (rowAt q (suiteRow s))) s
-unfolding recordOf
-suite-back s {texts} q h =
-    let row : Row = suiteRow s in
-    let r : List ℕ = recordOf (rowAt q row) in
-    let bs : List Bool = presence row in
-    let n : (k : ℕ) → lowWord k + highWord k * 4294967296 ≡ k = λ k. mod-add-div' k 4294967296 in
-    record {
-      common = record {
-        text = text-back (q .first) r 0 2 (some (s .name)) (h .first) (bit-flag 0 bs) (refl, refl, refl);
-        moment = moment-back r (s .timestamp) (bit-flag 3 bs) refl refl;
-        time = time-back r (s .time) (bit-flag 4 bs) (refl, refl, refl);
-      };
-      name = stands-read texts (q .first) (s .name) (h .first);
-      out = text-back (q .out) r 1 4 (s .systemOut) (h .out) (bit-flag 1 bs) (refl, refl, refl);
-      err = text-back (q .err) r 2 6 (s .systemErr) (h .err) (bit-flag 2 bs) (refl, refl, refl);
-      counts =
-          counts-back r (s .counts) (n (s .counts .tests)) (n (s .counts .failures)) (n (s .counts .errors)) (n (s .counts .skipped))
-          (number-back 0 r 8 26 (s .counts .disabled) (bit-flag 8 bs) (refl, refl, refl)) refl;
-    }
-
-pub good-suite : (s : TestSuite) → GoodRow (suiteRow s)
-unfolding recordOf goodRecord goodSuite goodOutputs
-good-suite s texts q h f =
-    let row : Row = suiteRow s in
-    let bs : List Bool = presence row in
-    let t = suite-back s q h in
-    let g = fits-times row f in
-    suite-good texts (recordOf (rowAt q row))
-    ∙ both (only-bits (recordOf (rowAt q row)) bs (0 ∷ 1 ∷ 2 ∷ 3 ∷ 4 ∷ 8 ∷ []) refl (omega arith))
-    (both (bit-flag 0 bs)
-    (both (good-common (t .common) (g .0) (g .1))
-    (both (both (t .out .good) (t .err .good)) (t .counts .good))))
-
--- ---- the report
-pub report-back : (p : Report) {texts : List ℕ} (q : Places) → InTexts texts (rowAt q (reportRow p)) → ReportBack texts (recordOf (rowAt q (reportRow p))) p
-unfolding recordOf
-report-back p q h =
-    let row : Row = reportRow p in
-    let r : List ℕ = recordOf (rowAt q row) in
-    let bs : List Bool = presence row in
-    let n : (k : ℕ) → lowWord k + highWord k * 4294967296 ≡ k = λ k. mod-add-div' k 4294967296 in
-    record {
-      common = record {
-        text = text-back (q .first) r 0 2 (p .name) (h .first) (bit-flag 0 bs) (refl, refl, refl);
-        moment = moment-back r (p .timestamp) (bit-flag 3 bs) refl refl;
-        time = time-back r (p .time) (bit-flag 4 bs) (refl, refl, refl);
-      };
-      id = uuid-back r (q .out) (q .err) (p .uuid) (bit-flag 1 bs) refl (refl, refl, refl) (refl, refl, refl);
-      counts =
-          counts-back r (p .counts) (n (p .counts .tests)) (n (p .counts .failures)) (n (p .counts .errors)) (n (p .counts .skipped))
-          (number-back 0 r 8 26 (p .counts .disabled) (bit-flag 8 bs) (refl, refl, refl)) refl;
-    }
-
-pub good-report : (p : Report) → GoodRow (reportRow p)
-unfolding recordOf goodRecord goodReport
-good-report p texts q h f =
-    let row : Row = reportRow p in
-    let bs : List Bool = presence row in
-    let t = report-back p q h in
-    let g = fits-times row f in
-    let hidden : _≡_ {A = ℕ} (cond (isGiven (uuidBack (p .uuid))) 1 0) 0 = rw (back-hidden (p .uuid)) refl in
-    report-good texts (recordOf (rowAt q row))
-    ∙ both (only-bits (recordOf (rowAt q row)) bs (0 ∷ 1 ∷ 3 ∷ 4 ∷ 8 ∷ []) refl (omega arith))
-    (both (good-common (t .common) (g .0) (g .1)) (both (t .id .good) (t .counts .good)))
+pub suite-back : (s : TestSuite) {texts : List ℕ} (q : Places) → InTexts texts (rowAt q (suiteRow s))
+    → (z : List ℕ) → fieldsOf table.suite (texts ++ z) (recordOf (rowAt q (suiteRow s))) ≡ named.suiteFields s
+suite-back s q h z = fields-placed (suite-placing s) q h refl z

@@ -1,60 +1,52 @@
 -- A report is held wherever its texts stand. Assumes nothing.
 use Prim.Native.Nat.{ℕ, _-_, _*_, _≤_}
 use mathlib.Core.Bool.{true, false}
-use mathlib.Core.List.{List, [], _∷_, _++_, map}
+use mathlib.Core.List.{List, [], _∷_, _++_}
 use mathlib.Core.Option.{some}
 use mathlib.Core.Path.{_≡_, refl, sym, ap, ap₂, subst, _∙_}
-use lib.Dec.{eqb, lit≤}
+use lib.Dec.{eqb}
 use lib.ListN.{length, drop, length-map}
 use Rattle.area.proofs.Laying.{laid-zeros}
 use Rattle.area.specs.Area.{zeros, laid}
 use Rattle.utf8.specs.Characters.{joined}
 use Rattle.utf8.specs.Utf8.{utf8}
 use Rattle.text_filter.specs.Filter.{unfiltered}
-use Rattle.tree_report.specs.Encode.{Row, every, fitsRow, pairRow, isFlakyAlone, runRow, statusRows, caseRows, suiteRows, rowsOf}
+use Rattle.tree_report.specs.Encode as row
+use Rattle.tree_report.specs.inside.Cells.{Row, every, fitsRow, rowsOf}
 use Rattle.tree_report.specs.Fields.{kindOf, live}
 use Rattle.tree_report.specs.Layout.{usedWords, usedText, allZero, filled, goodText, allGood, nothing, goodOrder, recordsOf, layout}
-use Rattle.tree_report.specs.inside.Parts.{bitsFor}
-use Rattle.tree_report.specs.Report.{Pair, flaky, TestCaseStatus, success, nonSuccess, skipped, TestCase, TestSuite, Report}
+use Rattle.tree_report.specs.Report.{Report}
 use Rattle.tree_report.specs.ReportOf.{only, reportFrom, reportOf}
+use Rattle.tree_report.proofs.CellFits.{rows-alike, rows-fit}
 use Rattle.tree_report.proofs.EncodeAreas.{Whole, records-of, zeros-behind}
+use Rattle.tree_report.proofs.EncodeGood.{Known, known-rows}
 use Rattle.tree_report.proofs.EncodeKinds.{suiteKinds, report-kinds}
-use Rattle.tree_report.proofs.EncodeLists.{both, Each, done, more, each-append, each-map, each-rows, every-each}
+use Rattle.tree_report.proofs.EncodeLists.{both, Each, done, more, every-each, Beside, ended, beside}
+use Rattle.tree_report.proofs.EncodeOrder.{order-good}
+use Rattle.tree_report.proofs.EncodeReading as reading
+use Rattle.tree_report.proofs.EncodeShown.{Shows, heads, missed}
 use Rattle.tree_report.proofs.EncodeText.{take-area, filled-texts, good-texts}
 use Rattle.tree_placed.specs.inside.Placed.{Placed, recordOf, recordsIn, rowsIn, InTexts}
 use Rattle.tree_placed.proofs.Putting.{record-length}
-use Rattle.tree_placed.proofs.Records.{GoodRow, good-pair, good-main, good-skipped, good-run, good-case, good-suite, good-report}
-use Rattle.tree_placed.proofs.Lists.{Spots, next, placedOn, recordsOn, spotsOf, placed-on, each-first, each-others, missed}
-use Rattle.tree_placed.proofs.Order.{order-placed}
-use Rattle.tree_placed.proofs.Reading.{report-read}
+use Rattle.tree_placed.proofs.Records.{Placing, all-placing, shown-placed, good-placed}
 
--- ---- the rows of a report
-good-pairs : (kind : ℕ) → 4 ≤ kind → kind ≤ 14 → bitsFor kind ≡ 0 ∷ 1 ∷ [] → (ps : List Pair) → Each GoodRow (map (pairRow kind) ps)
-good-pairs kind l m b ps = each-map (pairRow kind) (good-pair kind l m b) ps
+-- ---- placed records of these rows show them, and are good if they fit
+module _ (texts : List ℕ) where
+  all-shown : (ps : List Placed) {rows : List row.Row} → Each Known rows → Beside Placing rows (rowsIn ps) → Each (InTexts texts) ps → (z : List ℕ) → Shows (texts ++ z) rows (recordsIn ps)
+  all-shown [] done ended done z = ended
+  all-shown (p ∷ ps) (more k ks) (beside b bs) (more h hs) z = beside (shown-placed b (p .places) h k z) (all-shown ps ks bs hs z)
 
-good-status : (s : TestCaseStatus) → Each GoodRow (statusRows s)
-good-status (success runs) = each-map (runRow flaky) (good-run flaky) runs
-good-status (nonSuccess kind reason family runs) = more (good-main kind (isFlakyAlone family runs) reason) (each-map (runRow family) (good-run family) runs)
-good-status (skipped reason) = more (good-skipped reason) done
+  all-good : (ps : List Placed) {rows : List row.Row} → Each Known rows → Each (λ r. row.fitsRow r ≡ true) rows → Beside Placing rows (rowsIn ps)
+      → Each (InTexts texts) ps → allGood texts (recordsIn ps) ≡ true
+  all-good [] done done ended done = refl
+  all-good (p ∷ ps) (more k ks) (more f fs) (beside b bs) (more h hs) = both (good-placed b (p .places) h k f) (all-good ps ks fs bs hs)
 
-good-case-rows : (c : TestCase) → Each GoodRow (caseRows c)
-unfolding bitsFor
-good-case-rows c =
-    more (good-case c) (each-append (good-pairs 14 (lit≤ tt) (lit≤ tt) refl (c .extra)) (each-append (good-pairs 5 (lit≤ tt) (lit≤ tt) refl (c .properties)) (good-status (c .status))))
+placings : (r : Report) (ps : List Placed) → rowsIn ps ≡ rowsOf r → Beside Placing (row.rowsOf r) (rowsIn ps)
+placings r ps e = subst (λ (l : List Row). Beside Placing (row.rowsOf r) l) (sym e) (rows-alike all-placing r)
 
-good-suite-rows : (s : TestSuite) → Each GoodRow (suiteRows s)
-unfolding bitsFor
-good-suite-rows s =
-    more (good-suite s)
-    (each-append (good-pairs 13 (lit≤ tt) (lit≤ tt) refl (s .extra)) (each-append (good-pairs 4 (lit≤ tt) (lit≤ tt) refl (s .properties)) (each-rows caseRows good-case-rows (s .cases))))
-
-good-rows : (r : Report) → Each GoodRow (rowsOf r)
-good-rows r = more (good-report r) (each-rows suiteRows good-suite-rows (r .suites))
-
-all-good : {texts : List ℕ} {rows : List Row} → Each GoodRow rows → Each (λ row. fitsRow row ≡ true) rows
-    → (s : Spots) → Each (InTexts texts) (placedOn rows s) → allGood texts (recordsOn rows s) ≡ true
-all-good done f s h = refl
-all-good {texts} (more g gs) (more f fs) s h = both (g texts (s 0) (each-first h) f) (all-good gs fs (next s) (each-others h))
+-- the records of a report are read back, wherever its texts stand
+pub report-read : (texts z : List ℕ) (r : Report) (ps : List Placed) → rowsIn ps ≡ rowsOf r → Each (InTexts texts) ps → reportFrom (texts ++ z) (only live (recordsIn ps)) ≡ some r
+report-read texts z r ps e h = reading.report-read (texts ++ z) r (all-shown texts ps (known-rows r) (placings r ps e) h z)
 
 -- ---- their records
 pairs : (ps : List Placed) → Each (λ w. eqb (kindOf w) 0 ≡ false) (recordsIn ps) → Each Whole (recordsIn ps)
@@ -72,14 +64,11 @@ module _ (r : Report) (ps : List Placed) (texts : List ℕ) (n m : ℕ)
     (room : length ps * 32 ≤ n)
     (text-limit : length texts ≤ 16777216)
     (text-room : length texts ≤ m) where
-  on : placedOn (rowsOf r) (spotsOf ps) ≡ ps
-  on = sym (ap (λ (l : List Row). placedOn l (spotsOf ps)) rows) ∙ placed-on ps
-
-  held : Each (InTexts texts) (placedOn (rowsOf r) (spotsOf ps))
-  held = subst (λ (l : List Placed). Each (InTexts texts) l) (sym on) stand
+  shown : Shows (texts ++ []) (row.rowsOf r) (recordsIn ps)
+  shown = all-shown texts ps (known-rows r) (placings r ps rows) stand []
 
   whole : Each Whole (recordsIn ps)
-  whole = pairs ps (subst (λ (l : List Placed). Each (λ w. eqb (kindOf w) 0 ≡ false) (recordsIn l)) on (missed (λ k. eqb k 0) (1 ∷ 2 ∷ suiteKinds) refl (report-kinds r) (spotsOf ps)))
+  whole = pairs ps (missed (λ k. eqb k 0) (1 ∷ 2 ∷ suiteKinds) refl (report-kinds r) (heads shown))
 
   limit-records : length (recordsIn ps) ≤ 65536
   limit-records = rw (length-map ps recordOf) limit
@@ -97,7 +86,7 @@ module _ (r : Report) (ps : List Placed) (texts : List ℕ) (n m : ℕ)
       (p .0, ap usedText (laid-zeros m texts text-room) ∙ p .1)
 
   good : allGood texts (recordsIn ps) ≡ true
-  good = sym (ap (λ (l : List Placed). allGood texts (recordsIn l)) on) ∙ all-good (good-rows r) (every-each fitsRow (rowsOf r) fit) (spotsOf ps) held
+  good = all-good texts ps (known-rows r) (every-each row.fitsRow (row.rowsOf r) (sym (rows-fit r) ∙ fit)) (placings r ps rows) stand
 
   -- records of a report's rows, and texts in which theirs stand, are a layout, wherever each text stands
   pub placed-layout : layout (laid (zeros n) (joined (recordsIn ps))) (laid (zeros m) texts) ≡ true
@@ -106,7 +95,7 @@ module _ (r : Report) (ps : List Placed) (texts : List ℕ) (n m : ℕ)
       let k : ℕ = used .0 in
       both (ap goodText (used .1) ∙ good-texts texts k characters clean)
       (both (ap₂ allGood (ap filled (used .1) ∙ filled-texts texts k clean) records ∙ good)
-      (both (ap (goodOrder nothing) records ∙ order-placed r ps rows)
+      (both (ap (goodOrder nothing) records ∙ order-good r (heads shown))
       (ap (λ (rs : List (List ℕ)). allZero (drop (length rs * 32) (usedWords (laid (zeros n) (joined (recordsIn ps)))))) records ∙ zeros-behind whole n limit-records room-records)))
 
   -- the report that such a layout holds is the rows' report
@@ -114,5 +103,4 @@ module _ (r : Report) (ps : List Placed) (texts : List ℕ) (n m : ℕ)
   unfolding reportOf
   placed-report =
       ap₂ (λ (t : List ℕ) (rs : List (List ℕ)). reportFrom t (only live rs)) (used .1) records
-      ∙ sym (ap (λ (l : List Placed). reportFrom (texts ++ zeros (used .0)) (only live (recordsIn l))) on)
-      ∙ report-read texts (zeros (used .0)) r (spotsOf ps) held
+      ∙ report-read texts (zeros (used .0)) r ps rows stand

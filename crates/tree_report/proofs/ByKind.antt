@@ -4,7 +4,7 @@ use mathlib.Core.Bool.{Bool, true, false, cond, _&&_, _||_}
 use mathlib.Core.List.{List}
 use mathlib.Core.Path.{_≡_, refl, sym, ap, _∙_}
 use native.Mathlib.Omega.{arith}
-use borrow.Author.Tests.{eqb-true, leb-true, leb-false, le-leb, lt-leb}
+use borrow.Author.Tests.{eqb-true, leb-true, leb-false, le-leb, lt-leb, lt-ltb, ne-eqb}
 use lib.Dec.{leb, eqb}
 use Rattle.tree_record.specs.Kinds as kind
 use Rattle.tree_report.specs.Fields.{kindOf, live, isReport, isSuite, isCase}
@@ -86,3 +86,8 @@ module _ (texts r : List ℕ) where
       (leb 17 k && leb k 30)
   unfolding goodRecord
   record-parts = ap (λ (t : Bool). cond (live r) t (leb 17 k && leb k 30)) (sym kind-good)
+
+  -- one that is no report, suite or case is good if its own test passes
+  pub other-record : 4 ≤ kindOf r → kindOf r ≤ 14 → goodOther texts r ≡ true → goodRecord texts r ≡ true
+  other-record l h g =
+      rw (record-parts, lt-ltb k 16 (omega arith), ne-eqb k 1 (λ e. omega arith), ne-eqb k 2 (λ e. omega arith), ne-eqb k 3 (λ e. omega arith), le-leb k 14 h) g

@@ -1,110 +1,108 @@
 -- A report that fits is laid out and read back. Assumes nothing.
 use Prim.Native.Nat.{ℕ, suc, _+_, _-_, _*_, _≤_}
 use mathlib.Core.Bool.{Bool, true, false, _&&_}
-use mathlib.Core.List.{List, [], _∷_, _++_, map, append-nil}
+use mathlib.Core.List.{List, [], _∷_, _++_, append-assoc}
 use mathlib.Core.Option.{some}
-use mathlib.Core.Path.{_≡_, refl, sym, ap, ap₂, subst, _∙_}
+use mathlib.Core.Path.{_≡_, refl, sym, ap, ap₂, _∙_}
 use borrow.Author.Tests.{leb-true}
-use lib.Dec.{leb, eqb, lit≤}
-use lib.ListN.{length, drop}
+use lib.Dec.{leb, eqb}
+use lib.ListN.{length, drop, length-append}
 use Rattle.area.proofs.Laying.{laid-zeros}
 use Rattle.area.specs.Area.{zeros}
+use Rattle.utf8.proofs.Rules.{utf8-append}
 use Rattle.utf8.specs.Utf8.{utf8}
-use Rattle.tree_report.specs.Encode.{Cell, absent, written, valued, constant, storedIn, cellsOf, cellsIn, Row, recordAt, recordsAt, every, fitsCell, fitsMoment}
-use Rattle.tree_report.specs.Encode.{fitsTime, fitsRow, pairRow, isFlakyAlone, runRow, statusRows, caseRows, suiteRows, rowsOf, encode, wordsOf, textOf, fits}
-use Rattle.tree_report.specs.Fields.{kindOf, live}
 use Rattle.text_filter.specs.Filter.{unfiltered}
+use Rattle.schema.specs.Records as records
+use Rattle.schema.specs.Texts as texts
+use Rattle.schema.proofs.TextLaws.{utf8-all, record-back, record-good}
+use Rattle.schema.proofs.RecordLaws.{length-encode, marks-placed, clean-append, clean-all}
+use Rattle.tree_report.specs.Encode.{Row, textsOf, recordAt, storedIn, recordsAt, every, fitsRow, rowsOf, encode, wordsOf, textOf, fits}
+use Rattle.tree_report.specs.Fields.{kindOf, live}
 use Rattle.tree_report.specs.Layout.{usedWords, usedText, allZero, filled, goodText, allGood, nothing, goodOrder, recordsOf, layout}
-use Rattle.tree_report.specs.inside.Parts.{bitsFor}
-use Rattle.tree_report.specs.Report.{Pair, flaky, TestCaseStatus, success, nonSuccess, skipped, TestCase, TestSuite, Report}
+use Rattle.tree_report.specs.Report.{Report}
 use Rattle.tree_report.specs.ReportOf.{only, reportFrom, reportOf}
 use Rattle.tree_report.proofs.EncodeAreas.{Whole, records-of, zeros-behind}
+use Rattle.tree_report.proofs.EncodeGood.{Known, known-rows}
 use Rattle.tree_report.proofs.EncodeKinds.{suiteKinds, report-kinds}
-use Rattle.tree_report.proofs.EncodeLists.{both, and-left, and-right, Each, done, more, each-append, each-on, each-map, each-rows, every-each, each-record, missed}
+use Rattle.tree_report.proofs.EncodeLists.{both, and-left, and-right, Each, done, more, every-each, ended, beside}
 use Rattle.tree_report.proofs.EncodeOrder.{order-good}
 use Rattle.tree_report.proofs.EncodeReading.{report-read}
-use Rattle.tree_report.proofs.EncodeRecords.{GoodRow, good-pair, good-main, good-skipped, good-run, good-case, good-suite, good-report}
-use Rattle.tree_report.proofs.EncodeText.{take-area, filled-texts, good-texts, Sound, sound-utf8, sound-clean, Standing, standing-behind}
+use Rattle.tree_report.proofs.EncodeShown.{Headed, Shows, heads, missed}
+use Rattle.tree_report.proofs.EncodeText.{take-area, filled-texts, good-texts}
 
 -- ---- rows that fit
-cell-sound : (s : Cell) → fitsCell s ≡ true → Sound s
-cell-sound absent e = (refl, refl)
-cell-sound (written t) e = (and-left (utf8 t) (unfiltered t) e, and-right (utf8 t) (unfiltered t) e)
-cell-sound (valued a b) e = (refl, refl)
-cell-sound (constant a b) e = (refl, refl)
+abbrev pub Fit : Row → Type 0
+Fit row = fitsRow row ≡ true
 
-row-sound : (row : Row) → fitsRow row ≡ true → Each Sound (cellsOf row)
+-- the texts of rows that fit are UTF-8
+pub rows-utf8 : {rows : List Row} → Each Fit rows → utf8 (storedIn rows) ≡ true
 unfolding fitsRow
-row-sound row f =
-    let fields : List Cell = row .first ∷ row .out ∷ row .err ∷ row .second ∷ row .third ∷ row .fourth ∷ row .fifth ∷ row .sixth ∷ [] in
-    within (each-on cell-sound (every-each fitsCell fields (and-left (every fitsCell fields) (fitsMoment (row .timestamp) && fitsTime (row .time)) f)))
-  where
-    within : Each Sound (row .first ∷ row .out ∷ row .err ∷ row .second ∷ row .third ∷ row .fourth ∷ row .fifth ∷ row .sixth ∷ []) → Each Sound (cellsOf row)
-    within (more a (more b (more c (more d (more e (more f (more g (more h done)))))))) =
-        let t : Sound absent = (refl, refl) in
-        more a (more b (more c (more t (more t (more t (more t (more t (more d (more e (more f (more g (more h (more t (more t done))))))))))))))
+rows-utf8 done = refl
+rows-utf8 (more {x = r} {xs = rows} f fs) = utf8-append (textsOf r) (storedIn rows) (utf8-all (r .table) (r .fields) f) ∙ rows-utf8 fs
 
-rows-sound : {rows : List Row} → Each (λ r. fitsRow r ≡ true) rows → Each Sound (cellsIn rows)
-rows-sound done = done
-rows-sound (more {x = r} f fs) = each-append (row-sound r f) (rows-sound fs)
+rows-clean : {rows : List Row} → Each Fit rows → unfiltered (storedIn rows) ≡ true
+unfolding fitsRow
+rows-clean done = refl
+rows-clean (more {x = r} {xs = rows} f fs) = clean-append (textsOf r) (storedIn rows) (clean-all (r .table) (r .fields) f) (rows-clean fs)
 
-all-good : {texts : List ℕ} {rows : List Row} {fill : ℕ} → Each GoodRow rows → Each (λ r. fitsRow r ≡ true) rows → Standing texts fill (cellsIn rows) → allGood texts (recordsAt fill rows) ≡ true
-all-good done f s = refl
-all-good {texts} {fill = fill} (more {x = r} {xs = rows} g gs) (more f fs) s = both (g texts fill (cellsIn rows) s f) (all-good gs fs (standing-behind (cellsOf r) s))
+-- ---- their records show them, and are good
+head-shown : (fill : ℕ) (row : Row) → Headed row (recordAt fill row)
+unfolding texts.recordAt records.encode
+head-shown fill row = record { kind = refl; bits = ap records.flagsOf (marks-placed fill 0 (row .table) (row .fields)) }
 
--- ---- the rows of a report
-good-pairs : (kind : ℕ) → 4 ≤ kind → kind ≤ 14 → bitsFor kind ≡ 0 ∷ 1 ∷ [] → (ps : List Pair) → Each GoodRow (map (pairRow kind) ps)
-good-pairs kind l m b ps = each-map (pairRow kind) (good-pair kind l m b) ps
+-- the texts of these rows stand behind others, which are fill bytes
+abbrev Standing : List ℕ → ℕ → List ℕ → List Row → Type 0
+Standing texts fill before rows = (texts ≡ before ++ storedIn rows) × (length before ≡ fill)
 
-good-status : (s : TestCaseStatus) → Each GoodRow (statusRows s)
-good-status (success runs) = each-map (runRow flaky) (good-run flaky) runs
-good-status (nonSuccess kind reason family runs) = more (good-main kind (isFlakyAlone family runs) reason) (each-map (runRow family) (good-run family) runs)
-good-status (skipped reason) = more (good-skipped reason) done
+standing-next : {texts : List ℕ} {fill : ℕ} (before : List ℕ) (row : Row) (rows : List Row) → Standing texts fill before (row ∷ rows)
+    → Standing texts (fill + length (textsOf row)) (before ++ textsOf row) rows
+standing-next before row rows s = (
+  s .0 ∙ sym (append-assoc before (textsOf row) (storedIn rows)),
+  length-append before (textsOf row) ∙ ap (λ (n : ℕ). n + length (textsOf row)) (s .1),
+)
 
-good-case-rows : (c : TestCase) → Each GoodRow (caseRows c)
-unfolding bitsFor
-good-case-rows c =
-    more (good-case c) (each-append (good-pairs 14 (lit≤ tt) (lit≤ tt) refl (c .extra)) (each-append (good-pairs 5 (lit≤ tt) (lit≤ tt) refl (c .properties)) (good-status (c .status))))
+module _ (texts : List ℕ) where
+  rows-shown : (z : List ℕ) {rows : List Row} {fill : ℕ} (before : List ℕ) → Each Known rows → Each Fit rows → Standing texts fill before rows → Shows (texts ++ z) rows (recordsAt fill rows)
+  unfolding fitsRow
+  rows-shown z before done done s = ended
+  rows-shown z {fill = fill} before (more {x = r} {xs = rows} k ks) (more f fs) s =
+      beside (record {
+        head = head-shown fill r;
+        fields = record-back (r .table) (k .tested) (r .kind) fill (r .fields) f texts before (storedIn rows) (s .0, s .1, rows-utf8 fs) z;
+      }) (rows-shown z (before ++ textsOf r) ks fs (standing-next before r rows s))
 
-good-suite-rows : (s : TestSuite) → Each GoodRow (suiteRows s)
-unfolding bitsFor
-good-suite-rows s =
-    more (good-suite s)
-    (each-append (good-pairs 13 (lit≤ tt) (lit≤ tt) refl (s .extra)) (each-append (good-pairs 4 (lit≤ tt) (lit≤ tt) refl (s .properties)) (each-rows caseRows good-case-rows (s .cases))))
-
-good-rows : (r : Report) → Each GoodRow (rowsOf r)
-good-rows r = more (good-report r) (each-rows suiteRows good-suite-rows (r .suites))
+  rows-good : {rows : List Row} {fill : ℕ} (before : List ℕ) → Each Known rows → Each Fit rows → Standing texts fill before rows → allGood texts (recordsAt fill rows) ≡ true
+  unfolding fitsRow
+  rows-good before done done s = refl
+  rows-good {fill = fill} before (more {x = r} {xs = rows} k ks) (more f fs) s =
+      both (k .passes texts (recordAt fill r) (head-shown fill r .kind)
+      (record-good (r .table) (k .tested) (r .kind) fill (r .fields) f texts before (storedIn rows) (s .0, s .1, rows-utf8 fs)))
+      (rows-good (before ++ textsOf r) ks fs (standing-next before r rows s))
 
 -- ---- the whole
 length-records : (rows : List Row) (fill : ℕ) → length (recordsAt fill rows) ≡ length rows
 length-records [] fill = refl
-length-records (r ∷ rows) fill = ap suc (length-records rows (fill + length (storedIn (cellsOf r))))
+length-records (r ∷ rows) fill = ap suc (length-records rows (fill + length (textsOf r)))
 
-whole-records : (r : Report) → Each Whole (recordsAt 0 (rowsOf r))
-unfolding recordAt
-whole-records r = pairs (each-record (λ w. length w ≡ 32) (every-row (rowsOf r)) 0) (missed (λ k. eqb k 0) (1 ∷ 2 ∷ suiteKinds) refl (report-kinds r) 0)
-  where
-    every-row : (rows : List Row) → Each (λ row. (fill : ℕ) → length (recordAt fill row) ≡ 32) rows
-    every-row [] = done
-    every-row (row ∷ rows) = more (λ fill. refl) (every-row rows)
-
-    pairs : {rs : List (List ℕ)} → Each (λ w. length w ≡ 32) rs → Each (λ w. eqb (kindOf w) 0 ≡ false) rs → Each Whole rs
-    pairs done q = done
-    pairs (more p ps) (more q qs) = more (p, q) (pairs ps qs)
+whole-records : {rows : List Row} (fill : ℕ) → Each Known rows → Each (λ w. eqb (kindOf w) 0 ≡ false) (recordsAt fill rows) → Each Whole (recordsAt fill rows)
+unfolding texts.recordAt
+whole-records fill done done = done
+whole-records fill (more {x = r} k ks) (more q qs) =
+    more (length-encode (r .table) (k .tested) (r .kind) (texts.placedAt fill (r .table) (r .fields)), q) (whole-records (fill + length (textsOf r)) ks qs)
 
 -- what `fits` says
 record Fitting (r : Report) (n m : ℕ) : Type 0 where
   limit : length (rowsOf r) ≤ 65536
   room : length (rowsOf r) * 32 ≤ n
-  text-limit : length (storedIn (cellsIn (rowsOf r))) ≤ 16777216
-  text-room : length (storedIn (cellsIn (rowsOf r))) ≤ m
-  each-row : Each (λ row. fitsRow row ≡ true) (rowsOf r)
+  text-limit : length (storedIn (rowsOf r)) ≤ 16777216
+  text-room : length (storedIn (rowsOf r)) ≤ m
+  each-row : Each Fit (rowsOf r)
 
 fitting : (r : Report) (n m : ℕ) → fits r n m ≡ true → Fitting r n m
 unfolding fits
 fitting r n m e =
     let rows : List Row = rowsOf r in
-    let size : ℕ = length (storedIn (cellsIn rows)) in
+    let size : ℕ = length (storedIn rows) in
     let rest3 : Bool = leb size m && every fitsRow rows in
     let rest2 : Bool = leb size 16777216 && rest3 in
     let rest1 : Bool = leb (length rows * 32) n && rest2 in
@@ -123,18 +121,21 @@ module _ (r : Report) (n m : ℕ) (f : Fitting r n m) where
   abbrev rows : List Row
   rows = rowsOf r
 
-  abbrev texts : List ℕ
-  texts = storedIn (cellsIn rows)
+  abbrev stored : List ℕ
+  stored = storedIn rows
 
-  standing : Standing texts 0 (cellsIn rows)
-  standing = record { before = []; whole = refl; start = refl; sound = rows-sound (f .each-row) }
+  standing : Standing stored 0 [] rows
+  standing = (refl, refl)
+
+  shown : (z : List ℕ) → Shows (stored ++ z) rows (recordsAt 0 rows)
+  shown z = rows-shown stored z [] (known-rows r) (f .each-row) standing
 
   -- the areas: the texts and zeros, and the records
-  used : (k : ℕ) × (usedText (textOf r m) ≡ texts ++ zeros k)
+  used : (k : ℕ) × (usedText (textOf r m) ≡ stored ++ zeros k)
   unfolding textOf encode
   used =
-      let p = take-area texts (m - length texts) 16777216 (f .text-limit) in
-      (p .0, ap usedText (laid-zeros m texts (f .text-room)) ∙ p .1)
+      let p = take-area stored (m - length stored) 16777216 (f .text-limit) in
+      (p .0, ap usedText (laid-zeros m stored (f .text-room)) ∙ p .1)
 
   limit-records : length (recordsAt 0 rows) ≤ 65536
   limit-records = rw (length-records rows 0) (f .limit)
@@ -142,25 +143,27 @@ module _ (r : Report) (n m : ℕ) (f : Fitting r n m) where
   room-records : length (recordsAt 0 rows) * 32 ≤ n
   room-records = rw (length-records rows 0) (f .room)
 
-  records : recordsOf (wordsOf r n) ≡ recordsAt 0 rows
+  whole : Each Whole (recordsAt 0 rows)
+  whole = whole-records 0 (known-rows r) (missed (λ k. eqb k 0) (1 ∷ 2 ∷ suiteKinds) refl (report-kinds r) (heads (shown [])))
+
+  held : recordsOf (wordsOf r n) ≡ recordsAt 0 rows
   unfolding wordsOf encode
-  records = records-of (whole-records r) n limit-records room-records
+  held = records-of whole n limit-records room-records
 
   fitting-layout : layout (wordsOf r n) (textOf r m) ≡ true
   unfolding layout wordsOf encode
   fitting-layout =
       let k : ℕ = used .0 in
-      let c = sound-clean (rows-sound (f .each-row)) in
-      both (ap goodText (used .1) ∙ good-texts texts k (sound-utf8 (rows-sound (f .each-row))) c)
-      (both (ap₂ allGood (ap filled (used .1) ∙ filled-texts texts k c) records ∙ all-good (good-rows r) (f .each-row) standing)
-      (both (ap (goodOrder nothing) records ∙ order-good r 0)
-      (ap (λ (rs : List (List ℕ)). allZero (drop (length rs * 32) (usedWords (wordsOf r n)))) records ∙ zeros-behind (whole-records r) n limit-records room-records)))
+      let c = rows-clean (f .each-row) in
+      both (ap goodText (used .1) ∙ good-texts stored k (rows-utf8 (f .each-row)) c)
+      (both (ap₂ allGood (ap filled (used .1) ∙ filled-texts stored k c) held ∙ rows-good stored [] (known-rows r) (f .each-row) standing)
+      (both (ap (goodOrder nothing) held ∙ order-good r (heads (shown [])))
+      (ap (λ (rs : List (List ℕ)). allZero (drop (length rs * 32) (usedWords (wordsOf r n)))) held ∙ zeros-behind whole n limit-records room-records)))
 
   fitting-report : reportOf (wordsOf r n) (textOf r m) ≡ some r
   unfolding reportOf
   fitting-report =
-      ap₂ (λ (t : List ℕ) (rs : List (List ℕ)). reportFrom t (only live rs)) (used .1) records
-      ∙ report-read texts (zeros (used .0)) r 0 [] (subst (λ (cs : List Cell). Standing texts 0 cs) (sym (append-nil (cellsIn rows))) standing)
+      ap₂ (λ (t : List ℕ) (rs : List (List ℕ)). reportFrom t (only live rs)) (used .1) held ∙ report-read (stored ++ zeros (used .0)) r (shown (zeros (used .0)))
 
 -- every report that fits is held by its areas, whatever their lengths
 pub encode-layout : (r : Report) (n m : ℕ) → fits r n m ≡ true → layout (wordsOf r n) (textOf r m) ≡ true

@@ -1,7 +1,7 @@
--- The cells of a record: each is good in a layout, and is read back. Assumes nothing.
+-- The cells of a record: numbers and times are good in a layout, and are read back. Assumes nothing.
 use Prim.Native.Nat.{ℕ, _+_, _*_, _/_, _%_, min}
 use mathlib.Core.Bool.{Bool, true, false, cond}
-use mathlib.Core.List.{List, [], _∷_, _++_}
+use mathlib.Core.List.{List, [], _∷_}
 use mathlib.Core.Option.{Option, none, some}
 use mathlib.Core.Path.{_≡_, refl, sym, ap, _∙_}
 use native.Mathlib.Nat.{mod-add-div'}
@@ -10,14 +10,14 @@ use borrow.Author.Tests.{eq-eqb}
 use lib.Dec.{eqb}
 use lib.ListN.{getD, take, drop}
 use Rattle.tree_record.specs.Record.{maskOf}
-use Rattle.tree_report.specs.Encode.{Cell, isGiven, firstWord, secondWord, ofText, ofNumber, isSome, momentOrZero, timeOrZero, fitsMoment, fitsTime, flagsOf}
-use Rattle.tree_report.specs.Fields.{hasBit, given, textAt, numberAt, momentOf, timestamp, time}
+use Rattle.tree_report.specs.inside.Cells.{isGiven, firstWord, secondWord, ofNumber, uuidBack, isSome, momentOrZero, timeOrZero, fitsMoment, fitsTime, flagsOf}
+use Rattle.tree_report.specs.Fields.{hasBit, given, numberAt, momentOf, timestamp, time}
 use Rattle.tree_report.specs.Layout.{zeroAt}
-use Rattle.tree_report.specs.inside.Parts.{slot, textSlot, goodTextAt, momentSlot, timeSlot, bitsOf, onlyBits}
+use Rattle.tree_report.specs.inside.Parts.{slot, momentSlot, timeSlot, bitsOf, onlyBits}
 use Rattle.timestamp.specs.declared.Moment.{Moment}
-use Rattle.tree_report.specs.Report.{Text, Duration}
+use Rattle.uuid.specs.declared.Words.{Words}
+use Rattle.tree_report.specs.Report.{Duration}
 pub use Rattle.schema.proofs.Tests.{bit-flag}
-use Rattle.tree_report.proofs.EncodeText.{Standing, text-read, text-good}
 
 -- ---- the presence bits
 -- what these bits come to, of all that are set
@@ -43,16 +43,6 @@ only-bits r bs ks e h = eq-eqb (getD r 1 0) (bitsOf ks r) (e ∙ h ∙ sym (bits
 -- the two words at o
 abbrev pub Pairing : List ℕ → ℕ → ℕ → ℕ → Type 0
 Pairing r o a b = (getD r o 0 ≡ a) × (getD r (o + 1) 0 ≡ b) × (take 2 (drop o r) ≡ a ∷ b ∷ [])
-
-pub record TextBack (texts r : List ℕ) (k o : ℕ) (t : Option Text) : Type 0 where
-  pub good : textSlot texts r k o ≡ true
-  pub back : (z : List ℕ) → given (hasBit k r) (textAt (texts ++ z) r o) ≡ t
-
-pub text-back : {texts : List ℕ} {fill : ℕ} (r : List ℕ) (k o : ℕ) (t : Option Text) {ss : List Cell} → Standing texts fill (ofText t ∷ ss) → hasBit k r ≡ isGiven (ofText t)
-    → Pairing r o (firstWord fill (ofText t)) (secondWord (ofText t)) → TextBack texts r k o t
-unfolding goodTextAt
-text-back r k o none h b w = record { good = rw (b, w .2) refl; back = λ z. rw b refl }
-text-back r k o (some t) h b w = record { good = rw (b, w .0, w .1) (text-good h); back = λ z. rw (b, w .0, w .1) (ap (λ (s : Text). some s) (text-read h z)) }
 
 pub record NumberBack (r : List ℕ) (k o : ℕ) (n : Option ℕ) : Type 0 where
   pub good : slot (hasBit k r) true (zeroAt r o 2) ≡ true
@@ -83,3 +73,8 @@ pub record TimeBack (r : List ℕ) (d : Option Duration) : Type 0 where
 pub time-back : (r : List ℕ) (d : Option Duration) → hasBit 4 r ≡ isSome d → Pairing r 16 (timeOrZero d .seconds) (timeOrZero d .nanos) → TimeBack r d
 time-back r none b w = record { good = λ f. rw (b, w .2) refl; back = rw b refl }
 time-back r (some d) b w = record { good = λ f. rw (b, w .0, w .1) f; back = rw (b, w .0, w .1) refl }
+
+-- the second half of a UUID has no presence bit of its own
+pub back-hidden : (u : Option Words) → isGiven (uuidBack u) ≡ false
+back-hidden none = refl
+back-hidden (some u) = refl

@@ -4,8 +4,10 @@ use mathlib.Core.List.{[], _∷_, _++_}
 use mathlib.Core.Option.{none, some}
 use mathlib.Core.Path.{_≡_, refl}
 use Rattle.area.specs.Area.{zeros}
+use Rattle.schema.specs.Records as records
 use Rattle.schema.specs.Records.{good}
-use Rattle.tree_report.specs.Encode.{recordAt, encode, wordsOf, textOf, fitsRow, fits}
+use Rattle.schema.specs.Texts as texts
+use Rattle.tree_report.specs.Encode.{encode, wordsOf, textOf, fitsRow, fits}
 use Rattle.tree_report.specs.Layout.{goodText, goodRecord, mayEnd, mayFollow, following, goodOrder, recordsFrom, recordsOf, layout}
 use Rattle.tree_report.specs.Report.{Counts, failure, flaky, nonSuccess, Report}
 use Rattle.tree_report.specs.ReportOf.{reportOf}
@@ -20,7 +22,7 @@ abbrev nothingIn : Report
 nothingIn = record { name = none; uuid = none; timestamp = none; time = none; counts = noCounts; suites = [] }
 
 nothing-words : wordsOf nothingIn 32 ≡ 1 ∷ zeros 31
-unfolding wordsOf encode recordAt
+unfolding wordsOf encode records.encode texts.recordAt
 nothing-words = refl
 
 nothing-fits : fits nothingIn 32 0 ≡ true
@@ -72,12 +74,12 @@ unfolding textOf encode
 flaky-texts = refl
 
 flaky-layout : layout (wordsOf flakyFailure 200) (textOf flakyFailure 5) ≡ true
-unfolding layout wordsOf textOf encode recordAt recordsOf recordsFrom goodText goodRecord good
+unfolding layout wordsOf textOf encode records.encode texts.recordAt recordsOf recordsFrom goodText goodRecord good
     goodOrder mayFollow mayEnd following tallied ruled need low high
 flaky-layout = refl
 
 flaky-read : reportOf (wordsOf flakyFailure 200) (textOf flakyFailure 5) ≡ some flakyFailure
-unfolding reportOf wordsOf textOf encode recordAt recordsOf recordsFrom
+unfolding reportOf wordsOf textOf encode records.encode texts.recordAt recordsOf recordsFrom
 flaky-read = refl
 
 -- the suite's second extra has an empty value behind the first one's two bytes; the case's name stands behind it
@@ -86,5 +88,5 @@ flaky-places : wordsOf flakyFailure 160 ≡
     ++ ((2 ∷ 257 ∷ 0 ∷ 1 ∷ zeros 14) ++ ((4294967295 ∷ 4294967295 ∷ 1 ∷ zeros 11)
     ++ ((13 ∷ 3 ∷ 1 ∷ 0 ∷ 1 ∷ 2 ∷ zeros 26) ++ ((13 ∷ 3 ∷ 3 ∷ 0 ∷ 3 ∷ 0 ∷ zeros 26)
     ++ ((3 ∷ 65 ∷ 3 ∷ 1 ∷ zeros 16) ++ (0 ∷ 1 ∷ zeros 10)))))))
-unfolding wordsOf encode recordAt
+unfolding wordsOf encode records.encode texts.recordAt
 flaky-places = refl

@@ -1,12 +1,44 @@
 -- Which kinds the records of a report and of its parts have. Assumes nothing.
-use Prim.Native.Nat.{ℕ}
-use mathlib.Core.Bool.{true}
+use Prim.Native.Nat.{ℕ, _≤_}
+use mathlib.Core.Bool.{true, false, cond, _&&_}
 use mathlib.Core.List.{List, [], _∷_, _++_, map}
 use mathlib.Core.Path.{_≡_, refl}
-use Rattle.tree_report.specs.Encode.{rowsOfEach, pairRow, kindOfRun, runRow, statusRows, caseRows, suiteRows, rowsOf}
+use lib.Dec.{leb, eqb, lit≤}
+use Rattle.tree_report.specs.Encode.{rowsOfEach, pairRow, kindOfMain, kindOfRun, runRow, statusRows, caseRows, suiteRows, rowsOf}
 use Rattle.tree_report.specs.Report.{Pair, NonSuccessKind, failure, error, FlakyOrRerun, flaky, rerun, TestRerun, TestCaseStatus, success, nonSuccess, skipped, TestCase, TestSuite, Report}
 use Rattle.tree_report.proofs.EncodeLists.{done, more, each-append, each-map, each-rows, among, Kinds, kinds-more}
 
+-- ---- the kinds of a main and of a run
+-- a run's family and kind are read back from its record's kind
+pub run-family : (family : FlakyOrRerun) (k : NonSuccessKind) → cond (leb (kindOfRun family k) 10) flaky rerun ≡ family
+run-family flaky failure = refl
+run-family flaky error = refl
+run-family rerun failure = refl
+run-family rerun error = refl
+
+pub run-kind : (family : FlakyOrRerun) (k : NonSuccessKind) → cond (eqb (kindOfRun family k) 9) failure (cond (eqb (kindOfRun family k) 11) failure error) ≡ k
+run-kind flaky failure = refl
+run-kind flaky error = refl
+run-kind rerun failure = refl
+run-kind rerun error = refl
+
+-- the kinds of runs are 9 to 12
+pub run-bounds : (family : FlakyOrRerun) (k : NonSuccessKind) → (9 ≤ kindOfRun family k) × (kindOfRun family k ≤ 12)
+run-bounds flaky failure = (lit≤ tt, lit≤ tt)
+run-bounds flaky error = (lit≤ tt, lit≤ tt)
+run-bounds rerun failure = (lit≤ tt, lit≤ tt)
+run-bounds rerun error = (lit≤ tt, lit≤ tt)
+
+pub main-bounds : (kind : NonSuccessKind) → (6 ≤ kindOfMain kind) × (kindOfMain kind ≤ 7)
+main-bounds failure = (lit≤ tt, lit≤ tt)
+main-bounds error = (lit≤ tt, lit≤ tt)
+
+-- the kind of a main is told from that of a run
+pub main-test : (kind : NonSuccessKind) → ((leb 6 (kindOfMain kind) && leb (kindOfMain kind) 8) ≡ true) × ((leb 9 (kindOfMain kind) && leb (kindOfMain kind) 12) ≡ false)
+main-test failure = (refl, refl)
+main-test error = (refl, refl)
+
+-- ---- which kinds stand where
 abbrev pub runKinds : List ℕ
 runKinds = 9 ∷ 10 ∷ 11 ∷ 12 ∷ []
 

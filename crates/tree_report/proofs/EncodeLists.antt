@@ -1,17 +1,14 @@
 -- Lists of records and of rows. Assumes nothing.
-use Prim.Native.Nat.{ℕ, _+_}
+use Prim.Native.Nat.{ℕ}
 use mathlib.Core.Bool.{Bool, true, false, not, _||_, false≢true}
-use mathlib.Core.List.{List, [], _∷_, _++_, map, append-assoc}
-use mathlib.Core.Path.{_≡_, refl, sym, ap, _∙_}
-use native.Mathlib.Omega.{arith}
+use mathlib.Core.List.{List, [], _∷_, _++_, map}
+use mathlib.Core.Path.{_≡_, refl, ap, _∙_}
 use borrow.Author.Tests.{eqb-true, not-true}
 use lib.Dec.{eqb}
-use lib.ListN.{length, length-append}
 pub use Rattle.schema.proofs.Tests.{both, and-left, and-right}
 pub use Rattle.tree_report.specs.inside.Each.{Each, done, more}
-use Rattle.tree_report.specs.Fields.{kindOf}
 use Rattle.tree_report.specs.ReportOf.{only, until, branches}
-use Rattle.tree_report.specs.Encode.{Cell, stored, storedIn, Row, cellsOf, cellsIn, recordAt, recordsAt, rowsOfEach, every}
+use Rattle.tree_report.specs.Encode.{Row, rowsOfEach, every}
 
 -- ---- P of each
 module _ {A : Type 0} {P : A → Type 0} where
@@ -36,32 +33,43 @@ each-map f h [] = done
 each-map f h (x ∷ xs) = more (h x) (each-map f h xs)
 
 -- what holds of the rows of every element holds of the rows of all
-pub each-rows : {A : Type 0} {P : Row → Type 0} (f : A → List Row) → ((x : A) → Each P (f x)) → (xs : List A) → Each P (rowsOfEach f xs)
+pub each-rows : {A B : Type 0} {P : B → Type 0} (f : A → List B) → ((x : A) → Each P (f x)) → (xs : List A) → Each P (rowsOfEach f xs)
 each-rows f h [] = done
 each-rows f h (x ∷ xs) = each-append (h x) (each-rows f h xs)
 
--- what holds of rows wherever they are laid holds of their records
-pub each-record : (P : List ℕ → Type 0) {rows : List Row} → Each (λ r. (fill : ℕ) → P (recordAt fill r)) rows → (fill : ℕ) → Each P (recordsAt fill rows)
-each-record P done fill = done
-each-record P (more {x = r} h hs) fill = more (h fill) (each-record P hs (fill + length (storedIn (cellsOf r))))
+-- ---- two lists side by side
+pub data Beside {A B : Type 0} (R : A → B → Type 0) : List A → List B → Type 0 where
+  ended : Beside R [] []
+  beside : {x : A} {y : B} {xs : List A} {ys : List B} → R x y → Beside R xs ys → Beside R (x ∷ xs) (y ∷ ys)
 
--- ---- texts and records of two lists of rows
-pub stored-append : (ss ts : List Cell) → storedIn (ss ++ ts) ≡ storedIn ss ++ storedIn ts
-stored-append [] ts = refl
-stored-append (s ∷ ss) ts = ap (λ (l : List ℕ). stored s ++ l) (stored-append ss ts) ∙ sym (append-assoc (stored s) (storedIn ss) (storedIn ts))
+-- beside two lists stand two lists
+pub record Parts {A B : Type 0} (R : A → B → Type 0) (a b : List A) (ys : List B) : Type 0 where
+  pub front : List B
+  pub back : List B
+  pub whole : ys ≡ front ++ back
+  pub first : Beside R a front
+  pub second : Beside R b back
 
-pub cells-append : (rs qs : List Row) → cellsIn (rs ++ qs) ≡ cellsIn rs ++ cellsIn qs
-cells-append [] qs = refl
-cells-append (r ∷ rs) qs = ap (λ (l : List Cell). cellsOf r ++ l) (cells-append rs qs) ∙ sym (append-assoc (cellsOf r) (cellsIn rs) (cellsIn qs))
+module _ {A B : Type 0} {R : A → B → Type 0} where
+  -- what follows from it holds side by side too
+  pub beside-on : {S : A → B → Type 0} → ((x : A) (y : B) → R x y → S x y) → {xs : List A} {ys : List B} → Beside R xs ys → Beside S xs ys
+  beside-on f ended = ended
+  beside-on f (beside {x = x} {y = y} r h) = beside (f x y r) (beside-on f h)
 
-pub records-append : (rs qs : List Row) (fill : ℕ) → recordsAt fill (rs ++ qs) ≡ recordsAt fill rs ++ recordsAt (fill + length (storedIn (cellsIn rs))) qs
-records-append [] qs fill = let z : fill ≡ fill + 0 = omega arith in ap (λ (n : ℕ). recordsAt n qs) z
-records-append (r ∷ rs) qs fill =
-    let a : ℕ = length (storedIn (cellsOf r)) in
-    let b : ℕ = length (storedIn (cellsIn rs)) in
-    let e : length (storedIn (cellsOf r ++ cellsIn rs)) ≡ a + b = ap length (stored-append (cellsOf r) (cellsIn rs)) ∙ length-append (storedIn (cellsOf r)) (storedIn (cellsIn rs)) in
-    let z : fill + a + b ≡ fill + length (storedIn (cellsOf r ++ cellsIn rs)) = omega arith in
-    ap (λ (l : List (List ℕ)). recordAt fill r ∷ l) (records-append rs qs (fill + a) ∙ ap (λ (n : ℕ). recordsAt (fill + a) rs ++ recordsAt n qs) z)
+  -- what holds of each on one side, with R, holds of each on the other
+  pub each-beside : {P : A → Type 0} {Q : B → Type 0} → ((x : A) (y : B) → P x → R x y → Q y) → {xs : List A} {ys : List B} → Each P xs → Beside R xs ys → Each Q ys
+  each-beside f done ended = done
+  each-beside f (more {x = x} p ps) (beside {y = y} r h) = more (f x y p r) (each-beside f ps h)
+
+  pub parts : (a b : List A) {ys : List B} → Beside R (a ++ b) ys → Parts R a b ys
+  parts [] b {ys} h = record { front = []; back = ys; whole = refl; first = ended; second = h }
+  parts (x ∷ a) b (beside {y = y} r h) =
+      let p = parts a b h in
+      record { front = y ∷ p .front; back = p .back; whole = ap (λ (l : List B). y ∷ l) (p .whole); first = beside r (p .first); second = p .second }
+
+  pub beside-append : {a b : List A} {c d : List B} → Beside R a c → Beside R b d → Beside R (a ++ b) (c ++ d)
+  beside-append ended h = h
+  beside-append (beside r g) h = beside r (beside-append g h)
 
 -- ---- the records that pass a test, and those behind one
 module _ (p : List ℕ → Bool) where
@@ -133,7 +141,3 @@ missed-one q (j ∷ js) k e h = go (missed-one q js k (and-right (not (q j)) (ev
     go : (among js k ≡ true → q k ≡ false) → (t : Bool) → eqb k j ≡ t → (t || among js k) ≡ true → q k ≡ false
     go f true z y = ap q (eqb-true k j z) ∙ not-true (q j) (and-left (not (q j)) (every (λ i. not (q i)) js) e)
     go f false z y = f y
-
-pub missed : (q : ℕ → Bool) (ks : List ℕ) → every (λ j. not (q j)) ks ≡ true → {rows : List Row} → Kinds ks rows → (fill : ℕ) → Each (λ r. q (kindOf r) ≡ false) (recordsAt fill rows)
-unfolding recordAt
-missed q ks e h fill = each-record (λ r. q (kindOf r) ≡ false) (each-on (λ r y g. missed-one q ks (r .kind) e y) h) fill

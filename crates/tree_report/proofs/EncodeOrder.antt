@@ -1,27 +1,31 @@
 -- The records of a report stand in the order of a layout. Assumes nothing.
-use Prim.Native.Nat.{ℕ, _+_, _≤_}
+use Prim.Native.Nat.{ℕ, _+_, _/_, _%_, _≤_}
 use mathlib.Core.Bool.{Bool, true, false, cond, not, _&&_, _||_, or-true}
 use mathlib.Core.List.{List, [], _∷_, _++_, map, append-assoc, append-nil}
 use mathlib.Core.Path.{_≡_, refl, sym, ap, ap₂, _∙_}
 use native.Mathlib.Omega.{arith}
 use borrow.Author.Tests.{le-leb, eq-eqb, ne-eqb, lt-ltb, le-ltb}
 use lib.Dec.{leb, ltb, eqb, lit≤}
-use lib.ListN.{length}
-use Rattle.tree_report.specs.Encode.{storedIn, presence, cellsOf, Row, recordAt, recordsAt, rowsOfEach, pairRow, mainRow, kindOfMain}
-use Rattle.tree_report.specs.Encode.{kindOfRun, runRow, isFlakyAlone, statusRows, caseRow, caseRows, suiteRow, suiteRows, reportRow, rowsOf}
+use Rattle.schema.proofs.Tests.{bit-flag}
+use Rattle.schema.specs.Schema as table
+use Rattle.schema.specs.Records.{marksFrom}
+use Rattle.schema.specs.Elements as named
+use Rattle.tree_report.specs.Encode.{Row, rowsOfEach, pairRow, mainRow, skippedRow, kindOfMain, kindOfRun, runRow, isFlakyAlone}
+use Rattle.tree_report.specs.Encode.{statusRows, caseRow, caseRows, suiteRow, suiteRows, reportRow, rowsOf}
 use Rattle.tree_report.specs.Fields.{kindOf, live, hasBit}
 use Rattle.tree_report.specs.Layout.{Open, nothing, over, mayEnd, mayFollow, following, goodOrder}
-use Rattle.tree_report.specs.Report.{Pair, NonSuccessKind, failure, error, FlakyOrRerun, flaky, rerun, TestRerun, Reason}
+use Rattle.tree_report.specs.Report.{Text, Pair, NonSuccessKind, failure, error, FlakyOrRerun, flaky, rerun, TestRerun, Reason}
 use Rattle.tree_report.specs.Report.{TestCaseStatus, success, nonSuccess, skipped, TestCase, TestSuite, Report}
 use Rattle.tree_status.specs.declared.Tally.{Tally}
 use Rattle.tree_status.specs.Status.{noStatus, tallied, ruled}
-use Rattle.tree_report.proofs.EncodeLists.{both}
-use Rattle.tree_report.proofs.EncodeCells.{bit-flag}
-use Rattle.tree_report.proofs.EncodeRecords.{run-bounds}
+use Rattle.tree_report.proofs.EncodeKinds.{run-bounds, main-bounds}
+use Rattle.tree_report.proofs.EncodeLists.{both, ended, beside, parts}
+use Rattle.tree_report.proofs.EncodeShown.{Headed, Heads}
+use Rattle.tree_report.proofs.EncodeReading.{main-flag}
 
 -- ---- rows lead from where P is open to where Q is
 pub record Leads (P : Open → Type 0) (rows : List Row) (Q : Open → Type 0) : Type 0 where
-  pub on : (rest : List Row) → ((o : Open) (g : ℕ) → Q o → goodOrder o (recordsAt g rest) ≡ true) → (o : Open) (g : ℕ) → P o → goodOrder o (recordsAt g (rows ++ rest)) ≡ true
+  pub on : (rs rest : List (List ℕ)) → Heads rows rs → ((o : Open) → Q o → goodOrder o rest ≡ true) → (o : Open) → P o → goodOrder o (rs ++ rest) ≡ true
 
 -- one record may stand where o is open, and leaves Q open
 pub record Step (o : Open) (r : List ℕ) (Q : Open → Type 0) : Type 0 where
@@ -33,27 +37,37 @@ order-step : (o : Open) (r : List ℕ) (rs : List (List ℕ)) → live r ≡ tru
 unfolding goodOrder
 order-step o r rs l m g = ap (λ (b : Bool). cond b (mayFollow o r && goodOrder (following o r) rs) (goodOrder o rs)) l ∙ both m g
 
+-- a row's record wherever P is open
+abbrev Steps : (Open → Type 0) → Row → (Open → Type 0) → Type 0
+Steps P row Q = (o : Open) (w : List ℕ) → Headed row w → P o → Step o w Q
+
 leads-none : {P Q : Open → Type 0} → ((o : Open) → P o → Q o) → Leads P [] Q
-leads-none f = record { on = λ rest k o g p. k o g (f o p) }
+leads-none {P} {Q} f = record { on = go }
+  where
+    go : (rs rest : List (List ℕ)) → Heads [] rs → ((o : Open) → Q o → goodOrder o rest ≡ true) → (o : Open) → P o → goodOrder o (rs ++ rest) ≡ true
+    go [] rest ended k o p = k o (f o p)
 
 leads-from : {P Q R : Open → Type 0} {rows : List Row} → ((o : Open) → P o → Q o) → Leads Q rows R → Leads P rows R
-leads-from f l = record { on = λ rest k o g p. l .on rest k o g (f o p) }
+leads-from f l = record { on = λ rs rest h k o p. l .on rs rest h k o (f o p) }
 
-leads-row : {P Q R : Open → Type 0} {row : Row} {rows : List Row} → ((o : Open) (g : ℕ) → P o → Step o (recordAt g row) Q) → Leads Q rows R → Leads P (row ∷ rows) R
-leads-row {row = row} {rows = rows} s l = record {
-  on = λ rest k o g p.
-      let q = s o g p in
-      let f : ℕ = g + length (storedIn (cellsOf row)) in
-      order-step o (recordAt g row) (recordsAt f (rows ++ rest)) (q .alive) (q .allowed) (l .on rest k (following o (recordAt g row)) f (q .leaves));
-}
+leads-row : {P Q R : Open → Type 0} {row : Row} {rows : List Row} → Steps P row Q → Leads Q rows R → Leads P (row ∷ rows) R
+leads-row {P} {Q} {R} {row} {rows} s l = record { on = go }
+  where
+    go : (rs rest : List (List ℕ)) → Heads (row ∷ rows) rs → ((o : Open) → R o → goodOrder o rest ≡ true) → (o : Open) → P o → goodOrder o (rs ++ rest) ≡ true
+    go (w ∷ rs) rest (beside h hs) k o p =
+        let q = s o w h p in
+        order-step o w (rs ++ rest) (q .alive) (q .allowed) (l .on rs rest hs k (following o w) (q .leaves))
 
 leads-append : {P Q R : Open → Type 0} {a b : List Row} → Leads P a Q → Leads Q b R → Leads P (a ++ b) R
 leads-append {a = a} {b = b} l m = record {
-  on = λ rest k o g p. ap (λ (rows : List Row). goodOrder o (recordsAt g rows)) (append-assoc a b rest) ∙ l .on (b ++ rest) (m .on rest k) o g p;
+  on = λ rs rest h k o p.
+      let q = parts a b h in
+      ap (λ (x : List (List ℕ)). goodOrder o (x ++ rest)) (q .whole) ∙ ap (goodOrder o) (append-assoc (q .front) (q .back) rest)
+      ∙ l .on (q .front) (q .back ++ rest) (q .first) (λ u v. m .on (q .back) rest (q .second) k u v) o p;
 }
 
 module _ {A : Type 0} {Q : Open → Type 0} where
-  leads-map : (f : A → Row) → ((x : A) (o : Open) (g : ℕ) → Q o → Step o (recordAt g (f x)) Q) → (xs : List A) → Leads Q (map f xs) Q
+  leads-map : (f : A → Row) → ((x : A) → Steps Q (f x) Q) → (xs : List A) → Leads Q (map f xs) Q
   leads-map f s [] = leads-none (λ o q. q)
   leads-map f s (x ∷ xs) = leads-row (s x) (leads-map f s xs)
 
@@ -167,35 +181,37 @@ counted-on flaky error t c = c
 counted-on rerun failure t c = c
 counted-on rerun error t c = c
 
-run-step : (family : FlakyOrRerun) (e : TestRerun) (o : Open) (g : ℕ) → Running family o → Step o (recordAt g (runRow family e)) (Running family)
-unfolding recordAt
-run-step family e o g r =
+run-step : (family : FlakyOrRerun) (e : TestRerun) → Steps (Running family) (runRow family e) (Running family)
+run-step family e o w h r =
     let b = run-bounds family (e .kind) in
-    status-step o (recordAt g (runRow family e)) (Running family) (let l = b .0 in omega arith) (b .1) (r .level)
-    (record { level = refl; counted = counted-on family (e .kind) (o .tally) (r .counted); flagged = ap₂ _||_ (r .flagged) (bit-flag 9 (presence (runRow family e))) })
+    let k : kindOf w ≡ kindOfRun family (e .kind) = h .kind in
+    let unflagged : hasBit 9 w ≡ false = ap (λ (n : ℕ). eqb (n / 512 % 2) 1) (h .bits) ∙ bit-flag 9 (marksFrom Text 0 table.run (named.runFields e)) in
+    status-step o w (Running family) (let l = b .0 in omega (arith, k, l)) (let l = b .1 in omega (arith, k, l)) (r .level)
+    (record { level = refl; counted = rw k (counted-on family (e .kind) (o .tally) (r .counted)); flagged = ap₂ _||_ (r .flagged) unflagged })
 
 leads-runs : (family : FlakyOrRerun) {P : Open → Type 0} → ((o : Open) → P o → Running family o) → (runs : List TestRerun) → Leads P (map (runRow family) runs) (Ready 2)
 leads-runs family f [] = leads-none (λ o p. running-ready family o (f o p))
-leads-runs family f (e ∷ runs) =
-    leads-row {Q = Running family} (λ o g p. run-step family e o g (f o p)) (leads-runs family (λ o r. r) runs)
+leads-runs family f (e ∷ runs) = leads-row {Q = Running family} (λ o w h p. run-step family e o w h (f o p)) (leads-runs family (λ o r. r) runs)
 
 -- ---- a case's status elements
 main-tally : (kind : ℕ) → kind ≤ 8 → tallied noStatus kind ≡ oneMain kind
 unfolding tallied
 main-tally kind h = rw (le-leb kind 8 h) refl
 
-main-step : (kind : ℕ) → 6 ≤ kind → kind ≤ 8 → (isFlaky : Bool) (r : Reason) (o : Open) (g : ℕ) → InCase o → Step o (recordAt g (mainRow kind isFlaky r)) (Behind kind isFlaky)
-unfolding recordAt
-main-step kind l h isFlaky r o g c =
-    status-step o (recordAt g (mainRow kind isFlaky r)) (Behind kind isFlaky) l (omega arith) (c .level)
-    (record { level = refl; tally = ap (λ (t : Tally). tallied t kind) (c .tally) ∙ main-tally kind h; flagged = ap₂ _||_ (c .flagged) (bit-flag 9 (presence (mainRow kind isFlaky r))) })
+main-step : (kind : ℕ) → 6 ≤ kind → kind ≤ 8 → (isFlaky : Bool) (o : Open) (w : List ℕ) → kindOf w ≡ kind → hasBit 9 w ≡ isFlaky → InCase o → Step o w (Behind kind isFlaky)
+main-step kind l h isFlaky o w k f c =
+    status-step o w (Behind kind isFlaky) (omega (arith, k, l)) (omega (arith, k, h)) (c .level)
+    (record { level = refl; tally = ap₂ tallied (c .tally) k ∙ main-tally kind h; flagged = ap₂ _||_ (c .flagged) f })
 
-main-bounds : (kind : NonSuccessKind) → (6 ≤ kindOfMain kind) × (kindOfMain kind ≤ 7)
-main-bounds failure = (lit≤ tt, lit≤ tt)
-main-bounds error = (lit≤ tt, lit≤ tt)
+nonSuccess-step : (kind : NonSuccessKind) (isFlaky : Bool) (r : Reason) → Steps InCase (mainRow kind isFlaky r) (Behind (kindOfMain kind) isFlaky)
+nonSuccess-step kind isFlaky r o w h c =
+    let b = main-bounds kind in
+    main-step (kindOfMain kind) (b .0) (let l = b .1 in omega (arith, l)) isFlaky o w (h .kind) (main-flag kind isFlaky r w h) c
 
-nonSuccess-step : (kind : NonSuccessKind) (isFlaky : Bool) (r : Reason) (o : Open) (g : ℕ) → InCase o → Step o (recordAt g (mainRow (kindOfMain kind) isFlaky r)) (Behind (kindOfMain kind) isFlaky)
-nonSuccess-step kind = let b = main-bounds kind in main-step (kindOfMain kind) (b .0) (let h = b .1 in omega arith)
+skipped-step : (r : Reason) → Steps InCase (skippedRow r) (Behind 8 false)
+skipped-step r o w h c =
+    main-step 8 (lit≤ tt) (lit≤ tt) false o w (h .kind)
+    (ap (λ (n : ℕ). eqb (n / 512 % 2) 1) (h .bits) ∙ bit-flag 9 (marksFrom Text 0 table.skipped (named.skippedFields r))) c
 
 one-ruled : (kind : ℕ) → ruled (oneMain kind) ≡ true
 unfolding ruled
@@ -230,27 +246,27 @@ leads-status (nonSuccess kind reason flaky (r ∷ runs)) =
     leads-row (nonSuccess-step kind (isFlakyAlone flaky (r ∷ runs)) reason) (leads-runs flaky (runs-behind kind flaky) (r ∷ runs))
 leads-status (nonSuccess kind reason rerun runs) =
     leads-row (nonSuccess-step kind (isFlakyAlone rerun runs) reason) (leads-runs rerun (runs-behind kind rerun) runs)
-leads-status (skipped reason) = leads-row (main-step 8 (lit≤ tt) (lit≤ tt) false reason) (leads-none (ends-behind 8 false))
+leads-status (skipped reason) = leads-row (skipped-step reason) (leads-none (ends-behind 8 false))
 
 -- ---- a case
-case-extra-step : (p : Pair) (o : Open) (g : ℕ) → AtCase o → Step o (recordAt g (pairRow 14 p)) AtCase
-unfolding recordAt mayFollow following
-case-extra-step p o g c = record { alive = refl; allowed = both (eq-eqb (o .level) 3 (c .inside .level)) (c .extras); leaves = c }
+case-extra-step : (p : Pair) → Steps AtCase (pairRow 14 p) AtCase
+unfolding mayFollow following
+case-extra-step p o w h c = record { alive = rw (h .kind) refl; allowed = rw (h .kind) (both (eq-eqb (o .level) 3 (c .inside .level)) (c .extras)); leaves = rw (h .kind) c }
 
-case-property-step : (p : Pair) (o : Open) (g : ℕ) → InCase o → Step o (recordAt g (pairRow 5 p)) InCase
-unfolding recordAt mayFollow following
-case-property-step p o g c = record {
-  alive = refl;
-  allowed = both (eq-eqb (o .level) 3 (c .level)) (c .list);
-  leaves = record { level = refl; list = refl; tally = c .tally; flagged = c .flagged };
+case-property-step : (p : Pair) → Steps InCase (pairRow 5 p) InCase
+unfolding mayFollow following
+case-property-step p o w h c = record {
+  alive = rw (h .kind) refl;
+  allowed = rw (h .kind) (both (eq-eqb (o .level) 3 (c .level)) (c .list));
+  leaves = rw (h .kind) (record { level = refl; list = refl; tally = c .tally; flagged = c .flagged });
 }
 
-case-step : (c : TestCase) (o : Open) (g : ℕ) → Ready 2 o → Step o (recordAt g (caseRow c)) AtCase
-unfolding recordAt mayFollow following
-case-step c o g r = record {
-  alive = refl;
-  allowed = both (le-leb 2 (o .level) (r .level)) (r .ends);
-  leaves = record { inside = record { level = refl; list = refl; tally = refl; flagged = refl }; extras = refl };
+case-step : (c : TestCase) → Steps (Ready 2) (caseRow c) AtCase
+unfolding mayFollow following
+case-step c o w h r = record {
+  alive = rw (h .kind) refl;
+  allowed = rw (h .kind) (both (le-leb 2 (o .level) (r .level)) (r .ends));
+  leaves = rw (h .kind) (record { inside = record { level = refl; list = refl; tally = refl; flagged = refl }; extras = refl });
 }
 
 leads-case : (c : TestCase) → Leads (Ready 2) (caseRows c) (Ready 2)
@@ -260,24 +276,24 @@ leads-case c =
     (leads-append {P = AtCase} {Q = InCase} (leads-from (λ o a. a .inside) (leads-map (pairRow 5) case-property-step (c .properties))) (leads-status (c .status))))
 
 -- ---- a suite
-suite-extra-step : (p : Pair) (o : Open) (g : ℕ) → AtSuite o → Step o (recordAt g (pairRow 13 p)) AtSuite
-unfolding recordAt mayFollow following
-suite-extra-step p o g s = record { alive = refl; allowed = both (eq-eqb (o .level) 2 (s .inside .level)) (s .extras); leaves = s }
+suite-extra-step : (p : Pair) → Steps AtSuite (pairRow 13 p) AtSuite
+unfolding mayFollow following
+suite-extra-step p o w h s = record { alive = rw (h .kind) refl; allowed = rw (h .kind) (both (eq-eqb (o .level) 2 (s .inside .level)) (s .extras)); leaves = rw (h .kind) s }
 
-suite-property-step : (p : Pair) (o : Open) (g : ℕ) → InSuite o → Step o (recordAt g (pairRow 4 p)) InSuite
-unfolding recordAt mayFollow following mayEnd ruled
-suite-property-step p o g s = record {
-  alive = refl;
-  allowed = both (le-leb 2 (o .level) (let e = s .level in omega arith)) (both (s .ends) (s .list));
-  leaves = record { level = refl; list = refl; ends = refl };
+suite-property-step : (p : Pair) → Steps InSuite (pairRow 4 p) InSuite
+unfolding mayFollow following mayEnd ruled
+suite-property-step p o w h s = record {
+  alive = rw (h .kind) refl;
+  allowed = rw (h .kind) (both (le-leb 2 (o .level) (let e = s .level in omega arith)) (both (s .ends) (s .list)));
+  leaves = rw (h .kind) (record { level = refl; list = refl; ends = refl });
 }
 
-suite-step : (s : TestSuite) (o : Open) (g : ℕ) → Ready 1 o → Step o (recordAt g (suiteRow s)) AtSuite
-unfolding recordAt mayFollow following mayEnd ruled
-suite-step s o g r = record {
-  alive = refl;
-  allowed = both (le-leb 1 (o .level) (r .level)) (r .ends);
-  leaves = record { inside = record { level = refl; list = refl; ends = refl }; extras = refl };
+suite-step : (s : TestSuite) → Steps (Ready 1) (suiteRow s) AtSuite
+unfolding mayFollow following mayEnd ruled
+suite-step s o w h r = record {
+  alive = rw (h .kind) refl;
+  allowed = rw (h .kind) (both (le-leb 1 (o .level) (r .level)) (r .ends));
+  leaves = rw (h .kind) (record { inside = record { level = refl; list = refl; ends = refl }; extras = refl });
 }
 
 leads-suite : (s : TestSuite) → Leads (Ready 1) (suiteRows s) (Ready 1)
@@ -288,22 +304,19 @@ leads-suite s =
   where
     leads-via : {rows : List Row} → Leads (Ready 2) rows (Ready 2) → Leads InSuite rows (Ready 1)
     leads-via l = record {
-      on = λ rest k o g s.
-          l .on rest (λ q f r. k q f (record { level = let e = r .level in omega arith; ends = r .ends })) o g (record { level = let e = s .level in omega arith; ends = s .ends });
+      on = λ rs rest h k o s.
+          l .on rs rest h (λ q r. k q (record { level = let e = r .level in omega arith; ends = r .ends })) o (record { level = let e = s .level in omega arith; ends = s .ends });
     }
 
 -- ---- the whole
-report-step : (r : Report) (g : ℕ) → Step nothing (recordAt g (reportRow r)) (Ready 1)
-unfolding recordAt mayFollow following mayEnd ruled
-report-step r g = record { alive = refl; allowed = refl; leaves = record { level = lit≤ tt; ends = refl } }
+report-step : (r : Report) (w : List ℕ) → Headed (reportRow r) w → Step nothing w (Ready 1)
+unfolding mayFollow following mayEnd ruled
+report-step r w h = record { alive = rw (h .kind) refl; allowed = rw (h .kind) refl; leaves = rw (h .kind) (record { level = lit≤ tt; ends = refl }) }
 
--- a report's records pass the layout's test of order, wherever its texts begin
-pub order-good : (r : Report) (g : ℕ) → goodOrder nothing (recordsAt g (rowsOf r)) ≡ true
+-- a report's records pass the layout's test of order, wherever its texts stand
+pub order-good : (r : Report) {rs : List (List ℕ)} → Heads (rowsOf r) rs → goodOrder nothing rs ≡ true
 unfolding goodOrder
-order-good r g =
-    let rows : List Row = rowsOfEach suiteRows (r .suites) in
-    let s = report-step r g in
-    let f : ℕ = g + length (storedIn (cellsOf (reportRow r))) in
-    let q = leads-each suiteRows leads-suite (r .suites) .on [] (λ o n h. both (le-leb 1 (o .level) (h .level)) (h .ends)) (following nothing (recordAt g (reportRow r))) f (s .leaves) in
-    order-step nothing (recordAt g (reportRow r)) (recordsAt f rows) (s .alive) (s .allowed)
-    (sym (ap (λ (l : List Row). goodOrder (following nothing (recordAt g (reportRow r))) (recordsAt f l)) (append-nil rows)) ∙ q)
+order-good r (beside {y = w} {ys = rs} h hs) =
+    let s = report-step r w h in
+    let q = leads-each suiteRows leads-suite (r .suites) .on rs [] hs (λ o e. both (le-leb 1 (o .level) (e .level)) (e .ends)) (following nothing w) (s .leaves) in
+    order-step nothing w rs (s .alive) (s .allowed) (sym (ap (goodOrder (following nothing w)) (append-nil rs)) ∙ q)

@@ -5,10 +5,12 @@ pub mod EncodeLists
 pub mod EncodeText
 pub mod EncodeAreas
 pub mod EncodeCells
-pub mod EncodeRecords
 pub mod EncodeKinds
-pub mod EncodeOrder
+pub mod EncodeShown
+pub mod EncodeGood
 pub mod EncodeReading
+pub mod EncodeOrder
 pub mod Encode
+pub mod CellFits
 pub mod EncodeExamples
 pub mod LayoutExamples

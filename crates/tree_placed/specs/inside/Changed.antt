@@ -4,7 +4,7 @@ use mathlib.Core.Bool.{Bool, false}
 use mathlib.Core.Option.{Option, none}
 use Rattle.timestamp.specs.declared.Moment.{Moment}
 use Rattle.tree_report.specs.Report.{Text, Duration}
-use Rattle.tree_report.specs.Encode.{Cell, absent, written, Row}
+use Rattle.tree_report.specs.inside.Cells.{Cell, absent, written, Row}
 use Rattle.tree_placed.specs.inside.Placed.{Places, Placed}
 
 -- ---- a record of a kind with nothing in it

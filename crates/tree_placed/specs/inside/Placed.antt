@@ -6,7 +6,7 @@ use mathlib.Core.Path.{_≡_}
 use lib.Dec.{leb}
 use lib.ListN.{length, take, drop}
 use Rattle.utf8.specs.Characters.{boundary}
-use Rattle.tree_report.specs.Encode.{Cell, absent, written, valued, constant, firstWord, secondWord, momentOrZero, timeOrZero, flagsOf, Row, presence}
+use Rattle.tree_report.specs.inside.Cells.{Cell, absent, written, valued, constant, firstWord, secondWord, momentOrZero, timeOrZero, flagsOf, Row, presence}
 
 -- where the texts of a record start
 pub record Places : Type 0 where

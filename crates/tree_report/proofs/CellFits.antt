@@ -1,18 +1,25 @@
--- What fits a layout is what the tables call sound. Assumes nothing.
-use Prim.Native.Nat.{ℕ, _/_, _%_}
+-- A report's rows beside its rows by cells: as many, and what fits by cells is what fits. Assumes nothing.
+use Prim.Native.Nat.{ℕ, suc, _/_, _%_}
 use mathlib.Core.Bool.{Bool, true, false, _&&_}
+use mathlib.Core.List.{List, [], _∷_, map}
 use mathlib.Core.Option.{Option, none, some}
-use mathlib.Core.Path.{_≡_, refl, sym, ap, _∙_}
+use mathlib.Core.Path.{_≡_, refl, sym, ap, ap₂, _∙_}
 use native.Mathlib.Omega.{arith}
 use borrow.Author.Tests.{leb-true, leb-false, le-leb, lt-leb}
 use lib.Dec.{leb}
+use lib.ListN.{length}
 use Rattle.timestamp.specs.declared.Moment.{Moment}
 use Rattle.uuid.specs.declared.Words.{Words}
 use Rattle.tree_record.specs.Kinds as kind
-use Rattle.tree_report.specs.Report.{Text, Duration, Pair, FlakyOrRerun, TestRerun, Reason, TestCase, TestSuite, Report}
+use Rattle.tree_report.specs.Report.{Text, Duration, Pair, NonSuccessKind, FlakyOrRerun, flaky, TestRerun, Reason}
+use Rattle.tree_report.specs.Report.{TestCaseStatus, success, nonSuccess, TestCase, TestSuite, Report}
+use Rattle.tree_report.specs.Report.{skipped as isSkipped}
 use Rattle.tree_report.specs.Fields.{given}
-use Rattle.tree_report.specs.Encode.{ofText, ofNumber, ofCount, uuidFront, uuidBack, fitsCell, fitsMoment, fitsTime, fitsRow, pairRow, mainRow, runRow, caseRow, suiteRow, reportRow}
-use Rattle.tree_report.proofs.EncodeLists.{both}
+use Rattle.tree_report.specs.Encode as row
+use Rattle.tree_report.specs.Encode.{kindOfMain, isFlakyAlone, rowsOfEach, every}
+use Rattle.tree_report.specs.inside.Cells.{Row, ofText, ofNumber, ofCount, uuidFront, uuidBack, fitsCell, fitsMoment, fitsTime, fitsRow}
+use Rattle.tree_report.specs.inside.Cells.{pairRow, mainRow, runRow, statusRows, caseRow, caseRows, suiteRow, suiteRows, reportRow, rowsOf}
+use Rattle.tree_report.proofs.EncodeLists.{both, Beside, ended, beside, beside-append}
 use Rattle.schema.specs.Schema.{text, number, time, timestamp, uuid, flag, may, report, suite, case, main, skipped, run, property}
 use Rattle.schema.specs.Texts.{soundValue, soundSlot, sound}
 use Rattle.schema.specs.Elements.{reportFields, suiteFields, caseFields, mainFields, skippedFields, runFields, pairFields}
@@ -160,3 +167,76 @@ module _ (r : Reason) where
 pub pair-fits : (k : ℕ) (p : Pair) → fitsRow (pairRow k p) ≡ sound property (pairFields p)
 unfolding fitsRow
 pair-fits k p = and-true (soundValue text (p .key) && (soundValue text (p .value) && true))
+
+-- ---- the rows of a report, side by side
+pub record Alike (R : row.Row → Row → Type 0) : Type 0 where
+  pub report : (r : Report) → R (row.reportRow r) (reportRow r)
+  pub suite : (s : TestSuite) → R (row.suiteRow s) (suiteRow s)
+  pub case : (c : TestCase) → R (row.caseRow c) (caseRow c)
+  pub pair : (k : ℕ) (p : Pair) → R (row.pairRow k p) (pairRow k p)
+  pub main : (k : NonSuccessKind) (b : Bool) (r : Reason) → R (row.mainRow k b r) (mainRow (kindOfMain k) b r)
+  pub skipped : (r : Reason) → R (row.skippedRow r) (mainRow kind.skipped false r)
+  pub run : (family : FlakyOrRerun) (r : TestRerun) → R (row.runRow family r) (runRow family r)
+
+module _ {R : row.Row → Row → Type 0} (a : Alike R) where
+  each-one : {A : Type 0} (f : A → row.Row) (g : A → Row) → ((x : A) → R (f x) (g x)) → (xs : List A) → Beside R (map f xs) (map g xs)
+  each-one f g h [] = ended
+  each-one f g h (x ∷ xs) = beside (h x) (each-one f g h xs)
+
+  each-some : {A : Type 0} (f : A → List row.Row) (g : A → List Row) → ((x : A) → Beside R (f x) (g x)) → (xs : List A) → Beside R (rowsOfEach f xs) (rowsOfEach g xs)
+  each-some f g h [] = ended
+  each-some f g h (x ∷ xs) = beside-append (h x) (each-some f g h xs)
+
+  pairs-alike : (k : ℕ) (ps : List Pair) → Beside R (map (row.pairRow k) ps) (map (pairRow k) ps)
+  pairs-alike k ps = each-one (row.pairRow k) (pairRow k) (a .pair k) ps
+
+  runs-alike : (family : FlakyOrRerun) (rs : List TestRerun) → Beside R (map (row.runRow family) rs) (map (runRow family) rs)
+  runs-alike family rs = each-one (row.runRow family) (runRow family) (a .run family) rs
+
+  status-alike : (s : TestCaseStatus) → Beside R (row.statusRows s) (statusRows s)
+  status-alike (success runs) = runs-alike flaky runs
+  status-alike (nonSuccess k reason family runs) = beside (a .main k (isFlakyAlone family runs) reason) (runs-alike family runs)
+  status-alike (isSkipped reason) = beside (a .skipped reason) ended
+
+  case-alike : (c : TestCase) → Beside R (row.caseRows c) (caseRows c)
+  case-alike c = beside (a .case c) (beside-append (pairs-alike kind.caseExtra (c .extra)) (beside-append (pairs-alike kind.caseProperty (c .properties)) (status-alike (c .status))))
+
+  suite-alike : (s : TestSuite) → Beside R (row.suiteRows s) (suiteRows s)
+  suite-alike s =
+      beside (a .suite s)
+      (beside-append (pairs-alike kind.suiteExtra (s .extra))
+      (beside-append (pairs-alike kind.suiteProperty (s .properties)) (each-some row.caseRows caseRows case-alike (s .cases))))
+
+  -- what holds of each element's two rows holds of a report's, side by side
+  pub rows-alike : (r : Report) → Beside R (row.rowsOf r) (rowsOf r)
+  rows-alike r = beside (a .report r) (each-some row.suiteRows suiteRows suite-alike (r .suites))
+
+abbrev SameFit : row.Row → Row → Type 0
+SameFit x y = fitsRow y ≡ row.fitsRow x
+
+all-fit : Alike SameFit
+unfolding row.fitsRow
+all-fit = record {
+  report = report-fits;
+  suite = suite-fits;
+  case = case-fits;
+  pair = pair-fits;
+  main = λ k b r. main-fits r (kindOfMain k) b;
+  skipped = skipped-fits;
+  run = run-fits;
+}
+
+every-same : {xs : List row.Row} {ys : List Row} → Beside SameFit xs ys → every fitsRow ys ≡ every row.fitsRow xs
+every-same ended = refl
+every-same (beside e h) = ap₂ (λ (a b : Bool). a && b) e (every-same h)
+
+-- a report's rows fit by cells exactly if they fit
+pub rows-fit : (r : Report) → every fitsRow (rowsOf r) ≡ every row.fitsRow (row.rowsOf r)
+rows-fit r = every-same (rows-alike all-fit r)
+
+length-same : {R : row.Row → Row → Type 0} {xs : List row.Row} {ys : List Row} → Beside R xs ys → length xs ≡ length ys
+length-same ended = refl
+length-same (beside r h) = ap suc (length-same h)
+
+pub length-rows : (r : Report) → length (row.rowsOf r) ≡ length (rowsOf r)
+length-rows r = length-same (rows-alike all-fit r)
