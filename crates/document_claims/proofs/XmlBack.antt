@@ -10,7 +10,7 @@ use Rattle.area.specs.Limits.{mostRecords, mostBytes}
 use Rattle.refusal.specs.Refusal.{nowhere, accepted}
 use Rattle.table.specs.Event.{Event}
 use Rattle.tree_report.specs.Report.{Report}
-use Rattle.tree_report.specs.inside.Cells.{rowsOf}
+use Rattle.tree_report.specs.Encode.{rowsOf}
 use Rattle.read_element.specs.Outcome.{unlimited}
 use Rattle.read_report.specs.Deserialize.{Reader, steps, begin, deserialize}
 use Rattle.read_report.specs.Answer.{Holds}

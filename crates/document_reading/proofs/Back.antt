@@ -8,7 +8,7 @@ use lib.ListN.{length}
 use Rattle.refusal.specs.Refusal.{Outcome, accepted}
 use Rattle.table.specs.Event.{Event}
 use Rattle.tree_report.specs.Report.{Report}
-use Rattle.tree_report.specs.inside.Cells.{rowsOf}
+use Rattle.tree_report.specs.Encode.{rowsOf}
 use Rattle.tree_report.proofs.EncodeLists.{Each}
 use Rattle.read_element.specs.Outcome.{_>>=_, unlimited}
 use Rattle.read_machine.specs.Machine.{Machine}

@@ -9,7 +9,7 @@ use Rattle.names.specs.Names.{sameBytes}
 use Rattle.names.proofs.NameLaws.{same-refl}
 use Rattle.refusal.specs.Refusal.{Outcome, accepted, refused}
 use Rattle.tree_report.specs.Report.{Report}
-use Rattle.tree_report.specs.inside.Cells.{encode}
+use Rattle.tree_report.specs.Encode.{encode}
 
 -- the words of the report, if there is one
 abbrev pub words : Outcome (Option Report) → List ℕ

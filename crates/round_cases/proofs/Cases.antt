@@ -17,6 +17,8 @@ use Rattle.timestamp.specs.Timestamp as stamp
 use Rattle.uuid.specs.Uuid.{isUuid, uuidOf}
 use Rattle.reference.specs.Reference as reference
 use Rattle.tree_status.specs.Status.{tallied, ruled}
+use Rattle.schema.specs.Records as schema
+use Rattle.schema.specs.Texts as texts
 use Rattle.tree_report.specs.Encode as encode
 use Rattle.read_keys.specs.Roles as role
 use Rattle.tree_record.specs.Record.{marked}
@@ -48,7 +50,7 @@ unfolding utf8.need utf8.low utf8.high chars.encode codeFrom sameBytes keys tags
     timeText thousandthsOf floatSum add sum div ofInt round units odd size span climb trailingZeros
     isLeap monthLength stamp.places stamp.isUtc stamp.isTimestamp stamp.timestampOf stamp.inRange isUuid uuidOf
     reference.entities reference.entityChars reference.isEntity reference.entityChar reference.isCharRef reference.refAt
-    tallied ruled encode.fitsRow encode.encode
+    tallied ruled encode.fitsRow encode.encode schema.encode texts.recordAt
     role.roleIn role.reportRole role.suiteRole role.caseRole role.propertyRole role.statusRole role.roleOf marked
     outcome._>>=_ outcome.there outcome.need outcome.fits
     attributes.readText attributes.newExtra attributes.readExtra attributes.byRole attributes.readAttributes attributes.complete attributes.readElement

@@ -13,7 +13,7 @@ use Rattle.refusal.specs.Refusal.{accepted}
 use Rattle.table.specs.Event.{Event, resolve}
 use Rattle.table.specs.Table.{tableOf}
 use Rattle.tree_report.specs.Report.{Report}
-use Rattle.tree_report.specs.inside.Cells.{rowsOf}
+use Rattle.tree_report.specs.Encode.{rowsOf}
 use Rattle.tree_report.specs.Layout.{layout}
 use Rattle.tree_report.specs.ReportOf.{reportOf}
 use Rattle.tree_report.proofs.EncodeLists.{and-right}
