@@ -60,6 +60,7 @@ sorted cause.CountLimit = (refl, inr (inl (lit≤ tt, lit≤ tt)))
 sorted cause.TooManyCases = (refl, inr (inr (lit≤ tt)))
 sorted cause.NoSuchReport = (refl, inr (inr (lit≤ tt)))
 sorted cause.TooManyReports = (refl, inl refl)
+sorted cause.TimeLimit = (refl, inr (inr (lit≤ tt)))
 
 pub numbered : (c : Cause) → isOneOf (number c) allNumbers ≡ true
 numbered c = sorted c .0

@@ -9,7 +9,7 @@ use Rattle.area.specs.Limits.{mostWords, mostBytes}
 use Rattle.refusal.specs.declared.Cause.{Cause}
 use Rattle.refusal.specs.declared.Cause.the-variants.{XmlFault, EofInSkip, NotUtf8, BadInteger, BadTimestamp, BadTime, BadUuid, MissingAttribute, MissingReport, EofInElement, StatusRule}
 use Rattle.refusal.specs.declared.Cause.the-variants.{UnknownEntity, FaultyAttribute, RepeatedKey, BadReference, BadTable, RecordsSpent}
-use Rattle.refusal.specs.declared.Cause.the-variants.{TextFull, ScratchFull, NotLayout, OutputFull, CountLimit, TooManyCases, NoSuchReport, TooManyReports}
+use Rattle.refusal.specs.declared.Cause.the-variants.{TextFull, ScratchFull, NotLayout, OutputFull, CountLimit, TooManyCases, NoSuchReport, TooManyReports, TimeLimit}
 use Rattle.explain_text.specs.Sentences.{sentence}
 use Rattle.explain_lines.specs.Lines.{lineIn}
 use Rattle.explain_lines.proofs.Tables.{table-at}
@@ -55,15 +55,16 @@ sentences =
     ∷ sentence OutputFull mostBytes
     ∷ short TooManyCases
     ∷ short NoSuchReport
+    ∷ short TooManyReports
     ∷ []
 
 abbrev pub table : List ℕ
-table = lines (sentences ++ (short TooManyReports ∷ []))
+table = lines (sentences ++ (short TimeLimit ∷ []))
 
 -- all lines at once: a line by itself would go through the table again
-line-at : (k : ℕ) → lineIn (min k 28) table ≡ getD sentences k (short TooManyReports)
+line-at : (k : ℕ) → lineIn (min k 29) table ≡ getD sentences k (short TimeLimit)
 unfolding sentence
-line-at k = table-at table sentences (short TooManyReports) 28 refl refl k
+line-at k = table-at table sentences (short TimeLimit) 29 refl refl k
 
 -- a sentence of two
 by-size : (b : Bool) (n m : ℕ) {s t : List ℕ} → lineIn n table ≡ s → lineIn m table ≡ t → lineIn (cond b m n) table ≡ cond b t s
@@ -97,6 +98,7 @@ sentence-at CountLimit lent = line-at 21
 sentence-at TooManyCases lent = line-at 26
 sentence-at NoSuchReport lent = line-at 27
 sentence-at TooManyReports lent = line-at 28
+sentence-at TimeLimit lent = line-at 29
 
 -- the place, by the tests that the code makes
 module _ (place lent : ℕ) where

@@ -39,6 +39,7 @@ fn place_of(cause: Cause) -> usize
         Cause::TooManyCases => 26,
         Cause::NoSuchReport => 27,
         Cause::TooManyReports => 28,
+        Cause::TimeLimit => 29,
     }
 }
 
@@ -93,6 +94,7 @@ pub fn put_sentence(out: &mut [u8], k: Stored, cause: Cause, lent: usize) -> Sto
         an area for output is too short, or the table has more than 65536 events, 65536 attributes or 16777216 bytes\n\
         a report to order has at most 4096 cases\n\
         failures, errors, skipped and flaky cases together are more than the cases\n\
-        a release sheet takes the counts of at most 4096 reports";
+        a release sheet takes the counts of at most 4096 reports\n\
+        the times of the two reports together reach 8388608 seconds";
     put(out, k, line_in(sentences, place_by(place_of(cause), lent)))
 }

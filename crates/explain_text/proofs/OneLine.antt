@@ -13,7 +13,7 @@ use Rattle.refusal.specs.declared.Cause.{Cause}
 use Rattle.refusal.specs.declared.Cause.the-variants.{XmlFault, EofInSkip, NotUtf8, BadInteger, BadTimestamp, BadTime, BadUuid, MissingAttribute, MissingReport, EofInElement, StatusRule}
 use Rattle.refusal.specs.declared.Cause.the-variants.{UnknownEntity, FaultyAttribute, RepeatedKey, BadReference, BadTable, RecordsSpent}
 use Rattle.refusal.specs.declared.Cause.the-variants.{TextFull, ScratchFull, NotLayout, OutputFull, CountLimit, TooManyCases, NoSuchReport}
-use Rattle.refusal.specs.declared.Cause.the-variants.{TooManyReports}
+use Rattle.refusal.specs.declared.Cause.the-variants.{TooManyReports, TimeLimit}
 use Rattle.refusal.specs.declared.PathElement.{PathElement}
 use Rattle.refusal.specs.declared.Refusal.{Refusal}
 use Rattle.area.specs.Area.{firstAt}
@@ -117,6 +117,7 @@ flat-sentence CountLimit lent = refl
 flat-sentence TooManyCases lent = refl
 flat-sentence NoSuchReport lent = refl
 flat-sentence TooManyReports lent = refl
+flat-sentence TimeLimit lent = refl
 
 abbrev allFlat : List (List ℕ) → Bool
 allFlat [] = true

@@ -9,7 +9,7 @@ use Rattle.refusal.specs.declared.Cause.{Cause}
 use Rattle.refusal.specs.declared.Cause.the-variants.{XmlFault, EofInSkip, NotUtf8, BadInteger, BadTimestamp, BadTime, BadUuid, MissingAttribute, MissingReport, EofInElement, StatusRule}
 use Rattle.refusal.specs.declared.Cause.the-variants.{UnknownEntity, FaultyAttribute, RepeatedKey, BadReference, BadTable, RecordsSpent}
 use Rattle.refusal.specs.declared.Cause.the-variants.{TextFull, ScratchFull, NotLayout, OutputFull, CountLimit, TooManyCases, NoSuchReport}
-use Rattle.refusal.specs.declared.Cause.the-variants.{TooManyReports}
+use Rattle.refusal.specs.declared.Cause.the-variants.{TooManyReports, TimeLimit}
 
 -- of an area that was lent with so many words or bytes and is too short: other words from the limits' size on, where a longer one wouldn't help (rule E6)
 abbrev pub within : (most lent : ℕ) → (short many : List ℕ) → List ℕ
@@ -44,3 +44,4 @@ sentence CountLimit lent = bytes "a count would pass 18446744073709551615"
 sentence TooManyCases lent = bytes "a report to order has at most 4096 cases"
 sentence NoSuchReport lent = bytes "failures, errors, skipped and flaky cases together are more than the cases"
 sentence TooManyReports lent = bytes "a release sheet takes the counts of at most 4096 reports"
+sentence TimeLimit lent = bytes "the times of the two reports together reach 8388608 seconds"

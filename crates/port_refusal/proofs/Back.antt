@@ -8,7 +8,7 @@ use Rattle.refusal.specs.declared.Cause.{Cause}
 use Rattle.refusal.specs.declared.Cause.the-variants.{XmlFault, EofInSkip, NotUtf8, BadInteger, BadTimestamp, BadTime, BadUuid, MissingAttribute, MissingReport, EofInElement, StatusRule}
 use Rattle.refusal.specs.declared.Cause.the-variants.{UnknownEntity, FaultyAttribute, RepeatedKey, BadReference, BadTable, RecordsSpent}
 use Rattle.refusal.specs.declared.Cause.the-variants.{TextFull, ScratchFull, NotLayout, OutputFull, CountLimit, TooManyCases, NoSuchReport}
-use Rattle.refusal.specs.declared.Cause.the-variants.{TooManyReports}
+use Rattle.refusal.specs.declared.Cause.the-variants.{TooManyReports, TimeLimit}
 use Rattle.refusal.specs.declared.PathElement.{PathElement}
 use Rattle.refusal.specs.Refusal.{filler, Refused, pathFrom, refusalFrom}
 use Rattle.port_refusal.specs.Port.{code, pathWords, refusedPort}
@@ -19,10 +19,10 @@ default [] n a b h = absurd (omega (arith, h))
 default (x ∷ l) zero a b h = refl
 default (x ∷ l) (suc n) a b h = default l n a b (omega (arith, h))
 
-pub cause-here : (n : ℕ) → n < 26 → getD causes n XmlFault ≡ causeAt n
+pub cause-here : (n : ℕ) → n < 27 → getD causes n XmlFault ≡ causeAt n
 cause-here n h = default causes n XmlFault BadTable h
 
-pub no-cause : (n : ℕ) → 26 ≤ n → BadTable ≡ causeAt n
+pub no-cause : (n : ℕ) → 27 ≤ n → BadTable ≡ causeAt n
 no-cause n h = sym (List·getD-eq-default causes BadTable h)
 
 cause-back : (c : Cause) → causeAt (code c) ≡ c
@@ -51,6 +51,7 @@ cause-back CountLimit = refl
 cause-back TooManyCases = refl
 cause-back NoSuchReport = refl
 cause-back TooManyReports = refl
+cause-back TimeLimit = refl
 
 elements-back : (es : List PathElement) → length es ≡ 6 → pathElements (pathWords es) ≡ es
 elements-back (a ∷ b ∷ c ∷ d ∷ e ∷ f ∷ []) h = refl

@@ -6,7 +6,7 @@ use Rattle.refusal.specs.declared.Cause.{Cause}
 use Rattle.refusal.specs.declared.Cause.the-variants.{XmlFault, EofInSkip, NotUtf8, BadInteger, BadTimestamp, BadTime, BadUuid, MissingAttribute, MissingReport, EofInElement, StatusRule}
 use Rattle.refusal.specs.declared.Cause.the-variants.{UnknownEntity, FaultyAttribute, RepeatedKey, BadReference, BadTable, RecordsSpent}
 use Rattle.refusal.specs.declared.Cause.the-variants.{TextFull, ScratchFull, NotLayout, OutputFull, CountLimit, TooManyCases, NoSuchReport}
-use Rattle.refusal.specs.declared.Cause.the-variants.{TooManyReports}
+use Rattle.refusal.specs.declared.Cause.the-variants.{TooManyReports, TimeLimit}
 use Rattle.refusal.specs.declared.PathElement.{PathElement}
 use Rattle.refusal.specs.declared.Path.{Path}
 use Rattle.refusal.specs.declared.Refusal.{Refusal}
@@ -41,6 +41,7 @@ causes =
     ∷ TooManyCases
     ∷ NoSuchReport
     ∷ TooManyReports
+    ∷ TimeLimit
     ∷ []
 
 -- a code that is none counts as BadTable

@@ -7,7 +7,7 @@ use Rattle.refusal.specs.declared.Cause.{Cause}
 use Rattle.refusal.specs.declared.Cause.the-variants.{XmlFault, EofInSkip, NotUtf8, BadInteger, BadTimestamp, BadTime, BadUuid, MissingAttribute, MissingReport, EofInElement, StatusRule}
 use Rattle.refusal.specs.declared.Cause.the-variants.{UnknownEntity, FaultyAttribute, RepeatedKey, BadReference, BadTable, RecordsSpent}
 use Rattle.refusal.specs.declared.Cause.the-variants.{TextFull, ScratchFull, NotLayout, OutputFull, CountLimit, TooManyCases, NoSuchReport}
-use Rattle.refusal.specs.declared.Cause.the-variants.{TooManyReports}
+use Rattle.refusal.specs.declared.Cause.the-variants.{TooManyReports, TimeLimit}
 use Rattle.refusal.specs.declared.PathElement.{PathElement}
 use Rattle.refusal.specs.declared.Refusal.{Refusal}
 use Rattle.refusal.specs.declared.Verdict.{Verdict}
@@ -41,6 +41,7 @@ code CountLimit = 22
 code TooManyCases = 23
 code NoSuchReport = 24
 code TooManyReports = 25
+code TimeLimit = 26
 
 abbrev pub elementWords : PathElement → List ℕ
 elementWords e = e .kind ∷ e .index ∷ e .event ∷ []

@@ -52,6 +52,7 @@ fn code_of(cause: Cause) -> u32
         Cause::TooManyCases => 23,
         Cause::NoSuchReport => 24,
         Cause::TooManyReports => 25,
+        Cause::TimeLimit => 26,
     }
 }
 
@@ -167,9 +168,10 @@ fn cause_at(code: u32) -> Cause
         Cause::TooManyCases,
         Cause::NoSuchReport,
         Cause::TooManyReports,
+        Cause::TimeLimit,
     ];
     let i = code as usize;
-    if i < 26 {
+    if i < 27 {
         return causes[i];
     }
     Cause::BadTable

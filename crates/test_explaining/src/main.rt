@@ -75,6 +75,7 @@ fn tell_area_causes() {
     tell_cause(Cause::TooManyCases);
     tell_cause(Cause::NoSuchReport);
     tell_cause(Cause::TooManyReports);
+    tell_cause(Cause::TimeLimit);
 }
 
 // An area one short of the limit's size, and one of that size.

@@ -7,7 +7,7 @@ use Rattle.refusal.specs.declared.Cause.{Cause}
 use Rattle.refusal.specs.declared.Cause.the-variants.{XmlFault, EofInSkip, NotUtf8, BadInteger, BadTimestamp, BadTime, BadUuid, MissingAttribute, MissingReport, EofInElement, StatusRule}
 use Rattle.refusal.specs.declared.Cause.the-variants.{UnknownEntity, FaultyAttribute, RepeatedKey, BadReference, BadTable, RecordsSpent}
 use Rattle.refusal.specs.declared.Cause.the-variants.{TextFull, ScratchFull, NotLayout, OutputFull, CountLimit, TooManyCases, NoSuchReport}
-use Rattle.refusal.specs.declared.Cause.the-variants.{TooManyReports}
+use Rattle.refusal.specs.declared.Cause.the-variants.{TooManyReports, TimeLimit}
 
 abbrev pub placeOf : Cause → ℕ
 placeOf XmlFault = 0
@@ -35,6 +35,7 @@ placeOf CountLimit = 21
 placeOf TooManyCases = 26
 placeOf NoSuchReport = 27
 placeOf TooManyReports = 28
+placeOf TimeLimit = 29
 
 -- of a sentence on an area that was lent with so many words or bytes
 abbrev pub placeBy : ℕ → ℕ → ℕ
