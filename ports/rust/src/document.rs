@@ -75,7 +75,7 @@ pub fn tokenize(source: &[u8]) -> Result<TableBuf, XmlRefusal> {
 }
 
 // An event takes a byte at least, but for Eof; an attribute four, and a space before it.
-fn entries(source: &[u8]) -> (Vec<u32>, Vec<u32>) {
+pub(crate) fn entries(source: &[u8]) -> (Vec<u32>, Vec<u32>) {
     let events = source.len().saturating_add(1).min(limits::EVENTS);
     let attributes = (source.len() / 4).min(limits::ATTRIBUTES);
     (vec![0; events * ENTRY], vec![0; attributes * ENTRY])

@@ -1,7 +1,7 @@
 //! Where a table or a document comes from: files and standard input.
 #![forbid(unsafe_code)]
 
-use crate::limits::SOURCE;
+use crate::limits::{EVENTS, SOURCE};
 use crate::table::Header;
 use crate::{TableBuf, TableError};
 use std::{error, ffi::OsStr, fmt, fs::File, io, io::Read, path::Path};
@@ -20,8 +20,11 @@ pub struct Loaded {
 pub enum InputError {
     Io(io::Error),
     Table(TableError),
-    /// The file begins as an XML document does.
+    /// A table is asked for, and the file begins as an XML document does.
     Xml,
+    /// It holds text that is neither an XML document nor a table.
+    Neither,
+    Empty,
 }
 
 impl fmt::Display for InputError {
@@ -29,9 +32,9 @@ impl fmt::Display for InputError {
         match self {
             InputError::Io(e) => write!(f, "{e}"),
             InputError::Table(e) => write!(f, "{e}"),
-            InputError::Xml => {
-                f.write_str("this looks like an XML document; one is taken where the name ends in .xml, or with --xml")
-            }
+            InputError::Xml => f.write_str("this looks like an XML document, and a table is asked for"),
+            InputError::Neither => f.write_str("this is neither an XML document nor a table of XML events"),
+            InputError::Empty => f.write_str("it is empty"),
         }
     }
 }
@@ -41,7 +44,7 @@ impl error::Error for InputError {
         match self {
             InputError::Io(e) => Some(e),
             InputError::Table(e) => Some(e),
-            InputError::Xml => None,
+            InputError::Xml | InputError::Neither | InputError::Empty => None,
         }
     }
 }
@@ -56,6 +59,57 @@ impl From<TableError> for InputError {
     fn from(e: TableError) -> Self {
         InputError::Table(e)
     }
+}
+
+/// What a file is taken for.
+#[derive(Clone, Copy, Debug, PartialEq, Eq)]
+pub enum Kind {
+    Document,
+    Table,
+    /// An XML document where the name ends in `.xml`, or where behind a byte-order mark and white space it begins with `<` and its first
+    /// four bytes are no number of events within the limits; else a table.
+    Either,
+}
+
+/// What a file holds.
+#[derive(Debug)]
+pub enum Input {
+    Document(Vec<u8>),
+    Table(Loaded),
+}
+
+/// Loads a file, or standard input where the path is `-`.
+pub fn load(path: &Path, kind: Kind) -> Result<Input, InputError> {
+    match kind {
+        Kind::Document => load_document(path).map(Input::Document),
+        Kind::Table => load_table(path).map(Input::Table),
+        Kind::Either if is_named_xml(path) => load_document(path).map(Input::Document),
+        Kind::Either if path.as_os_str() == OsStr::new("-") => either_from(io::stdin().lock()),
+        Kind::Either => either_from(open(path)?),
+    }
+}
+
+/// A document or a table, by how it begins.
+pub fn either_from(mut from: impl Read) -> Result<Input, InputError> {
+    let mut head = Vec::new();
+    from.by_ref().take(Header::BYTES as u64).read_to_end(&mut head)?;
+    // white space of any length may stand before the first tag
+    while !counts_events(&head) && first_tag(&head).is_empty() && head.len() <= SOURCE {
+        if from.by_ref().take(4096).read_to_end(&mut head)? == 0 {
+            break;
+        }
+    }
+    if head.is_empty() {
+        return Err(InputError::Empty);
+    }
+    if is_xml(&head) {
+        from.take((SOURCE + 1).saturating_sub(head.len()) as u64).read_to_end(&mut head)?;
+        return Ok(Input::Document(head));
+    }
+    if !counts_events(&head) && head.iter().all(|b| *b >= b' ' || b.is_ascii_whitespace()) {
+        return Err(InputError::Neither);
+    }
+    table_from(head.as_slice().chain(from)).map(Input::Table)
 }
 
 /// Loads the table of a file, or of standard input where the path is `-`.
@@ -112,8 +166,17 @@ pub fn table_from(mut from: impl Read) -> Result<Loaded, InputError> {
     Ok(Loaded { table, trailing })
 }
 
-// No table within the limits begins so.
+// No table within the limits begins so: one of 60 events begins with the byte of `<`, too, but its third and fourth bytes are 0.
 fn is_xml(head: &[u8]) -> bool {
-    let head = head.strip_prefix(b"\xef\xbb\xbf").unwrap_or(head);
-    head.trim_ascii_start().starts_with(b"<")
+    !counts_events(head) && first_tag(head).starts_with(b"<")
+}
+
+// Whether the first four bytes are a number of events within the limits.
+fn counts_events(head: &[u8]) -> bool {
+    head.first_chunk().is_some_and(|word| u32::from_le_bytes(*word) as usize <= EVENTS)
+}
+
+// What stands behind a byte-order mark and white space.
+fn first_tag(head: &[u8]) -> &[u8] {
+    head.strip_prefix(b"\xef\xbb\xbf").unwrap_or(head).trim_ascii_start()
 }

@@ -34,6 +34,7 @@ mod calls;
 mod document;
 pub mod input;
 pub mod limits;
+mod place;
 mod refusal;
 mod sheet;
 #[allow(unsafe_code)]
@@ -49,6 +50,7 @@ pub use calls::{
     write_into, write_xml, Order,
 };
 pub use document::{explain_xml, list_xml, read_and_list_xml, tokenize, tokenize_into, DocumentRefusal, XmlRefusal};
+pub use place::Place;
 pub use refusal::{Cause, PathElement, Refusal};
 pub use sheet::{print_sheet, print_sheet_into, release_sheet, Sheet};
 pub use table::{Table, TableBuf, TableBuilder, TableError, Tag};

@@ -1,7 +1,7 @@
 //! The command line: statuses, messages, and input that is cut off, too long, or none.
 mod common;
 
-use common::{replayed, repository, spoil, Random};
+use common::{hold, replayed, repository, spoil, Random};
 use kerzhoma::{TableBuf, TableBuilder};
 use std::io::Write;
 use std::path::PathBuf;
@@ -70,14 +70,17 @@ fn a_file_that_is_accepted() {
     let checked = run(&["check", file], b"");
     assert_eq!((checked.status, text(&checked), checked.err.as_str()), (0, "", ""));
     let explained = run(&["explain", file], b"");
-    assert_eq!((explained.status, text(&explained), explained.err.as_str()), (0, "accepted\n", ""));
+    assert_eq!((explained.status, text(&explained), explained.err.clone()), (0, &*format!("{file}: accepted\n"), String::new()));
 }
 
 #[test]
 fn standard_streams() {
     let listed = run(&["list", "-"], &worked());
     assert_eq!((listed.status, text(&listed)), (0, WORKED));
-    let written = run(&["write", "-", "-o", "-"], &worked());
+    // standard input where no file is named
+    let listed = run(&["list"], &worked());
+    assert_eq!((listed.status, text(&listed)), (0, WORKED));
+    let written = run(&["write", "--table-out"], &worked());
     assert_eq!(written.status, 0);
     let again = run(&["list", "-"], &written.out);
     assert_eq!((again.status, text(&again)), (0, WORKED));
@@ -90,7 +93,7 @@ fn a_file_that_is_written() {
     let file = to.to_str().unwrap();
     let ran = run(&["write", "-o", file, "--", "-"], &worked());
     assert_eq!((ran.status, ran.out.len(), ran.err.as_str()), (0, 0, ""));
-    assert_eq!(fs::read(&to).unwrap(), run(&["write", "-", "-o", "-"], &worked()).out);
+    assert_eq!(fs::read(&to).unwrap(), run(&["write", "-", "--table-out", "-o", "-"], &worked()).out);
     let bad = run(&["write", "-", "-o", "no/such/folder/x"], &worked());
     assert_eq!(bad.status, 2);
     assert!(bad.err.starts_with("kerzhoma: no/such/folder/x: "), "{}", bad.err);
@@ -107,19 +110,24 @@ fn a_report_that_is_refused() {
         "refused 5 at testsuites/testsuite[0](\"private lab\")/testcase[0]/@time: a time must be digits with at most nine behind \
                 the point, under 8388608 seconds (event 2, attribute 2)\n";
     let explained = run(&["explain", "-"], &refused());
-    assert_eq!((explained.status, text(&explained), explained.err.as_str()), (1, line, ""));
+    assert_eq!((explained.status, text(&explained), explained.err.clone()), (1, &*format!("standard input: {line}"), String::new()));
+    let asked = run(&["list", "--why"], &refused());
+    assert_eq!((asked.status, text(&asked), asked.err.clone()), (1, "(refused)\n", format!("kerzhoma: standard input: {line}")));
     for (task, out) in [("list", "(refused)\n"), ("check", "")] {
         let ran = run(&[task, "-"], &refused());
         assert_eq!((ran.status, text(&ran)), (1, out));
-        assert_eq!(ran.err, format!("kerzhoma: {}", line.replace("(\"private lab\")", "")));
+        assert_eq!(ran.err, format!("kerzhoma: standard input: {}", line.replace("(\"private lab\")", "")));
+        let ran = run(&[task, "-q"], &refused());
+        assert_eq!((ran.status, text(&ran), ran.err.as_str()), (1, out, ""));
     }
 }
 
 #[test]
 fn input_that_is_cut_off() {
     let whole = worked();
+    assert_eq!(run(&["check"], b"").err, "kerzhoma: standard input: it is empty\n");
     for n in 0..whole.len() {
-        let ran = run(&["check", "-"], &whole[..n]);
+        let ran = run(&["check", "--table", "-"], &whole[..n]);
         assert_eq!(ran.status, 2, "{n}");
         assert!(ran.err.starts_with("kerzhoma: standard input: the table is cut off: "), "{}", ran.err);
     }
@@ -172,25 +180,52 @@ fn a_table_of_the_limits_size() {
     let ran = run(&["check", path.to_str().unwrap()], b"");
     assert_eq!(ran.status, 0);
     // written it would have more events than a table may
-    let ran = run(&["write", path.to_str().unwrap(), "-o", "-"], b"");
+    let ran = run(&["write", path.to_str().unwrap(), "--table-out"], b"");
     assert_eq!((ran.status, ran.out.len()), (1, 0));
-    assert_eq!(ran.err, "kerzhoma: refused 16: an area for output is too short, or the table has more than 65536 events, 65536 attributes or 16777216 bytes\n");
+    let name = path.display();
+    assert_eq!(ran.err, format!("kerzhoma: {name}: refused 16: an area for output is too short, or the table has more than 65536 events, 65536 attributes or 16777216 bytes\n"));
     fs::remove_file(path).unwrap();
 }
 
 #[test]
 fn what_is_no_table() {
-    let ran = run(&["list", "-"], b"<?xml version=\"1.0\"?><testsuites/>");
+    let ran = run(&["list", "--table"], b"<?xml version=\"1.0\"?><testsuites/>");
     assert_eq!(ran.status, 2);
     assert!(ran.err.contains("this looks like an XML document"), "{}", ran.err);
-    let ran = run(&["list", "-"], b"<a/>");
-    assert!(ran.err.contains("this looks like an XML document"), "{}", ran.err);
+    let ran = run(&["list"], b"{\"tests\": []}");
+    assert_eq!(ran.status, 2);
+    assert!(ran.err.contains("neither an XML document nor a table"), "{}", ran.err);
     let ran = run(&["list", "no such file"], b"");
     assert_eq!(ran.status, 2);
     assert!(ran.err.starts_with("kerzhoma: no such file: "), "{}", ran.err);
-    let ran = run(&["list", env!("CARGO_MANIFEST_DIR")], b"");
+    let ran = run(&["list", &format!("{}/src", env!("CARGO_MANIFEST_DIR"))], b"");
     assert_eq!(ran.status, 2);
-    assert!(ran.err.contains("it is a folder"), "{}", ran.err);
+    assert!(ran.err.contains("there is no *.xml in this folder"), "{}", ran.err);
+}
+
+// A document by its name, or by how it begins; a table of 60 events begins with `<`, too.
+#[test]
+fn documents_by_how_they_begin() {
+    for before in ["", "\u{feff}", " \n\t", "                \n"] {
+        let document = format!("{before}<testsuites/>");
+        let ran = run(&["list"], document.as_bytes());
+        assert_eq!((ran.status, text(&ran)), (0, "(report - 0 0 0 0 -)\n"), "{before:?}");
+    }
+    assert_eq!(run(&["explain"], b"<a>").status, 1);
+    let mut t = TableBuilder::new();
+    t.start("testsuites");
+    for _ in 0..58 {
+        t.text(" ");
+    }
+    t.end("testsuites");
+    let table = t.finish().to_bytes();
+    assert_eq!(table[0], b'<');
+    let ran = run(&["list"], &table);
+    assert_eq!((ran.status, text(&ran)), (0, "(report - 0 0 0 0 -)\n"));
+    assert_eq!(run(&["list", "--table"], &table).status, 0);
+    let ran = run(&["explain", "--xml"], &table);
+    assert_eq!(ran.status, 1);
+    assert!(text(&ran).starts_with("standard input:1:2: refused 18"), "{}", text(&ran));
 }
 
 const DOCUMENT: &str = "<testsuites name=\"r\" tests=\"2\"><testsuite name=\"lab\" tests=\"2\"><testcase name=\"a\" time=\"0.5\"/>\
@@ -211,8 +246,8 @@ fn documents() {
     assert_eq!((listed.status, text(&listed)), (0, WORKED));
     let checked = run(&["check", "-", "--xml"], DOCUMENT.as_bytes());
     assert_eq!((checked.status, text(&checked), checked.err.as_str()), (0, "", ""));
-    // written, it is a table again
-    let written = run(&["write", "--xml", "-", "-o", "-"], DOCUMENT.as_bytes());
+    // written as a table
+    let written = run(&["write", "--xml", "--table-out", "-", "-o", "-"], DOCUMENT.as_bytes());
     assert_eq!(text(&run(&["list", "-"], &written.out)), WORKED);
 }
 
@@ -243,13 +278,14 @@ fn documents_that_are_written() {
     assert_eq!((ran.status, ran.out.len(), ran.err.as_str()), (0, 0, ""));
     assert_eq!(fs::read_to_string(&to).unwrap(), FILE);
     fs::remove_file(&to).unwrap();
+    assert_eq!(text(&run(&["write"], DOCUMENT.as_bytes())), FILE);
     assert_eq!(run(&["list", "--xml-out", "-"], &worked()).status, 2);
 }
 
 #[test]
 fn orders_as_documents() {
     let order = ["rehearse", "5", "1", "1", "1", "1"];
-    let table = run(&[&order[..], &["-o", "-"]].concat(), b"");
+    let table = run(&[&order[..], &["--table-out"]].concat(), b"");
     let document = run(&["write", "--xml-out", "-", "-o", "-"], &table.out);
     assert!(text(&document).ends_with("        <testcase name=\"case4\"/>\n    </testsuite>\n</testsuites>\n"));
     let asked = run(&[&order[..], &["--xml-out", "-o", "-"]].concat(), b"");
@@ -267,11 +303,12 @@ fn orders_as_documents() {
 #[test]
 fn documents_that_are_refused() {
     for (document, line) in [
-        ("", "refused 18 at byte 0, line 1, column 1: the document ends too early"),
-        ("<a>\n\u{e9}<</a>", "refused 18 at byte 7, line 2, column 3: from this byte on the document is not well-formed XML"),
-        ("<a>\n</b>", "refused 18 at byte 6, line 2, column 3: from this byte on the document is not well-formed XML"),
-        ("<!DOCTYPE a><a/>", "refused 19 at byte 0, line 1, column 1: a document type declaration is not taken"),
+        ("", "1:1: refused 18 at byte 0, line 1, column 1: the document ends too early"),
+        ("<a>\n\u{e9}<</a>", "2:3: refused 18 at byte 7, line 2, column 3: from this byte on the document is not well-formed XML"),
+        ("<a>\n</b>", "2:3: refused 18 at byte 6, line 2, column 3: from this byte on the document is not well-formed XML"),
+        ("<!DOCTYPE a><a/>", "1:1: refused 19 at byte 0, line 1, column 1: a document type declaration is not taken"),
     ] {
+        let line = format!("standard input:{line}");
         let explained = run(&["explain", "--xml", "-"], document.as_bytes());
         assert_eq!((explained.status, text(&explained), explained.err.as_str()), (1, &*format!("{line}\n"), ""));
         for (task, out) in [("list", "(refused)\n"), ("check", "")] {
@@ -282,19 +319,20 @@ fn documents_that_are_refused() {
     // read, and refused there: numbers, and a name only from explain
     let document = b"<testsuites><testsuite name=\"lab\"><testcase/></testsuite></testsuites>";
     let explained = run(&["explain", "--xml", "-"], document);
-    let line = "refused 7 at testsuites/testsuite[0](\"lab\")/testcase[0]/@name: this attribute is missing (event 2)\n";
+    let line = "standard input:1:36: refused 7 at testsuites/testsuite[0](\"lab\")/testcase[0]/@name: this attribute is missing\n";
     assert_eq!((explained.status, text(&explained)), (1, line));
     // a byte more than the limit
     let mut long = b"<a>".to_vec();
     long.resize(16_777_217, b' ');
     let explained = run(&["explain", "--xml", "-"], &long);
-    assert_eq!((explained.status, text(&explained)), (1, "refused 11: the document is longer than 16777216 bytes\n"));
+    assert_eq!((explained.status, text(&explained)), (1, "standard input:1:16777217: refused 11: the document is longer than 16777216 bytes\n"));
     // an event more than the limit
     let mut many = b"<a>".to_vec();
     many.extend_from_slice(&b"<b/>".repeat(65_534));
     many.extend_from_slice(b"</a>");
     let explained = run(&["explain", "--xml", "-"], &many);
-    assert_eq!((explained.status, text(&explained)), (1, "refused 16: the document has more than 65536 events or attributes\n"));
+    let line = "standard input:1:262143: refused 16: the document has more than 65536 events or attributes\n";
+    assert_eq!((explained.status, text(&explained)), (1, line));
     assert_eq!(run(&["list", "--xml", "no such file.xml"], b"").status, 2);
 }
 
@@ -331,7 +369,7 @@ fn release_sheets() {
     // no sheet where one isn't read, and each is told
     let ran = run(&["sheet", bad, one, bad], b"");
     assert_eq!((ran.status, text(&ran), ran.err.lines().count()), (1, "", 2));
-    assert!(ran.err.starts_with(&format!("kerzhoma: {bad}: refused 18 at byte 12")), "{}", ran.err);
+    assert!(ran.err.starts_with(&format!("kerzhoma: {bad}:1:13: refused 18 at byte 12")), "{}", ran.err);
     let ran = run(&["sheet", bad, "no such file", one], b"");
     assert_eq!((ran.status, text(&ran), ran.err.lines().count()), (2, "", 2));
     // 4,096 reports and one more; a sum past the limit
@@ -369,7 +407,7 @@ fn first_and_last_start() {
     assert_eq!((none.status, text(&none), none.err.as_str()), (0, "(first -)\n(last -)\n(span -)\n", ""));
     let ran = run(&["span", "-"], &refused());
     assert_eq!((ran.status, text(&ran)), (1, ""));
-    assert!(ran.err.starts_with("kerzhoma: refused 5 ") && !ran.err.contains("private"), "{}", ran.err);
+    assert!(ran.err.starts_with("kerzhoma: standard input: refused 5 ") && !ran.err.contains("private"), "{}", ran.err);
 }
 
 #[test]
@@ -377,31 +415,218 @@ fn usage() {
     let help = run(&["--help"], b"");
     assert_eq!((help.status, help.err.as_str()), (0, ""));
     assert!(text(&help).lines().count() <= 24 && text(&help).lines().all(|l| l.len() <= 80));
+    assert_eq!(text(&run(&["help"], b"")), text(&help));
+    for command in COMMANDS {
+        assert!(text(&help).contains(&format!("\n    {command} ")), "{command}");
+        let about = run(&["help", command], b"");
+        assert!(about.status == 0 && text(&about).starts_with(&format!("kerzhoma {command}")), "{command}");
+        assert!(text(&about).lines().all(|l| l.len() <= 80), "{command}");
+        assert_eq!(text(&run(&[command, "x", "--help"], b"")), text(&about));
+    }
+    assert_eq!(text(&run(&["--version"], b"")), format!("kerzhoma {}\n", env!("CARGO_PKG_VERSION")));
     for arguments in [
         &[][..],
-        &["list"],
         &["lists", "x"],
-        &["list", "x", "y"],
-        &["list", "x", "-o", "y"],
-        &["span", "x", "-o", "y"],
-        &["sheet"],
-        &["sheet", "x", "-o", "y"],
-        &["write", "x"],
+        &["write", "x", "y"],
         &["write", "x", "-o"],
         &["write", "x", "-o", "y", "-o", "z"],
+        &["write", "x", "--xml-out", "--table-out"],
         &["list", "--all", "x"],
-        &["rehearse", "1", "0", "0", "0", "0"],
+        &["list", "--failed", "x"],
+        &["list", "--xml", "--table", "x"],
+        &["list", "--why=x", "x"],
+        &["list", "-qx", "x"],
         &["rehearse", "1", "0", "0", "0", "-o", "y"],
         &["rehearse", "1", "0", "0", "0", "0", "0", "-o", "y"],
-        &["rehearse", "1", "0", "0", "0", "x", "-o", "y"],
-        &["rehearse", "1", "0", "0", "0", "18446744073709551616", "-o", "y"],
         &["rehearse", "--xml", "1", "0", "0", "0", "0", "-o", "y"],
+        &["help", "lists"],
+        &["man", "x"],
+        &["completions", "csh"],
+        &["completions"],
         &[""],
     ] {
         let ran = run(arguments, b"");
         assert_eq!((ran.status, ran.out.len()), (2, 0), "{arguments:?}");
         assert!(ran.err.contains("usage: kerzhoma"), "{arguments:?}");
     }
+    for number in ["x", "18446744073709551616"] {
+        let ran = run(&["rehearse", "1", "0", "0", "0", number], b"");
+        assert_eq!((ran.status, ran.out.len()), (2, 0));
+    }
+}
+
+const COMMANDS: [&str; 11] =
+    ["list", "check", "explain", "summary", "write", "sheet", "span", "rehearse", "help", "man", "completions"];
+
+// Manual page and completions have every command with every option that its help tells.
+#[test]
+fn made_from_one_table() {
+    let [man, bash, zsh, fish] = [&["man"][..], &["completions", "bash"], &["completions", "zsh"], &["completions", "fish"]].map(|a| {
+        let ran = run(a, b"");
+        assert_eq!((ran.status, ran.err.as_str()), (0, ""));
+        text(&ran).to_owned()
+    });
+    for command in COMMANDS {
+        let about = run(&["help", command], b"");
+        let options = text(&about).lines().filter_map(|l| l.strip_prefix("    ").filter(|l| l.starts_with('-')));
+        let options: Vec<&str> = options.flat_map(|l| l.split([' ', ',']).filter(|w| w.starts_with("--"))).collect();
+        assert!(options.contains(&"--help"), "{command}");
+        assert!(man.contains(&format!(".TP\n.B {command}\n")), "{command}");
+        let row = bash.lines().find(|l| l.trim_start().starts_with(&format!("{command}) options='"))).unwrap();
+        let from = zsh.find(&format!("\n    {command})\n")).unwrap();
+        let case = &zsh[from..from + zsh[from..].find(";;").unwrap()];
+        for option in options {
+            assert!(man.contains(&option.replace('-', "\\-")), "{command} {option}");
+            assert!(row.contains(option), "{command} {option}");
+            assert!(case.contains(option), "{command} {option}");
+            let long = option.trim_start_matches('-');
+            let line = fish.lines().find(|l| l.contains(&format!("seen_subcommand_from {command}'")) && l.contains(&format!("-l {long} ")));
+            assert!(line.is_some(), "{command} {option}");
+        }
+    }
+}
+
+fn folder(name: &str, files: &[(&str, &str)]) -> PathBuf {
+    let folder = room(name);
+    let _ = fs::remove_dir_all(&folder);
+    fs::create_dir_all(&folder).unwrap();
+    for (file, document) in files {
+        fs::write(folder.join(file), document).unwrap();
+    }
+    folder
+}
+
+const PLAIN: &str = "<testsuites tests=\"1\"><testsuite name=\"s\"><testcase name=\"a\"/></testsuite></testsuites>";
+const BAD: &str = "<testsuites>\n<testsuite name=\"private\" time=\"secret\"/></testsuites>";
+
+// Results in order, under the names of their files; a folder stands for its *.xml.
+#[test]
+fn several_files() {
+    let path = folder("several", &[("b.xml", BAD), ("a.xml", PLAIN), ("c.XML", DOCUMENT), ("d.txt", "no report")]);
+    let folder = path.to_str().unwrap();
+    let ran = run(&["list", folder], b"");
+    let listing = format!(
+        "==> {folder}/a.xml <==\n(report - 1 0 0 0 -\n(suite \"s\" 0 0 0 0 -\n(case \"a\" - - success flaky 0)))\n\
+         ==> {folder}/b.xml <==\n(refused)\n==> {folder}/c.XML <==\n{WORKED}"
+    );
+    assert_eq!((ran.status, text(&ran)), (1, &*listing));
+    let line = format!(
+        "kerzhoma: {folder}/b.xml:2:33: refused 5 at testsuites/testsuite[0]/@time: \
+         a time must be digits with at most nine behind the point, under 8388608 seconds\n"
+    );
+    assert_eq!(ran.err, line);
+    let ran = run(&["check", folder], b"");
+    let lines = format!("{folder}/a.xml: accepted\n{folder}/b.xml: refused 5\n{folder}/c.XML: accepted\n");
+    assert_eq!((ran.status, text(&ran), ran.err.clone()), (1, &*lines, line));
+    let ran = run(&["check", "-q", folder], b"");
+    assert_eq!((ran.status, text(&ran), ran.err.as_str()), (1, "", ""));
+    // one by one, in the order that is asked for, and with a file that isn't there
+    let [a, c] = ["a.xml", "c.XML"].map(|f| format!("{folder}/{f}"));
+    let ran = run(&["check", &c, "no such file", &a], b"");
+    assert_eq!((ran.status, text(&ran)), (2, &*format!("{c}: accepted\n{a}: accepted\n")));
+    let ran = run(&["span", &a, "-"], &worked());
+    assert_eq!(text(&ran).matches("==> ").count(), 2);
+    assert!(text(&ran).contains("==> standard input <==\n"));
+    // failed cases: worse than nothing, and better than a refusal
+    for (arguments, status) in [(&["check", "--failed", &*a][..], 0), (&["check", "--failed", &a, &c], 3), (&["check", &c], 0), (&["check", "--failed", folder], 1)] {
+        assert_eq!(run(arguments, b"").status, status, "{arguments:?}");
+    }
+    let ran = run(&["check", "--failed", &c], b"");
+    assert_eq!(ran.err, format!("kerzhoma: {c}: 1 failed, 0 with errors\n"));
+    let ran = run(&["summary", &a, &c], b"");
+    let head = "                tests   failures     errors    skipped\n";
+    let rows = |a: &str, b: &str| format!("  stated   {a}\n  cases    {b}\n");
+    let summary = format!(
+        "{a}\n{head}{}{c}\n{head}{}",
+        rows("         1          0          0          0", "         1          0          0          0"),
+        rows("         2          0          0          0", "         2          1          0          0  differs")
+    );
+    assert_eq!((ran.status, text(&ran), ran.err.as_str()), (0, &*summary, ""));
+}
+
+#[test]
+fn objects() {
+    let path = folder("objects", &[("a.xml", PLAIN), ("b.xml", BAD)]);
+    let folder = path.to_str().unwrap();
+    let four = |t: u32| format!("{{\"tests\":{t},\"failures\":0,\"errors\":0,\"skipped\":0}}");
+    let accepted = format!(
+        "{{\"file\":\"{folder}/a.xml\",\"verdict\":\"accepted\",\"number\":null,\"path\":null,\"place\":null,\"why\":null,\
+         \"counts\":{{\"stated\":{},\"cases\":{}}}}}\n",
+        four(1),
+        four(1)
+    );
+    let sentence = "a time must be digits with at most nine behind the point, under 8388608 seconds";
+    let refused = |why: &str| {
+        format!(
+            "{{\"file\":\"{folder}/b.xml\",\"verdict\":\"refused\",\"number\":5,\"path\":\"testsuites/testsuite[0]/@time\",\
+             \"place\":{{\"byte\":45,\"line\":2,\"column\":33}},\"why\":\"refused 5 at testsuites/testsuite[0]/@time: {sentence}{why}\",\
+             \"counts\":null}}\n"
+        )
+    };
+    for (command, why) in [("check", ""), ("summary", ""), ("explain", " (secret)")] {
+        let ran = run(&[command, "--json", folder], b"");
+        assert_eq!((ran.status, text(&ran), ran.err.as_str()), (1, &*(accepted.clone() + &refused(why)), ""), "{command}");
+    }
+    let ran = run(&["check", "--json", "no\"such\nfile"], b"");
+    assert_eq!(ran.status, 2);
+    assert!(text(&ran).starts_with("{\"file\":\"no\\\"such\\u000afile\",\"verdict\":\"unusable\","), "{}", text(&ran));
+}
+
+// -o for every output; one that is full or closed is an error.
+#[test]
+fn outputs() {
+    let path = folder("outputs", &[("a.xml", DOCUMENT)]);
+    let (file, to) = (path.join("a.xml"), path.join("out"));
+    let (file, to) = (file.to_str().unwrap(), to.to_str().unwrap());
+    for arguments in [&["list", file][..], &["explain", file], &["summary", file], &["write", file], &["sheet", file], &["span", file],
+        &["check", "--json", file], &["rehearse", "1", "0", "0", "0", "0"], &["help"], &["help", "list"], &["man"], &["completions", "zsh"]] {
+        let said = run(arguments, b"");
+        assert!(said.status == 0 && !said.out.is_empty(), "{arguments:?}");
+        for option in [&["-o", to][..], &["--output", to], &[&*format!("--output={to}")], &[&*format!("-o{to}")]] {
+            let ran = run(&[arguments, option].concat(), b"");
+            assert_eq!((ran.status, ran.out.len()), (0, 0), "{arguments:?}");
+            assert_eq!(fs::read(to).unwrap(), said.out, "{arguments:?}");
+            fs::remove_file(to).unwrap();
+        }
+        for (ends, said) in [(">/dev/full", "standard output: "), (">&-", "standard output is closed")] {
+            let line = format!("exec \"$0\" \"$@\" {ends}");
+            let ran = Command::new("sh").args(["-c", &line, env!("CARGO_BIN_EXE_kerzhoma")]).args(arguments).output().unwrap();
+            let err = String::from_utf8(ran.stderr).unwrap();
+            assert!(ran.status.code() == Some(2) && err.contains(said), "{arguments:?} {ends} {err}");
+        }
+        let ran = run(&[arguments, &["-o", "/dev/full"]].concat(), b"");
+        assert!(ran.status == 2 && ran.err.contains("/dev/full: "), "{arguments:?}");
+    }
+}
+
+// One document a cause, in tests/refused: its line with names and values, and the line that has none.
+#[test]
+fn refusals_of_documents() {
+    let folder = PathBuf::from(env!("CARGO_MANIFEST_DIR")).join("tests/refused");
+    let said = |command: &str, folder: &PathBuf| {
+        let ran = Command::new(env!("CARGO_BIN_EXE_kerzhoma")).args([command, "."]).current_dir(folder).output().unwrap();
+        assert_eq!(ran.status.code(), Some(1));
+        String::from_utf8(if command == "explain" { ran.stdout } else { ran.stderr }).unwrap()
+    };
+    let explained = said("explain", &folder);
+    hold("refused.txt", &explained);
+    let checked = said("check", &folder);
+    hold("refused_public.txt", &checked);
+    assert!(!checked.contains("private") && !checked.contains("12 of 14"), "{checked}");
+    assert_eq!(said("list", &folder), checked);
+    assert_eq!(explained.lines().count(), checked.lines().count());
+    for line in explained.lines().chain(checked.lines().map(|l| l.trim_start_matches("kerzhoma: "))) {
+        let mut parts = line.splitn(4, ':').skip(1);
+        let place = [parts.next(), parts.next()].map(|n| n.and_then(|n| n.parse::<u64>().ok()));
+        assert!(place.iter().all(|n| n.is_some_and(|n| n > 0)), "{line}");
+        assert!(parts.next().is_some_and(|rest| rest.starts_with(" refused ")), "{line}");
+    }
+    // above the limits: too many records, in a document that is too long to be stored
+    let cases = "<testcase name=\"a\"><failure/></testcase>".repeat(15_000) + &"<testcase name=\"b\" x=\"1\" y=\"2\" z=\"3\"/>".repeat(12_000);
+    let document = format!("<testsuites><testsuite name=\"s\">\n{cases}</testsuite></testsuites>");
+    let ran = run(&["check"], document.as_bytes());
+    let line = "kerzhoma: standard input:2:937583: refused 12 at testsuites/testsuite[0]/testcase[23883]: the report has more than 65536 records\n";
+    assert_eq!((ran.status, ran.err.as_str()), (1, line));
 }
 
 const REHEARSED: &str = "\
@@ -424,10 +649,10 @@ fn reports_to_order() {
     let listed = run(&["list", file], b"");
     assert_eq!((listed.status, text(&listed)), (0, REHEARSED));
     fs::remove_file(path).unwrap();
-    let ran = run(&["rehearse", "0", "0", "0", "0", "0", "-o", "-"], b"");
+    let ran = run(&["rehearse", "--table-out", "0", "0", "0", "0", "0", "-o", "-"], b"");
     assert_eq!(text(&run(&["list", "-"], &ran.out)), "(report \"rehearsal\" 0 0 0 0 -\n(suite \"rehearsal\" 0 0 0 0 -))\n");
     // written again it is the same table
-    assert_eq!(run(&["write", "-", "-o", "-"], &ran.out).out, ran.out);
+    assert_eq!(run(&["write", "--table-out"], &ran.out).out, ran.out);
     for (order, line) in [
         (["4097", "9", "9", "9", "9"], "refused 23: a report to order has at most 4096 cases"),
         (["5", "2", "2", "2", "0"], "refused 24: failures, errors, skipped and flaky cases together are more than the cases"),
@@ -449,10 +674,10 @@ fn spoiled_tables() {
         if random.below(4) == 0 {
             file.truncate(random.below(file.len()));
         }
-        for task in [&["list", "-"][..], &["explain", "-"], &["check", "-"], &["span", "-"], &["write", "-", "-o", "-"]] {
+        for task in [&["list", "-"][..], &["explain", "-"], &["check", "-"], &["span", "-"], &["summary", "-"], &["check", "--json"], &["write", "--table-out"], &["write", "--xml-out"]] {
             let ran = run(task, &file);
             // something is said where the status isn't 0
-            let said = if ran.status == 1 && task[0] == "explain" { text(&ran) } else { &ran.err };
+            let said = if ran.status == 1 && (task[0] == "explain" || task[1] == "--json") { text(&ran) } else { &ran.err };
             assert!(ran.status == 0 && ran.err.is_empty() || ran.status <= 2 && !said.is_empty(), "{task:?} {}", ran.status);
         }
     }
