@@ -1,12 +1,12 @@
 #!/bin/sh
 # Builds the C example and checks, and runs them; under valgrind where it is installed. Run it from the repository's top, with a C compiler
-# and, unless target/staticlib (or the folder KERZHOMA_LIB) has libport_c.a, with rt. The last line counts.
+# and the archive, libport_c.a, in target/staticlib (./build puts it there) or in the folder KERZHOMA_LIB. The last line counts.
 out=target/ports-c
 lib=${KERZHOMA_LIB:-target/staticlib}/libport_c.a
 passed=0
 failed=0
 mkdir -p "$out" || exit 2
-[ -f "$lib" ] || rt staticlib port_c >"$out/staticlib.log" 2>&1 || { tail -n 3 "$out/staticlib.log"; exit 2; }
+[ -f "$lib" ] || { echo "there is no $lib: run ./build, or name a folder that has it in KERZHOMA_LIB"; exit 2; }
 if command -v valgrind >/dev/null; then under="valgrind -q --error-exitcode=9 --leak-check=full"; else under=; echo "valgrind isn't there: run without it"; fi
 
 # expect WHAT STATUS COMMAND..
@@ -39,6 +39,18 @@ cat >"$out/worked" <<'LISTING'
 (run failure -))))
 LISTING
 same "its listing" "$out/worked"
+cat >"$out/worked.xml" <<'DOCUMENT'
+<testsuites name="r" tests="2"><testsuite name="lab" tests="2"><testcase name="a" time="0.5"/>
+<testcase name="b"><failure message="m"/><rerunFailure/></testcase></testsuite></testsuites>
+DOCUMENT
+expect "an XML document" 0 $under "$out/example" "$out/worked.xml"
+same "its listing as well" "$out/worked"
+cp "$out/worked.xml" "$out/document"
+expect "one that isn't named so" 0 $under "$out/example" "$out/document"
+same "the same listing" "$out/worked"
+printf '<testsuites>' >"$out/document"
+expect "one that is cut off" 1 $under "$out/example" "$out/document"
+expect "the example of the repository" 0 $under "$out/example" example/report.xml
 expect "areas of the sizes that kerzhoma.h calls enough" 0 $under "$out/check" rooms example/worked.bin
 printf '\0\0\0\0\0\0\0\0\0\0\0\0' >"$out/empty.bin"
 expect "a table that is refused" 1 $under "$out/example" "$out/empty.bin"

@@ -1,10 +1,10 @@
-/* Prints the public listing of event tables, or why they are refused.
+/* Prints the public listing of reports, or why they are refused.
  *
  *     example FILE..        `-` is standard input
  *
- * A file holds one table: three little-endian words, the numbers of events, attributes and source bytes, then the three. Listings go to
- * standard output, all else to standard error. The status is 0 where every table was accepted, 1 where one was refused, and 2 where a
- * file couldn't be used. */
+ * A file holds an XML document, or a table of XML events: three little-endian words, the numbers of events, attributes and source bytes,
+ * then the three. Listings go to standard output, all else to standard error. The status is 0 where every report was accepted, 1 where one
+ * was refused, and 2 where a file couldn't be used. */
 #include "kerzhoma.h"
 
 #include <errno.h>
@@ -132,6 +132,48 @@ static bool table_of(const char *name, const uint8_t *bytes, size_t size, struct
     return true;
 }
 
+/* Whether these bytes are an XML document: by the file's name, or where behind a byte-order mark and white space they begin with `<` and
+ * the first four are no number of events within the limits. */
+static bool is_document(const char *name, const uint8_t *bytes, size_t size)
+{
+    size_t n = strlen(name), i = 0;
+
+    if (n >= 4 && strcmp(name + n - 4, ".xml") == 0)
+        return true;
+    if (size >= 4 && word_at(bytes) <= KERZHOMA_MOST_EVENTS)
+        return false;
+    if (size >= 3 && memcmp(bytes, "\xef\xbb\xbf", 3) == 0)
+        i = 3;
+    while (i < size && (bytes[i] == ' ' || bytes[i] == '\t' || bytes[i] == '\n' || bytes[i] == '\r'))
+        i++;
+    return i < size && bytes[i] == '<';
+}
+
+/* Whether this document is tokenized, which makes the table; its source is a copy. */
+static bool tokenized(const char *name, const uint8_t *bytes, size_t size, struct table *t)
+{
+    size_t events = (size_t)KERZHOMA_EVENT_WORDS * KERZHOMA_MOST_EVENTS;
+    size_t attributes = (size_t)KERZHOMA_ATTRIBUTE_WORDS * KERZHOMA_MOST_ATTRIBUTES;
+    kerzhoma_tokenized made;
+
+    t->events = (uint32_t *)room(4 * events);
+    t->attributes = (uint32_t *)room(4 * attributes);
+    t->source = (uint8_t *)room(size);
+    memcpy(t->source, bytes, size);
+    made = kerzhoma_tokenize(t->source, size, t->events, events, t->attributes, attributes);
+    t->events_length = KERZHOMA_EVENT_WORDS * (size_t)made.events;
+    t->attributes_length = KERZHOMA_ATTRIBUTE_WORDS * (size_t)made.attributes;
+    t->source_length = size;
+    if (made.number != KERZHOMA_ACCEPTED) {
+        uint8_t line[256]; /* no line is longer */
+        size_t length = kerzhoma_explain_xml(bytes, size, made.number, made.byte, events, attributes, line, sizeof line);
+        fprintf(stderr, "%s: ", name);
+        fwrite(line, 1, length, stderr);
+        return false;
+    }
+    return true;
+}
+
 static void longer(struct areas *a)
 {
     free(a->out);
@@ -198,11 +240,13 @@ int main(int argc, char **argv)
         struct table t;
         size_t size;
         uint8_t *bytes = bytes_of(argv[i], &size);
+        bool document = bytes && is_document(argv[i], bytes, size);
 
-        if (!bytes || !table_of(argv[i], bytes, size, &t)) {
+        if (!bytes || (!document && !table_of(argv[i], bytes, size, &t))) {
             status = 2;
         } else {
-            if (!list(argv[i], &t, &a) && status == 0)
+            bool accepted = !document || tokenized(argv[i], bytes, size, &t);
+            if (!(accepted && list(argv[i], &t, &a)) && status == 0)
                 status = 1;
             free(t.events);
             free(t.attributes);

@@ -73,7 +73,9 @@ pub fn man() -> String {
     let mut page = format!(".TH KERZHOMA 1 \"\" \"kerzhoma {VERSION}\" \"User Commands\"\n.SH NAME\nkerzhoma \\- {}\n", roff(ABOUT));
     page += ".SH SYNOPSIS\n";
     for c in COMMANDS {
-        page += &format!(".B {}\n{}\n.br\n", roff(&format!("kerzhoma {}", c.name)), roff(&c.arguments()));
+        let arguments = roff(&c.arguments());
+        let arguments = if arguments.is_empty() { arguments } else { arguments + "\n" };
+        page += &format!(".B {}\n{arguments}.br\n", roff(&format!("kerzhoma {}", c.name)));
     }
     page += ".B kerzhoma \\-\\-version\n.SH COMMANDS\n";
     for c in COMMANDS {
