@@ -1,6 +1,6 @@
 """hostile.py [KERZHOMA]: times documents and tables that are made to be slow, through the command line, beside ordinary reports.
 
-KERZHOMA is the command line's program; without it, ports/rust/target/release/kerzhoma. The inputs are made in target/hostile.
+KERZHOMA is the command line's program; without it, target/dist/bin/kerzhoma. The inputs are made in target/hostile.
 A row has the least processor time of three runs of `kerzhoma list`, one where it takes more than two seconds, and how many times
 the ordinary report's that is: of 11,000 cases, or, where the row says so, one of the same size."""
 import os
@@ -10,7 +10,7 @@ import subprocess
 import sys
 
 TOP = os.path.dirname(os.path.dirname(os.path.abspath(__file__)))
-PROGRAM = sys.argv[1] if len(sys.argv) > 1 else os.path.join(TOP, "ports/rust/target/release/kerzhoma")
+PROGRAM = sys.argv[1] if len(sys.argv) > 1 else os.path.join(TOP, "target/dist/bin/kerzhoma")
 FOLDER = os.path.join(TOP, "target/hostile")
 os.makedirs(FOLDER, exist_ok=True)
 START, EMPTY, END = 0, 1, 2

@@ -77,7 +77,8 @@ impl XmlRefusal {
 // with 16, found by halves.
 fn first_too_many(source: &[u8]) -> Option<usize> {
     let (mut events, mut attributes) = entries(source);
-    let mut has_room = |n: usize| tokenize_into(&source[..n], &mut events, &mut attributes).map_or_else(|r| r.number() != 16, |_| true);
+    let mut has_room =
+        |n: usize| tokenize_into(&source[..n], &mut events, &mut attributes).map_or_else(|r| r.number() != 16, |_| true);
     let (mut good, mut bad) = (0, source.len());
     if has_room(bad) {
         return None;

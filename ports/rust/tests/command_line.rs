@@ -110,7 +110,10 @@ fn a_report_that_is_refused() {
         "refused 5 at testsuites/testsuite[0](\"private lab\")/testcase[0]/@time: a time must be digits with at most nine behind \
                 the point, under 8388608 seconds (event 2, attribute 2)\n";
     let explained = run(&["explain", "-"], &refused());
-    assert_eq!((explained.status, text(&explained), explained.err.clone()), (1, &*format!("standard input: {line}"), String::new()));
+    assert_eq!(
+        (explained.status, text(&explained), explained.err.clone()),
+        (1, &*format!("standard input: {line}"), String::new())
+    );
     let asked = run(&["list", "--why"], &refused());
     assert_eq!((asked.status, text(&asked), asked.err.clone()), (1, "(refused)\n", format!("kerzhoma: standard input: {line}")));
     for (task, out) in [("list", "(refused)\n"), ("check", "")] {
@@ -325,7 +328,10 @@ fn documents_that_are_refused() {
     let mut long = b"<a>".to_vec();
     long.resize(16_777_217, b' ');
     let explained = run(&["explain", "--xml", "-"], &long);
-    assert_eq!((explained.status, text(&explained)), (1, "standard input:1:16777217: refused 11: the document is longer than 16777216 bytes\n"));
+    assert_eq!(
+        (explained.status, text(&explained)),
+        (1, "standard input:1:16777217: refused 11: the document is longer than 16777216 bytes\n")
+    );
     // an event more than the limit
     let mut many = b"<a>".to_vec();
     many.extend_from_slice(&b"<b/>".repeat(65_534));
@@ -461,11 +467,12 @@ const COMMANDS: [&str; 11] =
 // Manual page and completions have every command with every option that its help tells.
 #[test]
 fn made_from_one_table() {
-    let [man, bash, zsh, fish] = [&["man"][..], &["completions", "bash"], &["completions", "zsh"], &["completions", "fish"]].map(|a| {
-        let ran = run(a, b"");
-        assert_eq!((ran.status, ran.err.as_str()), (0, ""));
-        text(&ran).to_owned()
-    });
+    let [man, bash, zsh, fish] =
+        [&["man"][..], &["completions", "bash"], &["completions", "zsh"], &["completions", "fish"]].map(|a| {
+            let ran = run(a, b"");
+            assert_eq!((ran.status, ran.err.as_str()), (0, ""));
+            text(&ran).to_owned()
+        });
     for command in COMMANDS {
         let about = run(&["help", command], b"");
         let options = text(&about).lines().filter_map(|l| l.strip_prefix("    ").filter(|l| l.starts_with('-')));
@@ -480,7 +487,9 @@ fn made_from_one_table() {
             assert!(row.contains(option), "{command} {option}");
             assert!(case.contains(option), "{command} {option}");
             let long = option.trim_start_matches('-');
-            let line = fish.lines().find(|l| l.contains(&format!("seen_subcommand_from {command}'")) && l.contains(&format!("-l {long} ")));
+            let line = fish
+                .lines()
+                .find(|l| l.contains(&format!("seen_subcommand_from {command}'")) && l.contains(&format!("-l {long} ")));
             assert!(line.is_some(), "{command} {option}");
         }
     }
@@ -528,7 +537,12 @@ fn several_files() {
     assert_eq!(text(&ran).matches("==> ").count(), 2);
     assert!(text(&ran).contains("==> standard input <==\n"));
     // failed cases: worse than nothing, and better than a refusal
-    for (arguments, status) in [(&["check", "--failed", &*a][..], 0), (&["check", "--failed", &a, &c], 3), (&["check", &c], 0), (&["check", "--failed", folder], 1)] {
+    for (arguments, status) in [
+        (&["check", "--failed", &*a][..], 0),
+        (&["check", "--failed", &a, &c], 3),
+        (&["check", &c], 0),
+        (&["check", "--failed", folder], 1),
+    ] {
         assert_eq!(run(arguments, b"").status, status, "{arguments:?}");
     }
     let ran = run(&["check", "--failed", &c], b"");
@@ -578,8 +592,20 @@ fn outputs() {
     let path = folder("outputs", &[("a.xml", DOCUMENT)]);
     let (file, to) = (path.join("a.xml"), path.join("out"));
     let (file, to) = (file.to_str().unwrap(), to.to_str().unwrap());
-    for arguments in [&["list", file][..], &["explain", file], &["summary", file], &["write", file], &["sheet", file], &["span", file],
-        &["check", "--json", file], &["rehearse", "1", "0", "0", "0", "0"], &["help"], &["help", "list"], &["man"], &["completions", "zsh"]] {
+    for arguments in [
+        &["list", file][..],
+        &["explain", file],
+        &["summary", file],
+        &["write", file],
+        &["sheet", file],
+        &["span", file],
+        &["check", "--json", file],
+        &["rehearse", "1", "0", "0", "0", "0"],
+        &["help"],
+        &["help", "list"],
+        &["man"],
+        &["completions", "zsh"],
+    ] {
         let said = run(arguments, b"");
         assert!(said.status == 0 && !said.out.is_empty(), "{arguments:?}");
         for option in [&["-o", to][..], &["--output", to], &[&*format!("--output={to}")], &[&*format!("-o{to}")]] {
@@ -622,7 +648,8 @@ fn refusals_of_documents() {
         assert!(parts.next().is_some_and(|rest| rest.starts_with(" refused ")), "{line}");
     }
     // above the limits: too many records, in a document that is too long to be stored
-    let cases = "<testcase name=\"a\"><failure/></testcase>".repeat(15_000) + &"<testcase name=\"b\" x=\"1\" y=\"2\" z=\"3\"/>".repeat(12_000);
+    let cases = "<testcase name=\"a\"><failure/></testcase>".repeat(15_000)
+        + &"<testcase name=\"b\" x=\"1\" y=\"2\" z=\"3\"/>".repeat(12_000);
     let document = format!("<testsuites><testsuite name=\"s\">\n{cases}</testsuite></testsuites>");
     let ran = run(&["check"], document.as_bytes());
     let line = "kerzhoma: standard input:2:937583: refused 12 at testsuites/testsuite[0]/testcase[23883]: the report has more than 65536 records\n";
@@ -656,7 +683,10 @@ fn reports_to_order() {
     for (order, line) in [
         (["4097", "9", "9", "9", "9"], "refused 23: a report to order has at most 4096 cases"),
         (["5", "2", "2", "2", "0"], "refused 24: failures, errors, skipped and flaky cases together are more than the cases"),
-        (["1", "18446744073709551615", "1", "0", "0"], "refused 24: failures, errors, skipped and flaky cases together are more than the cases"),
+        (
+            ["1", "18446744073709551615", "1", "0", "0"],
+            "refused 24: failures, errors, skipped and flaky cases together are more than the cases",
+        ),
     ] {
         let ran = run(&[&["rehearse"], &order[..], &["-o", "-"]].concat(), b"");
         assert_eq!((ran.status, ran.out.len(), ran.err), (1, 0, format!("kerzhoma: {line}\n")));
@@ -674,7 +704,16 @@ fn spoiled_tables() {
         if random.below(4) == 0 {
             file.truncate(random.below(file.len()));
         }
-        for task in [&["list", "-"][..], &["explain", "-"], &["check", "-"], &["span", "-"], &["summary", "-"], &["check", "--json"], &["write", "--table-out"], &["write", "--xml-out"]] {
+        for task in [
+            &["list", "-"][..],
+            &["explain", "-"],
+            &["check", "-"],
+            &["span", "-"],
+            &["summary", "-"],
+            &["check", "--json"],
+            &["write", "--table-out"],
+            &["write", "--xml-out"],
+        ] {
             let ran = run(task, &file);
             // something is said where the status isn't 0
             let said = if ran.status == 1 && (task[0] == "explain" || task[1] == "--json") { text(&ran) } else { &ran.err };

@@ -70,7 +70,8 @@ fn tagged(tag: &str, words: &str) -> String {
 }
 
 pub fn man() -> String {
-    let mut page = format!(".TH KERZHOMA 1 \"\" \"kerzhoma {VERSION}\" \"User Commands\"\n.SH NAME\nkerzhoma \\- {}\n", roff(ABOUT));
+    let mut page =
+        format!(".TH KERZHOMA 1 \"\" \"kerzhoma {VERSION}\" \"User Commands\"\n.SH NAME\nkerzhoma \\- {}\n", roff(ABOUT));
     page += ".SH SYNOPSIS\n";
     for c in COMMANDS {
         let arguments = roff(&c.arguments());

@@ -1,5 +1,6 @@
 //! One JSON object a file.
 
+use crate::out::is_control;
 use kerzhoma::{Counts, Place};
 
 pub fn string(text: &str) -> String {
@@ -7,7 +8,7 @@ pub fn string(text: &str) -> String {
     for c in text.chars() {
         match c {
             '"' | '\\' => out.extend(['\\', c]),
-            c if c < ' ' || ('\u{7f}'..='\u{9f}').contains(&c) => out += &format!("\\u{:04x}", c as u32),
+            c if is_control(c) => out += &format!("\\u{:04x}", c as u32),
             c => out.push(c),
         }
     }
@@ -30,10 +31,12 @@ impl Object<'_> {
     pub fn line(&self) -> String {
         let text = |t: Option<&str>| t.map_or("null".to_owned(), string);
         let number = self.number.map_or("null".to_owned(), |n| n.to_string());
-        let place = self.place.map_or("null".to_owned(), |p| format!("{{\"byte\":{},\"line\":{},\"column\":{}}}", p.byte, p.line, p.column));
-        let counts = self.counts.map_or("null".to_owned(), |[stated, cases]| {
-            format!("{{\"stated\":{},\"cases\":{}}}", four(&stated), four(&cases))
-        });
+        let place = self
+            .place
+            .map_or("null".to_owned(), |p| format!("{{\"byte\":{},\"line\":{},\"column\":{}}}", p.byte, p.line, p.column));
+        let counts = self
+            .counts
+            .map_or("null".to_owned(), |[stated, cases]| format!("{{\"stated\":{},\"cases\":{}}}", four(&stated), four(&cases)));
         format!(
             "{{\"file\":{},\"verdict\":{},\"number\":{number},\"path\":{},\"place\":{place},\"why\":{},\"counts\":{counts}}}\n",
             string(self.file),

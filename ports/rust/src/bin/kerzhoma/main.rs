@@ -16,10 +16,10 @@ use kerzhoma::{Areas, Counts, NonSuccessKind, Order, Refusal, Status, Table, Tab
 use out::{say, Failed, Out};
 use parse::{parse, Asked, Parsed};
 use report::{files, load, Loaded, Unusable, Why};
+use std::env;
 use std::ffi::OsString;
 use std::path::Path;
 use std::process::ExitCode;
-use std::env;
 
 const ACCEPTED: u8 = 0;
 const REFUSED: u8 = 1;
@@ -160,8 +160,15 @@ impl Work {
         self.worse(FAILED);
         self.say(&format!("{}: {}", file.name, file.why));
         if self.asked.has("json") {
-            let object =
-                Object { file: &file.name, verdict: "unusable", number: None, path: None, place: None, why: Some(&file.why), counts: None };
+            let object = Object {
+                file: &file.name,
+                verdict: "unusable",
+                number: None,
+                path: None,
+                place: None,
+                why: Some(&file.why),
+                counts: None,
+            };
             return self.out.put_text(&object.line());
         }
         Ok(())
@@ -308,7 +315,8 @@ impl Work {
         let tree = read(&table, &mut areas)?;
         let (states, has) = (tree.counts(), cases_of(&tree));
         if four(states) != four(has) {
-            let told = |c: Counts| format!("{} tests, {} failures, {} errors, {} skipped", c.tests, c.failures, c.errors, c.skipped);
+            let told =
+                |c: Counts| format!("{} tests, {} failures, {} errors, {} skipped", c.tests, c.failures, c.errors, c.skipped);
             let (file, states, has) = (&loaded.name, told(states), told(has));
             self.say(&format!("{file}: it states {states}, and its cases are {has}; the sheet takes what it states"));
         }

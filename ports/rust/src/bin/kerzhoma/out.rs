@@ -72,14 +72,16 @@ pub fn say(what: &str) {
     let _ = writeln!(io::stderr(), "kerzhoma: {line}");
 }
 
-// Control characters, but for newlines, and marks that turn the direction of writing.
+/// Control characters, and marks that turn the direction of writing.
+pub fn is_control(c: char) -> bool {
+    c.is_control()
+        || matches!(c, '\u{61c}' | '\u{200e}' | '\u{200f}' | '\u{2028}'..='\u{202e}' | '\u{2066}'..='\u{2069}' | '\u{feff}')
+}
+
 fn escaped(text: &str) -> String {
-    let changes = |c: char| {
-        c.is_control() && c != '\n' || matches!(c, '\u{61c}' | '\u{200e}' | '\u{200f}' | '\u{2028}'..='\u{202e}' | '\u{2066}'..='\u{2069}' | '\u{feff}')
-    };
     let mut out = String::with_capacity(text.len());
     for c in text.chars() {
-        match changes(c) {
+        match is_control(c) && c != '\n' {
             true => out.extend(c.escape_unicode()),
             false => out.push(c),
         }

@@ -141,7 +141,8 @@ pub const FILES: &str = "A FILE is an XML document where its name ends in .xml, 
     A folder stands for the *.xml in it, in the order of their names. - is standard input; it is read, too, where no file is named and it \
     isn't a terminal.";
 
-pub const PRIVATE: &str = "A listing has no private text. What list and check say on standard error has no names and no values of the \
+pub const PRIVATE: &str =
+    "A listing has no private text. What list and check say on standard error has no names and no values of the \
     report; explain and list --why tell them. Control characters of names are escaped where the output is a terminal.";
 
 pub const STATUSES: &[(u8, &str)] = &[

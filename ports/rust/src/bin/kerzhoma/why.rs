@@ -59,7 +59,8 @@ fn fault(cause: Cause, value: &str) -> Option<String> {
                 return Some("is negative".to_owned());
             }
             let behind = value.split_once('.')?.1;
-            (behind.len() > 9 && behind.bytes().all(|b| b.is_ascii_digit())).then(|| format!("has {} digits behind the point", behind.len()))
+            (behind.len() > 9 && behind.bytes().all(|b| b.is_ascii_digit()))
+                .then(|| format!("has {} digits behind the point", behind.len()))
         }
         _ => None,
     }
@@ -67,8 +68,7 @@ fn fault(cause: Cause, value: &str) -> Option<String> {
 
 // The status elements of the case that was read, in their order.
 fn statuses(refusal: &Refusal, table: &Table<'_>) -> Option<String> {
-    const NAMES: [&[u8]; 7] =
-        [b"failure", b"error", b"skipped", b"flakyFailure", b"flakyError", b"rerunFailure", b"rerunError"];
+    const NAMES: [&[u8]; 7] = [b"failure", b"error", b"skipped", b"flakyFailure", b"flakyError", b"rerunFailure", b"rerunError"];
     let Some(PathElement::TestCase { event: Some(case), .. }) = refusal.path().last() else {
         return None;
     };
@@ -113,7 +113,8 @@ pub fn hint_of_byte(document: &[u8], byte: usize) -> Option<String> {
         return Some("an ampersand is written &amp;".to_owned());
     }
     // a character that began before it, or begins there
-    let open = before.iter().rposition(|b| !(0x80..0xc0).contains(b)).filter(|n| before[*n] >= 0xc0 && byte - n < 4).unwrap_or(byte);
+    let open =
+        before.iter().rposition(|b| !(0x80..0xc0).contains(b)).filter(|n| before[*n] >= 0xc0 && byte - n < 4).unwrap_or(byte);
     let bytes = &document[open..document.len().min(open + 4)];
     match std::str::from_utf8(bytes) {
         Err(e) if e.valid_up_to() == 0 => Some(format!("the byte {:02X} begins no UTF-8 character there", bytes[0])),
