@@ -54,7 +54,7 @@ static uint32_t word_at(const uint8_t *p)
 
 static uint32_t *words_at(const uint8_t *p, size_t n)
 {
-    uint32_t *words = room(4 * n);
+    uint32_t *words = (uint32_t *)room(4 * n);
     for (size_t i = 0; i < n; i++)
         words[i] = word_at(p + 4 * i);
     return words;
@@ -71,14 +71,14 @@ static uint8_t *bytes_of(const char *name, size_t *size)
         fprintf(stderr, "example: %s: cannot be opened: %s\n", name, strerror(errno));
         return NULL;
     }
-    bytes = room(most);
+    bytes = (uint8_t *)room(most);
     for (;;) {
         size_t n = fread(bytes + length, 1, most - length, f);
         length += n;
         if (n == 0 || length > MOST)
             break;
         if (length == most) {
-            bytes = realloc(bytes, most *= 2);
+            bytes = (uint8_t *)realloc(bytes, most *= 2);
             if (!bytes) {
                 fprintf(stderr, "example: no memory for %zu bytes\n", most);
                 exit(2);
@@ -127,7 +127,7 @@ static bool table_of(const char *name, const uint8_t *bytes, size_t size, struct
     t->source_length = (size_t)source;
     t->events = words_at(bytes + HEAD, t->events_length);
     t->attributes = words_at(bytes + HEAD + 4 * t->events_length, t->attributes_length);
-    t->source = room(t->source_length);
+    t->source = (uint8_t *)room(t->source_length);
     memcpy(t->source, bytes + HEAD + 4 * (t->events_length + t->attributes_length), t->source_length);
     return true;
 }
@@ -177,7 +177,7 @@ static bool tokenized(const char *name, const uint8_t *bytes, size_t size, struc
 static void longer(struct areas *a)
 {
     free(a->out);
-    a->out = room(a->out_length *= 2);
+    a->out = (uint8_t *)room(a->out_length *= 2);
 }
 
 /* How long the area was that a table was read into and that was too short. */
@@ -232,10 +232,10 @@ int main(int argc, char **argv)
         fprintf(stderr, "usage: example FILE..    (- is standard input)\n");
         return 2;
     }
-    a.records = room(4 * RECORDS);
-    a.text = room(KERZHOMA_MOST_BYTES);
-    a.scratch = room(KERZHOMA_MOST_BYTES);
-    a.out = room(a.out_length = 65536);
+    a.records = (uint32_t *)room(4 * RECORDS);
+    a.text = (uint8_t *)room(KERZHOMA_MOST_BYTES);
+    a.scratch = (uint8_t *)room(KERZHOMA_MOST_BYTES);
+    a.out = (uint8_t *)room(a.out_length = 65536);
     for (int i = 1; i < argc; i++) {
         struct table t;
         size_t size;

@@ -9,6 +9,7 @@ use std::{error, ffi::OsStr, fmt, fs::File, io, io::Read, path::Path};
 /// A table that was loaded.
 #[derive(Debug)]
 pub struct Loaded {
+    /// The table.
     pub table: TableBuf,
     /// Whether bytes stand behind the table; they are ignored.
     pub trailing: bool,
@@ -18,12 +19,15 @@ pub struct Loaded {
 #[derive(Debug)]
 #[non_exhaustive]
 pub enum InputError {
+    /// The file can't be read.
     Io(io::Error),
+    /// The bytes are no table.
     Table(TableError),
     /// A table is asked for, and the file begins as an XML document does.
     Xml,
     /// It holds text that is neither an XML document nor a table.
     Neither,
+    /// There are no bytes.
     Empty,
 }
 
@@ -64,7 +68,9 @@ impl From<TableError> for InputError {
 /// What a file is taken for.
 #[derive(Clone, Copy, Debug, PartialEq, Eq)]
 pub enum Kind {
+    /// An XML document.
     Document,
+    /// A table of its events.
     Table,
     /// An XML document where the name ends in `.xml`, or where behind a byte-order mark and white space it begins with `<` and its first
     /// four bytes are no number of events within the limits; else a table.
@@ -74,11 +80,17 @@ pub enum Kind {
 /// What a file holds.
 #[derive(Debug)]
 pub enum Input {
+    /// An XML document: of a longer one a byte more than the limit.
     Document(Vec<u8>),
+    /// A table of its events.
     Table(Loaded),
 }
 
 /// Loads a file, or standard input where the path is `-`.
+///
+/// # Errors
+///
+/// Where reading fails, or the bytes are no table where one is taken for granted.
 pub fn load(path: &Path, kind: Kind) -> Result<Input, InputError> {
     match kind {
         Kind::Document => load_document(path).map(Input::Document),
@@ -90,6 +102,10 @@ pub fn load(path: &Path, kind: Kind) -> Result<Input, InputError> {
 }
 
 /// A document or a table, by how it begins.
+///
+/// # Errors
+///
+/// Where reading fails, or it begins as neither does.
 pub fn either_from(mut from: impl Read) -> Result<Input, InputError> {
     let mut head = Vec::new();
     from.by_ref().take(Header::BYTES as u64).read_to_end(&mut head)?;
@@ -145,7 +161,11 @@ fn open(path: &Path) -> io::Result<File> {
     Ok(file)
 }
 
-// Reads no more than the table that the header tells of, and one byte behind it.
+/// The table at the front of what is read: no more than its header tells of, and one byte behind it.
+///
+/// # Errors
+///
+/// Where reading fails or the bytes are no table.
 pub fn table_from(mut from: impl Read) -> Result<Loaded, InputError> {
     let mut head = Vec::new();
     from.by_ref().take(Header::BYTES as u64).read_to_end(&mut head)?;

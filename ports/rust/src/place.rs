@@ -5,11 +5,14 @@ use crate::document::entries;
 use crate::limits::{self, ENTRY};
 use crate::{sys, tokenize_into, Cause, Refusal, Table, XmlRefusal};
 
-/// A place in a document: a byte, counted from 0, and its line and column, counted from 1; a column is a character.
+/// A place in a document: a byte, and its line and column; a column is a character.
 #[derive(Clone, Copy, Debug, PartialEq, Eq, Hash)]
 pub struct Place {
+    /// From 0 on.
     pub byte: usize,
+    /// From 1 on.
     pub line: u64,
+    /// From 1 on.
     pub column: u64,
 }
 
