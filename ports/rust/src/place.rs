@@ -3,7 +3,7 @@
 
 use crate::document::entries;
 use crate::limits::{self, ENTRY};
-use crate::{sys, tokenize_into, Cause, Refusal, Table, XmlRefusal};
+use crate::{sys, tokenize, tokenize_into, Cause, DocumentRefusal, Refusal, Table, XmlRefusal};
 
 /// A place in a document: a byte, and its line and column; a column is a character.
 #[derive(Clone, Copy, Debug, PartialEq, Eq, Hash)]
@@ -72,6 +72,23 @@ impl XmlRefusal {
             (_, Some(byte)) => Place::of(source, byte as usize),
             (11, None) => Place::of(source.get(..limits::SOURCE)?, limits::SOURCE),
             _ => Place::of(source, first_too_many(source)?),
+        }
+    }
+}
+
+impl DocumentRefusal {
+    /// Where in the document it arose; it is tokenized again where its table was refused.
+    ///
+    /// ```
+    /// let document = b"<testsuites>\n<testsuite name='lab' time='soon'/>\n</testsuites>";
+    /// let refusal = kerzhoma::read_and_list_xml(document).unwrap_err();
+    /// let place = refusal.place(document).unwrap();
+    /// assert_eq!((place.line, place.column), (2, 29));
+    /// ```
+    pub fn place(&self, source: &[u8]) -> Option<Place> {
+        match self {
+            DocumentRefusal::Document(refusal) => refusal.place(source),
+            DocumentRefusal::Report(refusal) => refusal.place(&tokenize(source).ok()?.as_table()),
         }
     }
 }
