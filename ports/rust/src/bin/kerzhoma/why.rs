@@ -14,6 +14,7 @@ fn events<'t>(table: &Table<'t>) -> impl Iterator<Item = (u32, &'t [u8])> {
 const START: u32 = 0;
 const EMPTY: u32 = 1;
 const END: u32 = 2;
+const REFERENCE: u32 = 5;
 
 /// What is told beside the sentence of a refusal: of the document's tags, and with `values` of its values, too.
 pub fn hint(refusal: &Refusal, table: &Table<'_>, values: bool) -> Option<String> {
@@ -27,13 +28,21 @@ pub fn hint(refusal: &Refusal, table: &Table<'_>, values: bool) -> Option<String
         Cause::MissingAttribute | Cause::EofInElement | Cause::EofInSkip | Cause::XmlFault => None,
         Cause::RecordsSpent | Cause::TextFull | Cause::ScratchFull => None,
         Cause::RepeatedKey | Cause::FaultyAttribute => Some(shown(key(refusal, table)?)),
-        Cause::UnknownEntity => Some(format!("&{};", shown(refusal.bytes(table)?))),
+        Cause::BadReference | Cause::UnknownEntity if is_reference(refusal, table) => {
+            Some(format!("&{};", shown(refusal.bytes(table)?)))
+        }
         cause => {
             let bytes = refusal.bytes(table)?;
             let fault = std::str::from_utf8(bytes).ok().and_then(|value| fault(cause, value));
             Some(fault.map_or_else(|| shown(bytes), |fault| format!("{} {fault}", shown(bytes))))
         }
     }
+}
+
+// Whether it speaks of a reference between texts.
+fn is_reference(refusal: &Refusal, table: &Table<'_>) -> bool {
+    let event = refusal.event().and_then(|n| events(table).nth(n as usize));
+    refusal.attribute().is_none() && event.is_some_and(|(kind, _)| kind == REFERENCE)
 }
 
 fn key<'t>(refusal: &Refusal, table: &Table<'t>) -> Option<&'t [u8]> {
@@ -58,9 +67,18 @@ fn fault(cause: Cause, value: &str) -> Option<String> {
             if value.starts_with('-') {
                 return Some("is negative".to_owned());
             }
-            let behind = value.split_once('.')?.1;
-            (behind.len() > 9 && behind.bytes().all(|b| b.is_ascii_digit()))
-                .then(|| format!("has {} digits behind the point", behind.len()))
+            if value.contains(['e', 'E']) && value.starts_with(|c: char| c.is_ascii_digit()) {
+                return Some("has an exponent".to_owned());
+            }
+            let (whole, behind) = value.split_once('.').unwrap_or((value, ""));
+            let digits = |part: &str| part.bytes().all(|b| b.is_ascii_digit());
+            if !digits(whole) || !digits(behind) {
+                return None;
+            }
+            if behind.len() > 9 {
+                return Some(format!("has {} digits behind the point", behind.len()));
+            }
+            (!whole.is_empty()).then(|| "is too long a time".to_owned())
         }
         _ => None,
     }
