@@ -535,6 +535,222 @@ kerzhoma_built kerzhoma_set_number(
 kerzhoma_built kerzhoma_finish_report(
     kerzhoma_builder builder, uint32_t *records, size_t records_length, uint8_t *text, size_t text_length);
 
+/* ---- records ----
+ * What kerzhoma_read and the builders leave, one record after the other in document order: the report, each suite, behind it its extras,
+ * properties and cases, behind each case its extras, properties and status elements. docs/TREE.md has the whole of it.
+ *
+ *     const uint32_t *record = NULL;
+ *     while ((record = kerzhoma_next_record(records, records_length, record)) != NULL)
+ *         if (kerzhoma_kind_of(record) == KERZHOMA_RECORD_CASE) {
+ *             kerzhoma_string name = kerzhoma_name_of(record, text);
+ *             printf("%.*s\n", (int)name.length, (const char *)name.bytes);
+ *         }
+ *
+ * These functions stand in this header: they are tested, not proved. They take records and texts that hold a report
+ * (kerzhoma_is_layout), and a record of a kind that doesn't have what is asked for is told as one where it is missing. */
+
+enum kerzhoma_record_kind {
+    KERZHOMA_RECORD_REPORT = 1,
+    KERZHOMA_RECORD_SUITE = 2,          /* of the report */
+    KERZHOMA_RECORD_CASE = 3,           /* of the suite before it */
+    KERZHOMA_RECORD_SUITE_PROPERTY = 4, /* of the suite before it, perhaps behind cases */
+    KERZHOMA_RECORD_CASE_PROPERTY = 5,  /* of the case before it, as all below but a suite's extra */
+    KERZHOMA_RECORD_FAILURE = 6,        /* a main: at most one in a case, before or behind its runs */
+    KERZHOMA_RECORD_ERROR = 7,          /* a main */
+    KERZHOMA_RECORD_SKIPPED = 8,        /* a main */
+    KERZHOMA_RECORD_FLAKY_FAILURE = 9,  /* a run */
+    KERZHOMA_RECORD_FLAKY_ERROR = 10,   /* a run */
+    KERZHOMA_RECORD_RERUN_FAILURE = 11, /* a run */
+    KERZHOMA_RECORD_RERUN_ERROR = 12,   /* a run */
+    KERZHOMA_RECORD_SUITE_EXTRA = 13,   /* an attribute without a field of its own, of the suite before it */
+    KERZHOMA_RECORD_CASE_EXTRA = 14     /* the same, of the case before it */
+};
+
+/* A text in `text`: UTF-8, without a zero at its end. Where it is missing, `found` is false, `bytes` NULL and `length` 0. */
+typedef struct kerzhoma_string {
+    const uint8_t *bytes;
+    size_t length;
+    bool found;
+} kerzhoma_string;
+
+/* The next record behind this one, or the first where this is NULL; NULL where there is none. Records that were replaced are passed over. */
+static inline const uint32_t *kerzhoma_next_record(const uint32_t *records, size_t records_length, const uint32_t *record)
+{
+    size_t i = record ? (size_t)(record - records) + KERZHOMA_RECORD_WORDS : 0;
+    size_t most = (size_t)KERZHOMA_RECORD_WORDS * KERZHOMA_MOST_RECORDS;
+    size_t end = records_length < most ? records_length : most;
+
+    for (; i + KERZHOMA_RECORD_WORDS <= end && records[i] != 0; i += KERZHOMA_RECORD_WORDS)
+        if (records[i] < 16)
+            return records + i;
+    return NULL;
+}
+
+/* One of enum kerzhoma_record_kind. */
+static inline uint32_t kerzhoma_kind_of(const uint32_t *record)
+{
+    return record[0];
+}
+
+static inline bool kerzhoma_is_run(const uint32_t *record)
+{
+    return record[0] >= KERZHOMA_RECORD_FLAKY_FAILURE && record[0] <= KERZHOMA_RECORD_RERUN_ERROR;
+}
+
+static inline bool kerzhoma_is_main(const uint32_t *record)
+{
+    return record[0] >= KERZHOMA_RECORD_FAILURE && record[0] <= KERZHOMA_RECORD_SKIPPED;
+}
+
+static inline bool kerzhoma_is_pair(const uint32_t *record)
+{
+    return record[0] == KERZHOMA_RECORD_SUITE_PROPERTY || record[0] == KERZHOMA_RECORD_CASE_PROPERTY
+        || record[0] == KERZHOMA_RECORD_SUITE_EXTRA || record[0] == KERZHOMA_RECORD_CASE_EXTRA;
+}
+
+/* The text at a word and the next, where its presence bit is set and the kind of the record has it. */
+static inline kerzhoma_string kerzhoma_text_at(const uint32_t *record, const uint8_t *text, bool has, uint32_t bit, uint32_t word)
+{
+    kerzhoma_string s = {NULL, 0, false};
+
+    if (has && (record[1] >> bit & 1) != 0) {
+        s.bytes = text + record[word];
+        s.length = record[word + 1];
+        s.found = true;
+    }
+    return s;
+}
+
+/* The name of a report, suite, case or property, or the key of an extra; that of a report may be missing. */
+static inline kerzhoma_string kerzhoma_name_of(const uint32_t *record, const uint8_t *text)
+{
+    return kerzhoma_text_at(record, text, record[0] <= KERZHOMA_RECORD_CASE || kerzhoma_is_pair(record), 0, 2);
+}
+
+/* The value of a property or extra. */
+static inline kerzhoma_string kerzhoma_value_of(const uint32_t *record, const uint8_t *text)
+{
+    return kerzhoma_text_at(record, text, kerzhoma_is_pair(record), 1, 4);
+}
+
+/* Of a case. */
+static inline kerzhoma_string kerzhoma_classname_of(const uint32_t *record, const uint8_t *text)
+{
+    return kerzhoma_text_at(record, text, record[0] == KERZHOMA_RECORD_CASE, 5, 18);
+}
+
+/* Of a main or run. */
+static inline kerzhoma_string kerzhoma_message_of(const uint32_t *record, const uint8_t *text)
+{
+    return kerzhoma_text_at(record, text, kerzhoma_is_main(record) || kerzhoma_is_run(record), 0, 2);
+}
+
+/* Of a main or run. */
+static inline kerzhoma_string kerzhoma_type_of(const uint32_t *record, const uint8_t *text)
+{
+    return kerzhoma_text_at(record, text, kerzhoma_is_main(record) || kerzhoma_is_run(record), 5, 18);
+}
+
+/* Of a main or run: the text of its element. */
+static inline kerzhoma_string kerzhoma_description_of(const uint32_t *record, const uint8_t *text)
+{
+    return kerzhoma_text_at(record, text, kerzhoma_is_main(record) || kerzhoma_is_run(record), 6, 20);
+}
+
+/* Of a run. */
+static inline kerzhoma_string kerzhoma_stack_trace_of(const uint32_t *record, const uint8_t *text)
+{
+    return kerzhoma_text_at(record, text, kerzhoma_is_run(record), 7, 22);
+}
+
+/* Of a suite, case or run. */
+static inline kerzhoma_string kerzhoma_system_out_of(const uint32_t *record, const uint8_t *text)
+{
+    bool has = record[0] == KERZHOMA_RECORD_SUITE || record[0] == KERZHOMA_RECORD_CASE || kerzhoma_is_run(record);
+
+    return kerzhoma_text_at(record, text, has, 1, 4);
+}
+
+/* Of a suite, case or run. */
+static inline kerzhoma_string kerzhoma_system_err_of(const uint32_t *record, const uint8_t *text)
+{
+    bool has = record[0] == KERZHOMA_RECORD_SUITE || record[0] == KERZHOMA_RECORD_CASE || kerzhoma_is_run(record);
+
+    return kerzhoma_text_at(record, text, has, 2, 6);
+}
+
+/* Whether a report, suite, case or run has a timestamp, which is then put into `moment`. */
+static inline bool kerzhoma_timestamp_of(const uint32_t *record, kerzhoma_moment *moment)
+{
+    if ((record[1] >> 3 & 1) == 0)
+        return false;
+    moment->year = (uint16_t)record[8];
+    moment->month = (uint8_t)record[9];
+    moment->day = (uint8_t)record[10];
+    moment->hour = (uint8_t)record[11];
+    moment->minute = (uint8_t)record[12];
+    moment->second = (uint8_t)record[13];
+    moment->nanoseconds = record[14];
+    moment->offset = (uint16_t)record[15];
+    return true;
+}
+
+/* Whether a report, suite, case or run has a time, which is then put into `seconds` and `nanoseconds`. */
+static inline bool kerzhoma_time_of(const uint32_t *record, uint32_t *seconds, uint32_t *nanoseconds)
+{
+    if ((record[1] >> 4 & 1) == 0)
+        return false;
+    *seconds = record[16];
+    *nanoseconds = record[17];
+    return true;
+}
+
+static inline uint64_t kerzhoma_number_at(const uint32_t *record, uint32_t word)
+{
+    return (uint64_t)record[word] | (uint64_t)record[word + 1] << 32;
+}
+
+/* The stated counts of a report or suite; zero of any other record. */
+static inline kerzhoma_counts kerzhoma_counts_of(const uint32_t *record)
+{
+    kerzhoma_counts counts = {0, 0, 0, 0, 0, false};
+
+    if (record[0] <= KERZHOMA_RECORD_SUITE) {
+        counts.tests = kerzhoma_number_at(record, 18);
+        counts.failures = kerzhoma_number_at(record, 20);
+        counts.errors = kerzhoma_number_at(record, 22);
+        counts.skipped = kerzhoma_number_at(record, 24);
+        counts.disabled = kerzhoma_number_at(record, 26);
+        counts.has_disabled = (record[1] >> 8 & 1) != 0;
+    }
+    return counts;
+}
+
+/* Whether a case states its assertions, which are then put into `number`. */
+static inline bool kerzhoma_assertions_of(const uint32_t *record, uint64_t *number)
+{
+    if (record[0] != KERZHOMA_RECORD_CASE || (record[1] >> 6 & 1) == 0)
+        return false;
+    *number = kerzhoma_number_at(record, 20);
+    return true;
+}
+
+/* Whether a report has a UUID, which is then put into `uuid`. */
+static inline bool kerzhoma_uuid_of(const uint32_t *record, kerzhoma_uuid *uuid)
+{
+    if (record[0] != KERZHOMA_RECORD_REPORT || (record[1] >> 1 & 1) == 0)
+        return false;
+    for (int i = 0; i < 4; i++)
+        uuid->words[i] = record[4 + i];
+    return true;
+}
+
+/* Whether a failure or error without runs is one whose runs would be flaky (kerzhoma_set_rerun_kind). */
+static inline bool kerzhoma_is_flaky(const uint32_t *record)
+{
+    return (record[0] == KERZHOMA_RECORD_FAILURE || record[0] == KERZHOMA_RECORD_ERROR) && (record[1] >> 9 & 1) != 0;
+}
+
 #ifdef __cplusplus
 }
 #endif
