@@ -83,6 +83,7 @@ fn lent(areas: &Areas) -> Lent {
 }
 
 impl<'a> ReportBuilder<'a> {
+    /// A report with this name, in areas that may hold anything.
     pub fn new(areas: &'a mut Areas, name: &str) -> Result<Self, Refusal> {
         let built = sys::new_report(&mut areas.records, &mut areas.text, name.as_bytes());
         Self::begun(areas, built)
@@ -136,6 +137,7 @@ impl<'a> ReportBuilder<'a> {
         self.step(|b, records, text| sys::add_extra(b, records, text, holder, key.as_bytes(), value.as_bytes()))
     }
 
+    /// Sets the UUID by its 16 bytes, the first one first.
     pub fn set_uuid(&mut self, uuid: [u8; 16]) -> Result<&mut Self, Refusal> {
         let word = |i: usize| u32::from_be_bytes([uuid[i], uuid[i + 1], uuid[i + 2], uuid[i + 3]]);
         let words = sys::Uuid { a: word(0), b: word(4), c: word(8), d: word(12) };
@@ -143,6 +145,7 @@ impl<'a> ReportBuilder<'a> {
         Ok(self)
     }
 
+    /// Sets when the run began.
     pub fn set_timestamp(&mut self, timestamp: Timestamp) -> Result<&mut Self, Refusal> {
         self.put_timestamp(element::REPORT, timestamp)?;
         Ok(self)
@@ -154,6 +157,7 @@ impl<'a> ReportBuilder<'a> {
         Ok(self)
     }
 
+    /// Opens a suite, and closes the one before.
     pub fn add_test_suite(&mut self, name: &str) -> Result<SuiteBuilder<'_, 'a>, Refusal> {
         self.step(|b, records, text| sys::add_test_suite(b, records, text, name.as_bytes()))?;
         Ok(SuiteBuilder { report: self })
@@ -178,6 +182,7 @@ pub struct SuiteBuilder<'b, 'a> {
 }
 
 impl<'a> SuiteBuilder<'_, 'a> {
+    /// Sets when the suite began.
     pub fn set_timestamp(&mut self, timestamp: Timestamp) -> Result<&mut Self, Refusal> {
         self.report.put_timestamp(element::SUITE, timestamp)?;
         Ok(self)
@@ -195,6 +200,7 @@ impl<'a> SuiteBuilder<'_, 'a> {
         Ok(self)
     }
 
+    /// Sets what was written to standard output.
     pub fn set_system_out(&mut self, s: &str) -> Result<&mut Self, Refusal> {
         self.report.put_text(element::SUITE, field::SYSTEM_OUT, s)?;
         Ok(self)
@@ -206,6 +212,7 @@ impl<'a> SuiteBuilder<'_, 'a> {
         Ok(self)
     }
 
+    /// Sets what was written to standard error.
     pub fn set_system_err(&mut self, s: &str) -> Result<&mut Self, Refusal> {
         self.report.put_text(element::SUITE, field::SYSTEM_ERR, s)?;
         Ok(self)
@@ -229,6 +236,7 @@ impl<'a> SuiteBuilder<'_, 'a> {
         Ok(self)
     }
 
+    /// Opens a case, and counts it.
     pub fn add_test_case(&mut self, name: &str, outcome: Outcome) -> Result<CaseBuilder<'_, 'a>, Refusal> {
         self.report.step(|b, records, text| sys::add_test_case(b, records, text, name.as_bytes(), outcome as u32))?;
         Ok(CaseBuilder { report: self.report })
@@ -242,16 +250,19 @@ pub struct CaseBuilder<'b, 'a> {
 }
 
 impl<'a> CaseBuilder<'_, 'a> {
+    /// Sets the class name.
     pub fn set_classname(&mut self, classname: &str) -> Result<&mut Self, Refusal> {
         self.report.put_text(element::CASE, field::CLASSNAME, classname)?;
         Ok(self)
     }
 
+    /// Sets the number of assertions.
     pub fn set_assertions(&mut self, n: u64) -> Result<&mut Self, Refusal> {
         self.report.put_number(number::ASSERTIONS, n)?;
         Ok(self)
     }
 
+    /// Sets when the case began.
     pub fn set_timestamp(&mut self, timestamp: Timestamp) -> Result<&mut Self, Refusal> {
         self.report.put_timestamp(element::CASE, timestamp)?;
         Ok(self)
@@ -263,6 +274,7 @@ impl<'a> CaseBuilder<'_, 'a> {
         Ok(self)
     }
 
+    /// Sets what was written to standard output.
     pub fn set_system_out(&mut self, s: &str) -> Result<&mut Self, Refusal> {
         self.report.put_text(element::CASE, field::SYSTEM_OUT, s)?;
         Ok(self)
@@ -274,6 +286,7 @@ impl<'a> CaseBuilder<'_, 'a> {
         Ok(self)
     }
 
+    /// Sets what was written to standard error.
     pub fn set_system_err(&mut self, s: &str) -> Result<&mut Self, Refusal> {
         self.report.put_text(element::CASE, field::SYSTEM_ERR, s)?;
         Ok(self)
@@ -340,22 +353,27 @@ impl RunBuilder<'_, '_> {
         Ok(self)
     }
 
+    /// Sets the message of the run.
     pub fn set_message(&mut self, message: &str) -> Result<&mut Self, Refusal> {
         self.set(field::MESSAGE, message)
     }
 
+    /// Sets the type of the run.
     pub fn set_type(&mut self, ty: &str) -> Result<&mut Self, Refusal> {
         self.set(field::TYPE, ty)
     }
 
+    /// Sets the text of the run.
     pub fn set_description(&mut self, description: &str) -> Result<&mut Self, Refusal> {
         self.set(field::DESCRIPTION, description)
     }
 
+    /// Sets the stack trace of the run.
     pub fn set_stack_trace(&mut self, stack_trace: &str) -> Result<&mut Self, Refusal> {
         self.set(field::STACK_TRACE, stack_trace)
     }
 
+    /// Sets what was written to standard output.
     pub fn set_system_out(&mut self, s: &str) -> Result<&mut Self, Refusal> {
         self.set(field::SYSTEM_OUT, s)
     }
@@ -366,6 +384,7 @@ impl RunBuilder<'_, '_> {
         Ok(self)
     }
 
+    /// Sets what was written to standard error.
     pub fn set_system_err(&mut self, s: &str) -> Result<&mut Self, Refusal> {
         self.set(field::SYSTEM_ERR, s)
     }
@@ -376,6 +395,7 @@ impl RunBuilder<'_, '_> {
         Ok(self)
     }
 
+    /// Sets when the run began.
     pub fn set_timestamp(&mut self, timestamp: Timestamp) -> Result<&mut Self, Refusal> {
         self.report.put_timestamp(element::LAST, timestamp)?;
         Ok(self)

@@ -215,10 +215,15 @@ const CASES: u64 = 4_096;
 /// others just passed.
 #[derive(Clone, Copy, Debug, Default, PartialEq, Eq, Hash)]
 pub struct Order {
+    /// All cases, at most 4,096.
     pub cases: u64,
+    /// Cases that fail.
     pub failures: u64,
+    /// Cases that err.
     pub errors: u64,
+    /// Cases that are skipped.
     pub skipped: u64,
+    /// Cases that pass with one flaky failure.
     pub flaky: u64,
 }
 

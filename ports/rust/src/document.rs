@@ -20,7 +20,7 @@ pub struct XmlRefusal {
 
 impl XmlRefusal {
     // where both areas were as long as the document can need, 16 comes only where the limits are too short
-    fn above(self) -> Self {
+    pub(crate) fn above(self) -> Self {
         XmlRefusal { events: limits::EVENTS * ENTRY, attributes: limits::ATTRIBUTES * ENTRY, ..self }
     }
 

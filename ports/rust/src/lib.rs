@@ -11,6 +11,7 @@
 //!   and last start, [`explain`] a refusal in words.
 //! - A [`ReportBuilder`] makes a report from nothing, [`rehearse()`] the table of one with the numbers of an [`Order`].
 //! - [`release_sheet`] and [`print_sheet`] sum the [`Counts`] of many reports.
+//! - [`report`] has reports as owned values, with the names of the crate quick-junit, from and to XML documents.
 //!
 //! ```
 //! use kerzhoma::{list, read, Areas, TableBuf};
@@ -25,7 +26,7 @@
 //!
 //! `unsafe` stands in one module, `sys`, which has the calls and nothing else. `forbid` can't be lifted for one module, so the root
 //! denies `unsafe`, and every other module forbids it.
-#![deny(unsafe_code)]
+#![deny(missing_docs, unsafe_code)]
 #![warn(missing_debug_implementations)]
 
 mod areas;
@@ -36,8 +37,9 @@ pub mod input;
 pub mod limits;
 mod place;
 mod refusal;
+pub mod report;
 mod sheet;
-#[allow(unsafe_code)]
+#[allow(unsafe_code, clippy::too_many_arguments)]
 mod sys;
 mod table;
 mod tree;

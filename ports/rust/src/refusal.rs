@@ -1,7 +1,7 @@
 //! Why and where a call refuses.
 #![forbid(unsafe_code)]
 
-use crate::sys;
+use crate::{limits, sys};
 use std::{error, fmt};
 
 const NOWHERE: u32 = u32::MAX;
@@ -10,30 +10,55 @@ const NOWHERE: u32 = u32::MAX;
 #[derive(Clone, Copy, Debug, PartialEq, Eq, Hash)]
 #[non_exhaustive]
 pub enum Cause {
+    /// 1: the XML reader failed.
     XmlFault,
+    /// 1: the table ends in an element that is passed over.
     EofInSkip,
+    /// 2: a text isn't UTF-8.
     NotUtf8,
+    /// 3: a count isn't one.
     BadInteger,
+    /// 4: a timestamp isn't one.
     BadTimestamp,
+    /// 5: a time isn't one.
     BadTime,
+    /// 6: a UUID isn't one.
     BadUuid,
+    /// 7: an attribute isn't there.
     MissingAttribute,
+    /// 8: there is no report.
     MissingReport,
+    /// 8: the table ends in an element that is read.
     EofInElement,
+    /// 20: a case's status elements don't go together.
     StatusRule,
+    /// 21: the name of a reference in a text is unknown.
     UnknownEntity,
+    /// 9: an attribute is marked faulty.
     FaultyAttribute,
+    /// 9: a key stands twice.
     RepeatedKey,
+    /// 10: a reference is bad.
     BadReference,
+    /// 11: the table is malformed or above the limits.
     BadTable,
+    /// 12: no record is left.
     RecordsSpent,
+    /// 13: a text doesn't fit into the text area.
     TextFull,
+    /// 14: a text that is gathered doesn't fit into scratch.
     ScratchFull,
+    /// 15: the areas hold no report, or a builder's call doesn't fit there.
     NotLayout,
+    /// 16: the output doesn't fit.
     OutputFull,
+    /// 17: a count would pass its limit.
     CountLimit,
+    /// 23: more than 4,096 cases are ordered.
     TooManyCases,
+    /// 24: no report has the numbers that are ordered.
     NoSuchReport,
+    /// 11: a release sheet over more than 4,096 reports.
     TooManyReports,
 }
 
@@ -90,30 +115,46 @@ impl fmt::Display for Cause {
 #[derive(Clone, Copy, Debug, PartialEq, Eq, Hash)]
 #[non_exhaustive]
 pub enum PathElement {
+    /// The root element.
     TestSuites,
     /// Its place in the report, and once it is named the number of the event that opens it.
     TestSuite {
+        /// Its place in the report.
         index: u32,
+        /// The event that opens it.
         event: Option<u32>,
     },
     /// Its place in the suite, and once it is named the number of the event that opens it.
     TestCase {
+        /// Its place in the suite.
         index: u32,
+        /// The event that opens it.
         event: Option<u32>,
     },
+    /// A list of properties.
     Properties,
     /// Its place in the list.
     Property {
+        /// Its place in the list.
         index: u32,
     },
+    /// A `failure`.
     Failure,
+    /// An `error`.
     Error,
+    /// A `skipped`.
     Skipped,
+    /// A `flakyFailure`.
     FlakyFailure,
+    /// A `flakyError`.
     FlakyError,
+    /// A `rerunFailure`.
     RerunFailure,
+    /// A `rerunError`.
     RerunError,
+    /// A `system-out`.
     SystemOut,
+    /// A `system-err`.
     SystemErr,
     /// An attribute's name; `stackTrace` is the text of a stack trace.
     Attribute(&'static str),
@@ -276,6 +317,11 @@ impl Refusal {
         Refusal { told, cause, lent: 0 }
     }
 
+    /// A refusal where the limits themselves are too small.
+    pub(crate) fn above(cause: Cause) -> Self {
+        Refusal { lent: limits::BYTES, ..Self::late(cause) }
+    }
+
     pub(crate) fn told(&self) -> sys::Refusal {
         self.told
     }
@@ -289,6 +335,7 @@ impl Refusal {
         self.told.number
     }
 
+    /// What happened.
     pub fn cause(&self) -> Cause {
         self.cause
     }

@@ -4,7 +4,7 @@
 use crate::limits::{self, ENTRY};
 use std::{error, fmt};
 
-mod kind {
+pub(crate) mod kind {
     pub const START: u32 = 0;
     pub const EMPTY: u32 = 1;
     pub const END: u32 = 2;
@@ -24,12 +24,16 @@ mod kind {
 /// [`read`](crate::read): what is no table is refused with 11.
 #[derive(Clone, Copy, Debug, PartialEq, Eq)]
 pub struct Table<'a> {
+    /// Five words for each event.
     pub events: &'a [u32],
+    /// Five words for each attribute.
     pub attributes: &'a [u32],
+    /// The bytes that both tell of.
     pub source: &'a [u8],
 }
 
 impl<'a> Table<'a> {
+    /// The table of these three.
     pub fn new(events: &'a [u32], attributes: &'a [u32], source: &'a [u8]) -> Self {
         Table { events, attributes, source }
     }
@@ -128,12 +132,16 @@ fn word(n: usize) -> u32 {
 /// A table of events that owns its words and bytes.
 #[derive(Clone, Debug, Default, PartialEq, Eq)]
 pub struct TableBuf {
+    /// Five words for each event.
     pub events: Vec<u32>,
+    /// Five words for each attribute.
     pub attributes: Vec<u32>,
+    /// The bytes that both tell of.
     pub source: Vec<u8>,
 }
 
 impl TableBuf {
+    /// The table, borrowed.
     pub fn as_table(&self) -> Table<'_> {
         Table::new(&self.events, &self.attributes, &self.source)
     }
@@ -226,9 +234,23 @@ fn words(bytes: &[u8]) -> Vec<u32> {
 #[non_exhaustive]
 pub enum TableError {
     /// A part needs more bytes than are there.
-    CutOff { part: &'static str, needed: usize, there: usize },
+    CutOff {
+        /// Which.
+        part: &'static str,
+        /// The bytes that it needs.
+        needed: usize,
+        /// Those that are there.
+        there: usize,
+    },
     /// The header tells of more than is read; refusal 11 by the rules.
-    TooLarge { part: &'static str, number: usize, limit: usize },
+    TooLarge {
+        /// Of what.
+        part: &'static str,
+        /// How many it tells of.
+        number: usize,
+        /// How many are read at most.
+        limit: usize,
+    },
 }
 
 impl fmt::Display for TableError {
@@ -278,6 +300,7 @@ pub struct TableBuilder {
 }
 
 impl TableBuilder {
+    /// A table without events.
     pub fn new() -> Self {
         Self::default()
     }
@@ -310,6 +333,7 @@ impl TableBuilder {
         Tag { builder: self }
     }
 
+    /// The end of an element.
     pub fn end(&mut self, name: impl AsRef<[u8]>) -> &mut Self {
         self.event(kind::END, name.as_ref())
     }
@@ -354,6 +378,7 @@ impl TableBuilder {
         self.made.as_table()
     }
 
+    /// The table.
     pub fn finish(self) -> TableBuf {
         self.made
     }

@@ -6,7 +6,7 @@ use crate::table::LINE;
 use crate::{sys, Cause, Counts, FlakyOrRerun, NonSuccessKind, Refusal, Timestamp};
 use std::{iter::FusedIterator, time::Duration};
 
-mod kind {
+pub(crate) mod kind {
     pub const REPORT: u32 = 1;
     pub const SUITE: u32 = 2;
     pub const CASE: u32 = 3;
@@ -34,36 +34,40 @@ struct Store<'a> {
 
 /// One record: its 32 words.
 #[derive(Clone, Copy)]
-struct Record<'a> {
+pub(crate) struct Record<'a> {
     words: &'a [u32; RECORD],
     text: &'a str,
 }
 
 impl<'a> Record<'a> {
-    fn kind(self) -> u32 {
+    pub(crate) fn kind(self) -> u32 {
         self.words[0]
     }
 
-    fn has(self, bit: u32) -> bool {
+    pub(crate) fn words(self) -> &'a [u32; RECORD] {
+        self.words
+    }
+
+    pub(crate) fn has(self, bit: u32) -> bool {
         self.words[1] & (1 << bit) != 0
     }
 
     // The layout has the text's ends inside the text area and beside characters.
-    fn text_at(self, word: usize) -> &'a str {
+    pub(crate) fn text_at(self, word: usize) -> &'a str {
         let start = self.words[word] as usize;
         let end = start.saturating_add(self.words[word + 1] as usize);
         self.text.get(start..end).unwrap_or_default()
     }
 
-    fn text(self, bit: u32, word: usize) -> Option<&'a str> {
+    pub(crate) fn text(self, bit: u32, word: usize) -> Option<&'a str> {
         self.has(bit).then(|| self.text_at(word))
     }
 
-    fn number(self, word: usize) -> u64 {
+    pub(crate) fn number(self, word: usize) -> u64 {
         u64::from(self.words[word]) | u64::from(self.words[word + 1]) << 32
     }
 
-    fn counts(self) -> Counts {
+    pub(crate) fn counts(self) -> Counts {
         Counts {
             tests: self.number(18),
             failures: self.number(20),
@@ -73,12 +77,12 @@ impl<'a> Record<'a> {
         }
     }
 
-    fn timestamp(self) -> Option<Timestamp> {
+    pub(crate) fn timestamp(self) -> Option<Timestamp> {
         let w = self.words;
         self.has(3).then(|| Timestamp::of([w[8], w[9], w[10], w[11], w[12], w[13], w[14], w[15]]))
     }
 
-    fn time(self) -> Option<Duration> {
+    pub(crate) fn time(self) -> Option<Duration> {
         self.has(4).then(|| Duration::new(u64::from(self.words[16]), self.words[17]))
     }
 }
@@ -170,6 +174,7 @@ impl<'a> Tree<'a> {
         self.store.text
     }
 
+    /// The report's name.
     pub fn name(&self) -> Option<&'a str> {
         self.report.text(0, 2)
     }
@@ -183,10 +188,12 @@ impl<'a> Tree<'a> {
         self.report.has(1).then_some(uuid)
     }
 
+    /// When the run began.
     pub fn timestamp(&self) -> Option<Timestamp> {
         self.report.timestamp()
     }
 
+    /// How long the run took.
     pub fn time(&self) -> Option<Duration> {
         self.report.time()
     }
@@ -196,8 +203,16 @@ impl<'a> Tree<'a> {
         self.report.counts()
     }
 
+    /// The suites, in document order.
     pub fn suites(&self) -> Suites<'a> {
         Suites { store: self.store, next: self.at + 1 }
+    }
+
+    // The live records, in document order: the report, then what stands in it.
+    pub(crate) fn live(&self) -> impl Iterator<Item = Record<'a>> {
+        let (rows, _) = self.store.records.as_chunks::<RECORD>();
+        let text = self.store.text;
+        rows[self.at..].iter().filter(|r| r[0] < kind::DEAD).map(move |words| Record { words, text })
     }
 
     // The lengths of the longest listing, and of the longest written table, that this report can have.
@@ -281,6 +296,7 @@ pub struct Suite<'a> {
 }
 
 impl<'a> Suite<'a> {
+    /// The suite's name.
     pub fn name(&self) -> &'a str {
         self.record.text_at(2)
     }
@@ -290,26 +306,32 @@ impl<'a> Suite<'a> {
         self.record.counts()
     }
 
+    /// When the suite began.
     pub fn timestamp(&self) -> Option<Timestamp> {
         self.record.timestamp()
     }
 
+    /// How long the suite took.
     pub fn time(&self) -> Option<Duration> {
         self.record.time()
     }
 
+    /// What was written to standard output.
     pub fn system_out(&self) -> Option<&'a str> {
         self.record.text(1, 4)
     }
 
+    /// What was written to standard error.
     pub fn system_err(&self) -> Option<&'a str> {
         self.record.text(2, 6)
     }
 
+    /// The cases, in document order.
     pub fn cases(&self) -> Cases<'a> {
         Cases { store: self.store, next: self.at + 1 }
     }
 
+    /// The properties, in document order.
     pub fn properties(&self) -> Properties<'a> {
         Properties { store: self.store, next: self.at + 1, kind: kind::SUITE_PROPERTY, ends: ends_suite }
     }
@@ -365,34 +387,42 @@ pub struct Case<'a> {
 }
 
 impl<'a> Case<'a> {
+    /// The case's name.
     pub fn name(&self) -> &'a str {
         self.record.text_at(2)
     }
 
+    /// The class name.
     pub fn classname(&self) -> Option<&'a str> {
         self.record.text(5, 18)
     }
 
+    /// The number of assertions.
     pub fn assertions(&self) -> Option<u64> {
         self.record.has(6).then(|| self.record.number(20))
     }
 
+    /// When the case began.
     pub fn timestamp(&self) -> Option<Timestamp> {
         self.record.timestamp()
     }
 
+    /// How long the case took.
     pub fn time(&self) -> Option<Duration> {
         self.record.time()
     }
 
+    /// What was written to standard output.
     pub fn system_out(&self) -> Option<&'a str> {
         self.record.text(1, 4)
     }
 
+    /// What was written to standard error.
     pub fn system_err(&self) -> Option<&'a str> {
         self.record.text(2, 6)
     }
 
+    /// The properties, in document order.
     pub fn properties(&self) -> Properties<'a> {
         Properties { store: self.store, next: self.at + 1, kind: kind::CASE_PROPERTY, ends: ends_case }
     }
@@ -432,23 +462,40 @@ impl<'a> Case<'a> {
 #[derive(Clone)]
 pub enum Status<'a> {
     /// It passed, perhaps behind runs that didn't.
-    Success { flaky_runs: Runs<'a> },
+    Success {
+        /// Those runs.
+        flaky_runs: Runs<'a>,
+    },
     /// It didn't pass.
     NonSuccess {
+        /// Failure or error.
         kind: NonSuccessKind,
+        /// The message.
         message: Option<&'a str>,
+        /// The type.
         ty: Option<&'a str>,
+        /// The text of the element.
         description: Option<&'a str>,
+        /// The runs.
         reruns: Reruns<'a>,
     },
     /// It wasn't run.
-    Skipped { message: Option<&'a str>, ty: Option<&'a str>, description: Option<&'a str> },
+    Skipped {
+        /// The message.
+        message: Option<&'a str>,
+        /// The type.
+        ty: Option<&'a str>,
+        /// The text of the element.
+        description: Option<&'a str>,
+    },
 }
 
 /// The runs of a failure or error, and of which kind they are, also while there are none.
 #[derive(Clone)]
 pub struct Reruns<'a> {
+    /// Flaky runs or reruns.
     pub kind: FlakyOrRerun,
+    /// The runs.
     pub runs: Runs<'a>,
 }
 
@@ -487,6 +534,7 @@ pub struct Run<'a> {
 }
 
 impl<'a> Run<'a> {
+    /// Failure or error.
     pub fn kind(&self) -> NonSuccessKind {
         match self.record.kind() {
             kind::FLAKY_FAILURE | kind::RERUN_FAILURE => NonSuccessKind::Failure,
@@ -494,34 +542,42 @@ impl<'a> Run<'a> {
         }
     }
 
+    /// The message.
     pub fn message(&self) -> Option<&'a str> {
         self.record.text(0, 2)
     }
 
+    /// The type.
     pub fn ty(&self) -> Option<&'a str> {
         self.record.text(5, 18)
     }
 
+    /// The text of the element.
     pub fn description(&self) -> Option<&'a str> {
         self.record.text(6, 20)
     }
 
+    /// The stack trace.
     pub fn stack_trace(&self) -> Option<&'a str> {
         self.record.text(7, 22)
     }
 
+    /// What was written to standard output.
     pub fn system_out(&self) -> Option<&'a str> {
         self.record.text(1, 4)
     }
 
+    /// What was written to standard error.
     pub fn system_err(&self) -> Option<&'a str> {
         self.record.text(2, 6)
     }
 
+    /// When the run began.
     pub fn timestamp(&self) -> Option<Timestamp> {
         self.record.timestamp()
     }
 
+    /// How long the run took.
     pub fn time(&self) -> Option<Duration> {
         self.record.time()
     }
@@ -530,7 +586,9 @@ impl<'a> Run<'a> {
 /// A property's name and value.
 #[derive(Clone, Copy, Debug, PartialEq, Eq)]
 pub struct Property<'a> {
+    /// The name.
     pub name: &'a str,
+    /// The value.
     pub value: &'a str,
 }
 

@@ -8,23 +8,31 @@ use std::{fmt, time::Duration};
 /// What a case comes to.
 #[derive(Clone, Copy, Debug, PartialEq, Eq, Hash)]
 pub enum Outcome {
+    /// It passed.
     Success,
+    /// It failed in an expected way.
     Failure,
+    /// It failed in an unexpected way.
     Error,
+    /// It wasn't run.
     Skipped,
 }
 
 /// Whether a case or run failed in an expected way (failure) or in an unexpected way (error).
 #[derive(Clone, Copy, Debug, PartialEq, Eq, Hash)]
 pub enum NonSuccessKind {
+    /// In an expected way: `failure`, `flakyFailure` or `rerunFailure`.
     Failure,
+    /// In an unexpected way: `error`, `flakyError` or `rerunError`.
     Error,
 }
 
 /// The kind of the runs of a failure or error.
 #[derive(Clone, Copy, Debug, PartialEq, Eq, Hash)]
 pub enum FlakyOrRerun {
+    /// Runs of a case that was flaky: `flakyFailure` or `flakyError`.
     Flaky,
+    /// Runs of a case that was tried again: `rerunFailure` or `rerunError`.
     Rerun,
 }
 
@@ -44,10 +52,15 @@ pub enum FlakyOrRerun {
 /// ```
 #[derive(Clone, Copy, Debug, Default, PartialEq, Eq, Hash)]
 pub struct Counts {
+    /// All cases.
     pub tests: u64,
+    /// Those that failed.
     pub failures: u64,
+    /// Those that erred.
     pub errors: u64,
+    /// Those that were skipped.
     pub skipped: u64,
+    /// Those that are disabled by design, where that is told.
     pub disabled: Option<u64>,
 }
 
@@ -109,12 +122,17 @@ impl Counts {
 pub struct Timestamp {
     /// 0 to 9999.
     pub year: u16,
+    /// 1 to 12.
     pub month: u8,
+    /// From 1 on.
     pub day: u8,
+    /// 0 to 23.
     pub hour: u8,
+    /// 0 to 59.
     pub minute: u8,
     /// 0 to 59.
     pub second: u8,
+    /// Under a second.
     pub nanos: u32,
     /// Minutes east of UTC, -1439 to 1439.
     pub offset_minutes: i16,
@@ -175,7 +193,9 @@ impl fmt::Display for Timestamp {
 /// When a run's cases started: [`starts`](crate::starts).
 #[derive(Clone, Copy, Debug, PartialEq, Eq, Hash)]
 pub struct Starts {
+    /// The earliest.
     pub first: Timestamp,
+    /// The latest.
     pub last: Timestamp,
     /// From the first to the last.
     pub span: Duration,

@@ -399,7 +399,7 @@ fn release_sheets() {
 #[test]
 fn first_and_last_start() {
     let case =
-        |t: &mut TableBuilder, stamp: &str| drop(t.empty("testcase").attribute("name", "private").attribute("timestamp", stamp));
+        |t: &mut TableBuilder, stamp: &str| _ = t.empty("testcase").attribute("name", "private").attribute("timestamp", stamp);
     let mut t = TableBuilder::new();
     t.start("testsuites").attribute("timestamp", "2000-01-01T00:00:00Z");
     t.start("testsuite").attribute("name", "lab").attribute("timestamp", "2000-01-01T00:00:00Z");
