@@ -20,7 +20,7 @@ use Rattle.read_content.specs.Content.{wordOf, bitOf}
 use Rattle.schema.specs.Schema.{time, timestamp, uuid, Presence, always, must, may, unkept, Row, behind, report, suite, case, main, skipped, run, property, extra, tableOf}
 use Rattle.schema.specs.Records.{isSet, valueAt, fieldsAt, encode}
 use Rattle.schema.specs.Texts.{fieldsOf}
-use Rattle.schema_agree.specs.Lookups.{hasRow}
+use Rattle.schema.specs.Lookups.{hasRow}
 
 -- ---- the words within a field
 pub moment-words : (r : List ℕ) → momentOf r ≡ valueAt timestamp r word.timestamp
