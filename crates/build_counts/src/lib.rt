@@ -34,7 +34,7 @@ fn number_at(r: &[u32], o: usize) -> u64
 }
 
 // Of the record at the front of the part.
-fn counts_in(r: &[u32]) -> Counts
+pub fn counts_in(r: &[u32]) -> Counts
     ensures { λ c. ⌜ c ≡ countsIn (now (r .entry)) ⌝ }
 {
     Counts {
@@ -65,7 +65,7 @@ fn put_disabled(r: &mut [u32], presence: bool, n: u64)
 }
 
 // Into the record at the front of the part.
-fn put_counts(r: &mut [u32], c: Counts)
+pub fn put_counts(r: &mut [u32], c: Counts)
     ensures { λ _. ⌜ now (r .exit) ≡ putCounts c (now (r .entry)) ⌝ }
 {
     put_count(r, word::TESTS, c.tests);
