@@ -49,7 +49,8 @@ letter-twice : (b : ℕ) → letter (letter b) ≡ letter b
 unfolding letter
 letter-twice = by-case (λ (b : ℕ). letter (letter b) ≡ letter b) refl refl refl refl refl (λ b h e. ap letter e)
 
-plain-letter : (b : ℕ) → marked b ≡ false → letter b ≡ b
+-- an unmarked byte stands for itself
+pub plain-letter : (b : ℕ) → marked b ≡ false → letter b ≡ b
 plain-letter = by-case (λ (b : ℕ). marked b ≡ false → letter b ≡ b) never never never never never (λ b h e t. e)
   where
     never : {A : Type 0} → true ≡ false → A
@@ -83,7 +84,8 @@ listed-some b x = go (marked b)
     go true e = let z : _≡_ {A = ℕ} 0 1 = cc in omega arith
     go false e = let z : _≡_ {A = ℕ} 0 1 = cc in omega arith
 
-listed-told : (a b : ℕ) (x y : List ℕ) → listed a ++ x ≡ listed b ++ y → (a ≡ b) × (x ≡ y)
+-- what stands for a byte tells the byte, and what comes behind it
+pub listed-told : (a b : ℕ) (x y : List ℕ) → listed a ++ x ≡ listed b ++ y → (a ≡ b) × (x ≡ y)
 unfolding listed
 listed-told a b x y = go (marked a) (marked b) refl refl
   where
