@@ -74,7 +74,7 @@ pub record Listed (a : Tree) (bytes : List ℕ) : Type 0 where
 
 -- 22
 abbrev pub timeLimit : Cause
-timeLimit = cause.TooManyReports
+timeLimit = cause.TimeLimit
 
 -- ---- the claims
 pub record Merging : Type 0 where

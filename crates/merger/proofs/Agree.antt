@@ -196,21 +196,21 @@ module _ (first firstText second secondText : List ℕ) (p : layout first firstT
   unfolding mergedReport
   time-is x e = time-fits (filled s) (filled t) s (reportIn a) (reportIn b) (one .head) (two .head) (one .inside) x e
 
-  limits-are : (x : Answer (Unit {0})) → cond (counts.areCounts (sumsOf a b)) (cond (leb 8388608000000000 (nanosFor a b)) (refuses cause.TooManyReports) x) (refuses cause.CountLimit)
-      ≡ cond (answer.countsFit m) (cond (answer.timeFits m) x (refuses cause.TooManyReports)) (refuses cause.CountLimit)
+  limits-are : (x : Answer (Unit {0})) → cond (counts.areCounts (sumsOf a b)) (cond (leb 8388608000000000 (nanosFor a b)) (refuses cause.TimeLimit) x) (refuses cause.CountLimit)
+      ≡ cond (answer.countsFit m) (cond (answer.timeFits m) x (refuses cause.TimeLimit)) (refuses cause.CountLimit)
   limits-are x =
-      ap (λ (c : Bool). cond c (cond (leb 8388608000000000 (nanosFor a b)) (refuses cause.TooManyReports) x) (refuses cause.CountLimit)) counts-are
+      ap (λ (c : Bool). cond c (cond (leb 8388608000000000 (nanosFor a b)) (refuses cause.TimeLimit) x) (refuses cause.CountLimit)) counts-are
       ∙ ap (λ (y : Answer (Unit {0})). cond (answer.countsFit m) y (refuses cause.CountLimit)) (go (ltb (nanosFor a b) 8388608000000000) refl)
     where
       go : (c : Bool) → ltb (nanosFor a b) 8388608000000000 ≡ c
-          → _≡_ {A = Answer (Unit {0})} (cond (leb 8388608000000000 (nanosFor a b)) (refuses cause.TooManyReports) x) (cond (answer.timeFits m) x (refuses cause.TooManyReports))
+          → _≡_ {A = Answer (Unit {0})} (cond (leb 8388608000000000 (nanosFor a b)) (refuses cause.TimeLimit) x) (cond (answer.timeFits m) x (refuses cause.TimeLimit))
       go true e = rw (lt-leb 8388608000000000 (nanosFor a b) (ltb-true (nanosFor a b) 8388608000000000 e), time-is true e) refl
       go false e = rw (le-leb 8388608000000000 (nanosFor a b) (ltb-false (nanosFor a b) 8388608000000000 e), time-is false e) refl
 
   pub answer-same : (words bytes : ℕ) → usedAnswer a b (min words mostWords) (min bytes mostBytes) ≡ mergeAnswer first firstText second secondText words bytes
   unfolding usedAnswer mergeAnswer limited
   answer-same words bytes =
-      ap (λ (x : Answer (Unit {0})). cond (counts.areCounts (sumsOf a b)) (cond (leb 8388608000000000 (nanosFor a b)) (refuses cause.TooManyReports) x) (refuses cause.CountLimit)) (room-is words bytes)
+      ap (λ (x : Answer (Unit {0})). cond (counts.areCounts (sumsOf a b)) (cond (leb 8388608000000000 (nanosFor a b)) (refuses cause.TimeLimit) x) (refuses cause.CountLimit)) (room-is words bytes)
       ∙ limits-are (placed (mergedTree first firstText second secondText) words bytes)
-      ∙ ap (λ (o : Option Report). cond (ifAny answer.countsFit o) (cond (ifAny answer.timeFits o) (placed (mergedTree first firstText second secondText) words bytes) (refuses cause.TooManyReports)) (refuses cause.CountLimit)) (sym merged-is)
+      ∙ ap (λ (o : Option Report). cond (ifAny answer.countsFit o) (cond (ifAny answer.timeFits o) (placed (mergedTree first firstText second secondText) words bytes) (refuses cause.TimeLimit)) (refuses cause.CountLimit)) (sym merged-is)
       ∙ rw (p, q) refl

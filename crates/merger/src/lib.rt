@@ -204,7 +204,7 @@ fn merge_used(
     };
     let nanos = nanos_of(a, b);
     if 8388608000000000 <= nanos {
-        return Step::Not(Cause::TooManyReports);
+        return Step::Not(Cause::TimeLimit);
     }
     let counts = sums.counts;
     place(

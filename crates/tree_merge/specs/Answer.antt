@@ -85,7 +85,7 @@ timeFits m = ifAny isTime (m .time)
 
 -- 17, then 22 (rule J9)
 unfoldable pub limited : Option Report → Answer (Unit {0}) → Answer (Unit {0})
-limited m a = cond (ifAny countsFit m) (cond (ifAny timeFits m) a (refuses cause.TooManyReports)) (refuses cause.CountLimit)
+limited m a = cond (ifAny countsFit m) (cond (ifAny timeFits m) a (refuses cause.TimeLimit)) (refuses cause.CountLimit)
 
 -- 12, then 13: areas of so many words and bytes, of which those up to the limits are used (rule J10)
 unfoldable pub placed : Encoding → ℕ → ℕ → Answer (Unit {0})

@@ -59,7 +59,7 @@ roomFor a b words bytes = roomBy (length (belowIn a) + length (belowIn b)) (name
 
 unfoldable pub usedAnswer : (a b : List ℕ) (words bytes : ℕ) → Answer (Unit {0})
 usedAnswer a b words bytes =
-    cond (areCounts (sumsOf a b)) (cond (leb 8388608000000000 (nanosFor a b)) (refuses cause.TooManyReports) (roomFor a b words bytes)) (refuses cause.CountLimit)
+    cond (areCounts (sumsOf a b)) (cond (leb 8388608000000000 (nanosFor a b)) (refuses cause.TimeLimit) (roomFor a b words bytes)) (refuses cause.CountLimit)
 
 -- ---- what the code needs to know of the trees
 pub record Sized (a s b t : List ℕ) : Type 0 where
