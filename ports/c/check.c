@@ -711,6 +711,42 @@ static void first_and_last(void)
     expect(kerzhoma_starts(NULL, 0, NULL, 0).refusal.number == KERZHOMA_REFUSED_LAYOUT, "starts of no areas");
 }
 
+/* ---- two halves of a run ---- */
+
+/* a report with a suite: the first's name and time, the second's count; both areas as long as that takes */
+static void merging(void)
+{
+    static const char listing[] = "(report \"r\" 3 0 0 0 -\n(suite \"s\" 0 0 0 0 -)\n(suite \"t\" 0 0 0 0 -))\n";
+    uint32_t first[64] = { 1, 17, 0, 1 }, second[64] = { 1 }, *records;
+    uint8_t *text, *out;
+    first[16] = 5, first[18] = 1, second[18] = 2;
+    first[32] = second[32] = 2, first[33] = second[33] = 1, first[34] = 1, first[35] = second[35] = 1;
+    for (size_t n = 94; n <= 100; n++)
+        for (size_t m = 0; m <= 5; m++) {
+            records = room(4 * n), text = room(m), out = room(200);
+            kerzhoma_refusal r = kerzhoma_merge(first, 64, BYTES("rs"), second, 64, BYTES("t"), records, n, text, m);
+            expect(r.number == (n < 96 ? KERZHOMA_REFUSED_RECORDS : m < 3 ? KERZHOMA_REFUSED_TEXT : 0), "room for two reports as one");
+            expect(r.depth == 0 && r.event == KERZHOMA_NONE && r.attribute == KERZHOMA_NONE, "no place");
+            if (r.number != 0) {
+                expect(zero(records, 4 * n) && zero(text, m), "merging that is refused leaves zeros");
+            } else {
+                kerzhoma_listing l = kerzhoma_list(records, n, text, m, out, 200);
+                expect(l.length == strlen(listing) && memcmp(out, listing, l.length) == 0, "what was merged is listed");
+                expect(memcmp(text, "rst", 3) == 0 && zero(text + 3, m - 3) && zero(records + 96, 4 * (n - 96)), "zeros behind it");
+                expect(records[16] == 5 && records[1] == 17, "the only time");
+            }
+            free(records), free(text), free(out);
+        }
+    first[16] = second[16] = 4194304, second[1] = 16;
+    kerzhoma_refusal r = kerzhoma_merge(first, 64, BYTES("rs"), second, 64, BYTES("t"), NULL, 0, NULL, 0);
+    expect(r.number == KERZHOMA_REFUSED_SUM && r.cause == KERZHOMA_CAUSE_TIME_LIMIT, "the summed time");
+    first[18] = first[19] = UINT32_MAX;
+    r = kerzhoma_merge(first, 64, BYTES("rs"), second, 64, BYTES("t"), NULL, 0, NULL, 0);
+    expect(r.number == KERZHOMA_REFUSED_COUNT, "the summed counts come first");
+    r = kerzhoma_merge(first, 64, BYTES("rs"), NULL, 0, NULL, 0, NULL, 0, NULL, 0);
+    expect(r.number == KERZHOMA_REFUSED_LAYOUT, "no second report");
+}
+
 /* ---- documents ---- */
 
 static const char document[] =
@@ -804,6 +840,7 @@ int main(int argc, char **argv)
         once();
         orders();
         first_and_last();
+    merging();
         documents();
     } else {
         fprintf(stderr, "usage: check | check tell | check rooms FILE..\n");

@@ -93,6 +93,7 @@ enum kerzhoma_refused {
     KERZHOMA_REFUSED_DOCTYPE = 19,   /* a document type declaration */
     KERZHOMA_REFUSED_STATUS = 20,    /* a case's status elements don't go together */
     KERZHOMA_REFUSED_NAME = 21,      /* the name of a Ref in gathered text is unknown */
+    KERZHOMA_REFUSED_SUM = 22,       /* the times of two reports together reach 8388608 seconds */
     KERZHOMA_REFUSED_CASES = 23,     /* more than 4,096 cases are ordered */
     KERZHOMA_REFUSED_ORDER = 24      /* failures, errors, skipped and flaky together exceed the cases that are ordered */
 };
@@ -122,7 +123,8 @@ enum kerzhoma_cause {
     KERZHOMA_CAUSE_COUNT_LIMIT = 22,      /* 17 */
     KERZHOMA_CAUSE_TOO_MANY_CASES = 23,   /* 23 */
     KERZHOMA_CAUSE_NO_SUCH_REPORT = 24,   /* 24 */
-    KERZHOMA_CAUSE_TOO_MANY_REPORTS = 25  /* 11 */
+    KERZHOMA_CAUSE_TOO_MANY_REPORTS = 25, /* 11 */
+    KERZHOMA_CAUSE_TIME_LIMIT = 26        /* 22 */
 };
 
 /* Kinds of path elements. Index and event are KERZHOMA_NONE but where a comment says otherwise. */
@@ -335,6 +337,22 @@ typedef struct kerzhoma_started {
 kerzhoma_started kerzhoma_starts(
     const uint32_t *records, size_t records_length,
     const uint8_t *text, size_t text_length);
+
+/* ---- two halves of a run ---- */
+
+/* Puts two reports as one at the front of `records` and `text`, and zeros behind it: first the suites of one, then of the other, without
+ * records that were replaced. The name is the first's; counts and times are added, and a count of disabled tests or a time is missing where
+ * both are; the timestamp is the earlier one, the first's at the same instant, the only one if one is missing; there is no UUID. Refuses
+ * with 15 where the first or the second areas hold no report, then 17, 22, 12 and 13; `records` and `text` are zero then. Enough are a
+ * record for the report and one for each of the others' live records below the report, and a byte for each byte of their texts and the
+ * first's name, where each text counts though texts may share bytes. */
+kerzhoma_refusal kerzhoma_merge(
+    const uint32_t *first, size_t first_length,
+    const uint8_t *first_text, size_t first_text_length,
+    const uint32_t *second, size_t second_length,
+    const uint8_t *second_text, size_t second_text_length,
+    uint32_t *records, size_t records_length,
+    uint8_t *text, size_t text_length);
 
 /* ---- counts ---- */
 

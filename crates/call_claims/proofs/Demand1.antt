@@ -29,6 +29,7 @@ use Rattle.call_claims.proofs.LateCalls.{Within, ends, ends-leaving, wi
 use Rattle.call_claims.proofs.ListCalls.{list-ends, write-xml-ends, explain-ends, explain-xml-ends, time-text-ends, once-ends}
 use Rattle.call_claims.proofs.SheetCalls.{release-ends, print-ends}
 use Rattle.call_claims.proofs.XmlCall.{document-ends, table-ends}
+use Rattle.call_claims.proofs.MergeCall.{merge-ends}
 use Rattle.call_claims.proofs.BuilderCalls.{unnamed-ends, new-ends, builder-calls}
 use Rattle.call_claims.proofs.CodedCalls.{within-coded, coded-calls}
 
@@ -101,6 +102,7 @@ demand-1 =
       explainXml = explain-xml-ends;
       timeText = time-text-ends;
       starts = starts-end;
+      merge = merge-ends;
       addSuiteCounts = counts-end;
       addCaseCounts = λ c s. counts-end c (caseCounts s);
       addCodedCase = coded-case-ends;

@@ -8,6 +8,7 @@ pub mod ReadCall
 pub mod ListCalls
 pub mod SheetCalls
 pub mod XmlCall
+pub mod MergeCall
 pub mod Demand1
 pub mod Limits
 mod Examples

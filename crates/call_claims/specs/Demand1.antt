@@ -34,6 +34,8 @@
 --       layout (crate tree_report: Layout); none
 --   kerzhoma_starts: starts::starts
 --       startsOf, givenOf (crate starts: Starts, Answer); 15
+--   kerzhoma_merge: merger::merge
+--       merged, recordsLeft, textLeft (crate tree_merge: Answer); 12, 13, 15, 17, 22
 --   kerzhoma_add_case: tree_counts::Counts::add_test_case
 --       withCase, kept (crate tree_counts: Counts); 17, and 15 for a bad code
 --   kerzhoma_add_suite: tree_counts::Counts::add_test_suite
@@ -76,8 +78,8 @@
 --       finish; 15, 17
 -- The answer is the outcome as a struct, with `refusalFrom` (crate refusal: Refusal) of what a refusal carries: answerOf (crate reader: Answer),
 -- listingFrom (lister), writingFrom (writer, and of rehearsal), documentFrom (xml_writer), explainedFrom (explain), countedFrom (tree_counts: Counts),
--- releasedFrom (sheet_sums: Sheet), printedFrom (sheet_text: Printed), startedFrom (starts: Answer), builtFrom (build_draft: Draft); and for C a struct of
--- numbers (crates port_refusal, port_values, port_c: portOutcome, builtPort and their like). Tokenizing alone has no such struct: its refusal is a number,
+-- releasedFrom (sheet_sums: Sheet), printedFrom (sheet_text: Printed), startedFrom (starts: Answer), mergingFrom (merger: Answer), builtFrom (build_draft: Draft); and for C
+-- a struct of numbers (crates port_refusal, port_values, port_c: portOutcome, builtPort and their like). Tokenizing alone has no such struct: its refusal is a number,
 -- 18 and 19 among them, and a byte (result, crate xml_state: Answer). `explain_xml` and `write_time` say only that a text doesn't fit; behind `write_time`
 -- the call from C clears the area. All areas but the output area are zero behind `read_and_list`, `public_listing` and `list_xml`, whatever they come to.
 -- The programs (crates list_printing, write_printing, document_printing: Printed) print what these calls come to, or `(refused)`.
@@ -124,6 +126,7 @@ use Rattle.public_claims.specs.PublicListing.{refusedText}
 use Rattle.public_claims.specs.Once.{Once, once}
 use Rattle.starts.specs.Starts.{notFound, startsOf}
 use Rattle.starts.specs.Answer.{givenOf}
+use Rattle.tree_merge.specs.Answer as merging
 use Rattle.build_draft.specs.declared.Element.{Element}
 use Rattle.build_draft.specs.declared.Holder.{Holder}
 use Rattle.build_draft.specs.declared.TextField.{TextField}
@@ -229,6 +232,10 @@ pub record OrderZero (o : Order) (n m k : ℕ) : Type 0 where
   pub events : eventsOrdered o n m k ≡ zeros n
   pub attributes : attributesOrdered o n m k ≡ zeros m
   pub bytes : bytesOrdered o n m k ≡ zeros k
+
+pub record MergeZero (first firstText second secondText : List ℕ) (n m : ℕ) : Type 0 where
+  pub records : merging.recordsLeft first firstText second secondText n m ≡ zeros n
+  pub text : merging.textLeft first firstText second secondText n m ≡ zeros m
 
 pub record BuildZero (n m : ℕ) (o : Outcome Draft) : Type 0 where
   pub words : wordsLeft n o ≡ zeros n
@@ -354,6 +361,9 @@ pub record Demand1 : Type 0 where
       (outcomeOf (placing cause.OutputFull (length out) (writtenTime seconds nanos)))
   -- The first and last start: 15; all that is answered beside the refusal is zero then.
   pub starts : (words text : List ℕ) → Ends (Late (15 ∷ [])) (givenOf (startsOf words text) ≡ notFound) (startsOf words text)
+  -- Two trees merged into a third: 12, 13, 15, 17 and 22; both areas of the third are zero then.
+  pub merge : (first firstText second secondText : List ℕ) (words bytes : ℕ)
+      → Ends (Late (12 ∷ 13 ∷ 15 ∷ 17 ∷ 22 ∷ [])) (MergeZero first firstText second secondText words bytes) (merging.merged first firstText second secondText words bytes)
   -- Counts: 17; the counts that come back are those that went in.
   pub addSuiteCounts : (c s : Counts) → Ends (Late (17 ∷ [])) (kept c (withSuite c s) ≡ c) (withSuite c s)
   pub addCaseCounts : (c : Counts) (s : Status) → Ends (Late (17 ∷ [])) (kept c (withCase c s) ≡ c) (withCase c s)

@@ -16,7 +16,7 @@ use Rattle.schema.specs.Texts.{recordAt}
 use Rattle.starts.specs.Starts.{nanosTo}
 use Rattle.utf8.specs.Utf8.{need, low, high}
 use Rattle.tree_status.specs.Status.{ruled}
-use Rattle.tree_report.specs.Layout.{goodText, goodReport, goodSuite, goodRecord, mayEnd, mayFollow, following, goodOrder, recordsFrom, recordsOf, layout}
+use Rattle.tree_report.specs.Layout.{goodText, goodRecord, mayEnd, mayFollow, following, goodOrder, recordsFrom, recordsOf, layout}
 use Rattle.tree_report.specs.ReportOf.{reportOf}
 use Rattle.tree_merge.specs.Merged.{eitherBy, earlier, mergedReport}
 use Rattle.tree_merge.specs.Moved.{textsOf, movedTo}
@@ -68,7 +68,7 @@ cases =
 
 answers : map (λ (c : Case). answerOf (c .0) (c .1) (c .2)) cases ≡ map (λ (c : Case). c .3) cases
 unfolding mergeAnswer limited placed mergedOf mergedTree mergedReport textsOf movedTo recordAt encode reportOf layout recordsOf recordsFrom
-    goodText need low high goodRecord goodReport goodSuite good goodOrder mayFollow following mayEnd ruled
+    goodText need low high goodRecord good goodOrder mayFollow following mayEnd ruled
 answers = refl
 
 -- ---- what is left: two trees, the room, the areas
@@ -94,7 +94,7 @@ areas =
 
 lefts : map (λ (c : Areas). left (c .0) (c .1) (c .2)) areas ≡ map (λ (c : Areas). c .3) areas
 unfolding recordsLeft textLeft mergeAnswer limited placed mergedOf mergedTree mergedReport textsOf movedTo recordAt encode reportOf layout recordsOf recordsFrom
-    goodText need low high goodRecord goodReport goodSuite good goodOrder mayFollow following mayEnd ruled
+    goodText need low high goodRecord good goodOrder mayFollow following mayEnd ruled
 lefts = refl
 
 -- ---- timestamps: 10:00+01:00 and 09:00Z are one instant

@@ -23,7 +23,7 @@ use Rattle.starts.specs.Starts.{isEarlier}
 use Rattle.tree_counts.specs.Counts.{isCount}
 use Rattle.tree_report.specs.Report.{Duration, TestSuite, Report}
 use Rattle.tree_report.specs.Fields.{kindOf, isReport}
-use Rattle.tree_report.specs.Layout.{goodRecord, goodReport}
+use Rattle.tree_report.specs.Layout.{goodRecord}
 use Rattle.tree_report.proofs.EncodeLists.{both, and-left, and-right}
 use Rattle.tree_merge.specs.Moved.{isText}
 use Rattle.tree_merge.specs.Merged.{eitherBy, nanosIn, addedTime, earlier, mergedReport}
@@ -183,7 +183,7 @@ module _ (m : Report) (s : sound report (reportFields m) ≡ true) (u : List ℕ
   head-shown y = record-back report refl 1 0 (reportFields m) s u (h .before) (h .after) (h .whole, h .start, h .clean .0) y
 
   head-good : goodRecord u head ≡ true
-  unfolding goodRecord goodReport recordAt encode
+  unfolding goodRecord recordAt encode
   head-good = good-table
 
   pub head-held : Held u head

@@ -11,11 +11,11 @@ use Rattle.schema.specs.Report.{Text}
 use Rattle.schema.specs.Schema.{Row, suite, case, main, skipped, run, tableOf}
 use Rattle.schema.specs.Records.{Fields, bitsIn, goodFrom, good}
 use Rattle.schema.specs.Texts.{fieldsOf}
-use Rattle.schema_agree.proofs.ByKind.{table-good}
 use Rattle.tree_report.specs.Fields.{kindOf, isMain, isRun}
 use Rattle.tree_report.specs.Layout.{allGood}
 use Rattle.tree_report.proofs.EncodeAreas.{Whole}
 use Rattle.tree_report.proofs.EncodeLists.{both, and-left, and-right, Each, done, more}
+use Rattle.tree_merge.proofs.Records.{table-good}
 use Rattle.tree_merge.specs.Moved.{textsOf, movedTo, textsIn, movedFrom}
 use Rattle.merge_claims.specs.inside.Pairs.{Pairs, ended, next}
 use Rattle.merge_claims.specs.inside.Alike.{Alike}

@@ -1,25 +1,23 @@
 -- A text that is good in one text area stands in another. Assumes nothing.
 use Prim.Native.Nat.{ℕ, _+_, _-_, _≤_, min}
-use mathlib.Core.Path.{_≡_, sym, ap, _∙_}
+use mathlib.Core.Path.{_≡_, refl, sym, ap, _∙_}
 use mathlib.Core.Bool.{Bool, true, _&&_}
-use mathlib.Core.List.{List, [], _∷_, _++_, append-assoc, append-nil}
+use mathlib.Core.List.{List, _++_, append-assoc}
 use native.Mathlib.Omega.{arith}
-use borrow.Author.Tests.{leb-true}
+use borrow.Author.Tests.{leb-true, le-leb}
 use lib.Dec.{leb}
 use lib.ListN.{length, take, drop, length-append, length-take, length-drop, take-append-drop}
-use lib.Seq.{take-append-le, drop-append-le}
+use lib.Seq.{take-append-le, drop-append-le, take-at, drop-append-seam}
 use Rattle.utf8.specs.Utf8.{utf8}
 use Rattle.utf8.specs.Characters.{boundary}
-use Rattle.utf8.proofs.Boundaries.{utf8-part}
+use Rattle.utf8.proofs.Boundaries.{utf8-part, boundary-append}
 use Rattle.utf8.proofs.Rules.{utf8-append}
 use Rattle.text_filter.specs.Filter.{unfiltered}
 use Rattle.text_filter.proofs.Filtering.{unfiltered-append}
 use Rattle.schema.specs.Schema.{text}
 use Rattle.schema.specs.Records.{Span, goodValue}
 use Rattle.schema.specs.Texts.{readValue}
-use Rattle.tree_report.specs.Encode.{written}
-use Rattle.tree_report.proofs.EncodeLists.{both, and-left, and-right, done, more}
-use Rattle.tree_report.proofs.EncodeText.{Standing, text-read, text-good}
+use Rattle.tree_report.proofs.EncodeLists.{both, and-left, and-right}
 use Rattle.merge_claims.specs.inside.Stands.{Clean, Stands}
 
 -- ---- clean texts
@@ -90,21 +88,27 @@ module _ {texts : List ℕ} {fill : ℕ} (s u : List ℕ) (h : Stands texts fill
     clean = h .clean;
   }
 
+-- a text between others: it is read back, and its ends are no middle of a character
+module _ (b t u : List ℕ) where
+  text-between : (z : List ℕ) → take (length t) (drop (length b) ((b ++ (t ++ u)) ++ z)) ≡ t
+  text-between z = rw (append-assoc b (t ++ u) z, append-assoc t u z, drop-append-seam b (t ++ (u ++ z))) (take-at t (u ++ z) (length t) refl)
+
+  good-between : utf8 t ≡ true → utf8 u ≡ true
+      → (leb (length b + length t) (length (b ++ (t ++ u))) && (boundary (b ++ (t ++ u)) (length b) && boundary (b ++ (t ++ u)) (length b + length t))) ≡ true
+  good-between h k =
+      let n : length (b ++ (t ++ u)) ≡ length b + (length t + length u) = length-append b (t ++ u) ∙ ap (λ (n : ℕ). length b + n) (length-append t u) in
+      let m : length (b ++ t) ≡ length b + length t = length-append b t in
+      both (le-leb (length b + length t) (length (b ++ (t ++ u))) (omega arith))
+      (both (boundary-append b (t ++ u) (utf8-append t u h ∙ k))
+      (ap (λ (l : List ℕ). boundary l (length b + length t)) (sym (append-assoc b t u)) ∙ ap (boundary ((b ++ t) ++ u)) (sym m) ∙ boundary-append (b ++ t) u k))
+
 -- a text that stands there is read back, and is good
 module _ {texts : List ℕ} {fill : ℕ} (s : List ℕ) (c : Clean s) (h : Stands texts fill s) where
   abbrev place : Span
   place = record { start = fill; size = length s }
 
-  standing : Standing texts fill (written s ∷ written (h .after) ∷ [])
-  standing = record {
-    before = h .before;
-    whole = h .whole ∙ ap (λ (l : List ℕ). h .before ++ (s ++ l)) (sym (append-nil (h .after)));
-    start = h .start;
-    sound = more c (more (h .clean) done);
-  }
-
   pub stands-good : goodValue texts text place ≡ true
-  stands-good = text-good standing
+  stands-good = rw (h .whole, ← (h .start)) (good-between (h .before) s (h .after) (c .0) (h .clean .0))
 
   pub stands-read : (z : List ℕ) → readValue (texts ++ z) text place ≡ s
-  stands-read z = text-read standing z
+  stands-read z = rw (h .whole, ← (h .start)) (text-between (h .before) s (h .after) z)

@@ -32,7 +32,8 @@ use Rattle.tree_counts.specs.declared.Counts.{Counts}
 use Rattle.tree_counts.specs.Counts.{isCount, disabledOf, added, areCounts}
 use Rattle.build_draft.specs.Parts.{countsIn, putCounts}
 use Rattle.tree_report.specs.Fields.{momentOf}
-use Rattle.tree_report.specs.Layout.{goodTextAt, textSlot, momentSlot, timeSlot, goodCommon, zeroAt}
+use Rattle.tree_report.specs.Layout.{zeroAt}
+use Rattle.tree_report.specs.inside.Parts.{goodTextAt, textSlot, momentSlot, timeSlot, goodCommon}
 use Rattle.tree_merge.specs.Merged.{eitherBy, nanosIn as nanosOf, addedTime, earlier}
 use Rattle.tree_merge.specs.Answer.{ifAny, isTime}
 use Rattle.merge_head.specs.inside.Head.{nanosIn, nameSize, putName, isEarlier, isSecond, putStamp, putStart, putTotal, headOf}

@@ -35,7 +35,7 @@ length-back : (m : ℕ) (texts : List ℕ) (fill : ℕ) (r s : List ℕ) → len
 unfolding backMoved
 length-back m texts fill r s = length-start _ 7 22 r _ _ ∙ length-start _ 6 20 r _ _ ∙ length-start _ 5 18 r fill s
 
-length-moved : (texts : List ℕ) (fill : ℕ) (r : List ℕ) → length (rowMoved texts fill r) ≡ length r
+pub length-moved : (texts : List ℕ) (fill : ℕ) (r : List ℕ) → length (rowMoved texts fill r) ≡ length r
 unfolding rowMoved
 length-moved texts fill r = length-back _ texts _ r _ ∙ length-front _ texts fill r r
 

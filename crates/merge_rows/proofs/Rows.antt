@@ -11,11 +11,11 @@ use lib.ListN.{length, getD, set, length-append}
 use Rattle.schema.specs.Schema.{Row, report, suite, case, main, skipped, run, property, extra, tableOf}
 use Rattle.schema.specs.Records.{isSet, bitsIn, goodFrom, good}
 use Rattle.schema.proofs.Tests.{and-left, and-right}
-use Rattle.schema_agree.proofs.ByKind.{table-good}
 use Rattle.tree_record.specs.Record as words
 use Rattle.tree_record.specs.Record.{kindOf, live, hasBit}
 use Rattle.tree_report.specs.Fields.{isReport}
 use Rattle.tree_report.specs.Layout.{goodRecord}
+use Rattle.tree_merge.proofs.Records.{table-good}
 use Rattle.tree_merge.specs.Answer.{isBelow}
 use Rattle.tree_merge.specs.Moved.{textsOf, movedTo}
 use Rattle.merge_rows.specs.inside.Slots.{textBits, textAt, sizeAt, startAt, frontTexts, backTexts, frontMoved, backMoved, rowTexts, rowMoved, sizesOf}

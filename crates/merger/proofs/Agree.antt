@@ -102,7 +102,9 @@ module _ (first firstText second secondText : List ℕ) (p : layout first firstT
   -- ---- the texts
   name-is : nameText s (reportIn a) ≡ storedIn report (named.reportFields m)
   unfolding nameText mergedReport
-  name-is = sym (name-alone _ _ _ _ (hasBit 0 (reportIn a)) (textAt s (reportIn a) 2) _ _ _)
+  name-is =
+      sym (name-alone (m .counts .tests) (m .counts .failures) (m .counts .errors) (m .counts .skipped) (hasBit 0 (reportIn a)) (textAt s (reportIn a) 2)
+      (m .timestamp) (m .time) (m .counts .disabled))
 
   first-texts : textsFor s (belowIn a) ≡ textsIn s (belowReport first)
   first-texts = ap (textsFor s) (below-same first firstText) ∙ good-texts (filled s) s (recordsOf first) (one .good)

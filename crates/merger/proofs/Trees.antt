@@ -15,7 +15,8 @@ use Rattle.list_sums.proofs.Used.{records-used}
 use Rattle.tree_record.specs.Record.{hasBit, live}
 use Rattle.tree_report.specs.Report.{Report, TestSuite}
 use Rattle.tree_report.specs.Fields.{isReport, isSuite, isCase, isSuiteExtra, isCaseExtra, isSuiteProperty, isCaseProperty}
-use Rattle.tree_report.specs.Layout.{usedWords, usedText, filled, goodText, goodReport, goodCommon, goodCounts, onlyBits, reportBits, slot, zeroAt, goodRecord, allGood, allZero}
+use Rattle.tree_report.specs.Layout.{usedWords, usedText, filled, goodText, zeroAt, goodRecord, allGood, allZero}
+use Rattle.tree_report.specs.inside.Parts.{goodReport, goodCommon, goodCounts, onlyBits, reportBits, slot}
 use Rattle.tree_report.specs.Layout.{nothing, mayFollow, following, goodOrder, recordsOf, layout}
 use Rattle.tree_report.specs.ReportOf.{only, branches, suiteOf, reportFrom, reportOf}
 use Rattle.tree_report.proofs.ByTable.{report-good}
@@ -52,28 +53,28 @@ is-report r h = go (isReport r) (isSuite r) (isCase r) (isSuiteExtra r) (isCaseE
     go false false false false false false true h = absurd (false≢true h)
     go false false false false false false false h = absurd (false≢true h)
 
-record First (g : List ℕ) (rs : List (List ℕ)) : Type 0 where
-  good : goodRecord g (firstOf (only live rs)) ≡ true
-  alive : live (firstOf (only live rs)) ≡ true
-  kind : isReport (firstOf (only live rs)) ≡ true
-  split : only live rs ≡ firstOf (only live rs) ∷ restOf (only live rs)
+-- of live records, the first is a good report's
+record First (g : List ℕ) (ls : List (List ℕ)) : Type 0 where
+  good : goodRecord g (firstOf ls) ≡ true
+  alive : live (firstOf ls) ≡ true
+  kind : isReport (firstOf ls) ≡ true
+  split : ls ≡ firstOf ls ∷ restOf ls
 
-first-live : (g : List ℕ) (rs : List (List ℕ)) → allGood g rs ≡ true → goodOrder nothing rs ≡ true → First g rs
+first-live : (g : List ℕ) (rs : List (List ℕ)) → allGood g rs ≡ true → goodOrder nothing rs ≡ true → First g (only live rs)
 first-live g [] a o = absurd (false≢true (sym order-none ∙ o))
 first-live g (r ∷ rs) a o =
     let rest = and-right (goodRecord g r) (allGood g rs) a in
     go (live r) refl (sym (order-next r rs) ∙ o) (λ (q : goodOrder nothing rs ≡ true). first-live g rs rest q)
   where
     go : (t : Bool) → live r ≡ t → cond t (mayFollow nothing r && goodOrder (following nothing r) rs) (goodOrder nothing rs) ≡ true
-        → (goodOrder nothing rs ≡ true → First g rs) → First g (r ∷ rs)
-    go true e h k =
-        rw e (record {
-          good = and-left (goodRecord g r) (allGood g rs) a;
-          alive = e;
-          kind = is-report r (and-left (mayFollow nothing r) (goodOrder (following nothing r) rs) h);
-          split = refl;
-        })
-    go false e h k = let f = k h in rw e (record { good = f .good; alive = f .alive; kind = f .kind; split = f .split })
+        → (goodOrder nothing rs ≡ true → First g (only live rs)) → First g (cond t (r ∷ only live rs) (only live rs))
+    go true e h k = record {
+      good = and-left (goodRecord g r) (allGood g rs) a;
+      alive = e;
+      kind = is-report r (and-left (mayFollow nothing r) (goodOrder (following nothing r) rs) h);
+      split = refl;
+    }
+    go false e h k = k h
 
 -- ---- its fields are good
 report-record : (g r : List ℕ) → live r ≡ true → isReport r ≡ true → goodRecord g r ≡ true → goodReport g r ≡ true

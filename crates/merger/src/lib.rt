@@ -34,7 +34,7 @@ ghost use Rattle.area.specs.Limits.{mostWords, mostBytes};
 ghost use Rattle.refusal.specs.Refusal.{refused, late};
 ghost use Rattle.schema.specs.Stores.{splice};
 ghost use Rattle.tree_report.specs.Layout.{layout};
-ghost use Rattle.tree_merge.specs.Answer.{mergeAnswer, outcomeOf, merged, leftFor, recordsLeft, textLeft};
+ghost use Rattle.tree_merge.specs.Answer.{mergeAnswer, outcomeOf, merged, recordsLeft, textLeft};
 ghost use Rattle.merge_records.specs.inside.Copied.{belowIn, sizesIn};
 ghost use Rattle.merge_head.specs.inside.Head.{headOf};
 ghost use Rattle.merger.specs.Answer.{mergingFrom};
@@ -157,9 +157,9 @@ fn place(
     requires { ⌜ (nanos < 8388608000000000) × (counts ≡ whole.sumsOf (now first) (now second)) × (nanos ≡ whole.nanosFor (now first) (now second))
         × whole.Sized (now first) (now «first_text») (now second) (now «second_text») × whole.Zero (now records) (now text) ⌝ }
     ensures { λ r. ⌜ whole.stepAnswer r ≡ whole.roomFor (now (first .entry)) (now (second .entry)) (length (now (records .entry))) (length (now (text .entry))) ⌝ }
-    ensures { λ r. ⌜ now (records .exit) ≡ leftFor (whole.roomFor (now (first .entry)) (now (second .entry)) (length (now (records .entry))) (length (now (text .entry)))) (length (now (records .entry)))
+    ensures { λ r. ⌜ now (records .exit) ≡ whole.leftBy (whole.roomFor (now (first .entry)) (now (second .entry)) (length (now (records .entry))) (length (now (text .entry)))) (length (now (records .entry)))
         (whole.treeWords (now (first .entry)) (now («first_text» .entry)) (now (second .entry)) (now («second_text» .entry))) ⌝ }
-    ensures { λ r. ⌜ now (text .exit) ≡ leftFor (whole.roomFor (now (first .entry)) (now (second .entry)) (length (now (records .entry))) (length (now (text .entry)))) (length (now (text .entry)))
+    ensures { λ r. ⌜ now (text .exit) ≡ whole.leftBy (whole.roomFor (now (first .entry)) (now (second .entry)) (length (now (records .entry))) (length (now (text .entry)))) (length (now (text .entry)))
         (whole.treeTexts (now (first .entry)) (now («first_text» .entry)) (now (second .entry)) (now («second_text» .entry))) ⌝ }
 {
     let room = room_for(first, second, records.len(), text.len());
@@ -190,9 +190,9 @@ fn merge_used(
 ) -> Step
     requires { ⌜ whole.Sized (now first) (now «first_text») (now second) (now «second_text») × whole.Zero (now records) (now text) ⌝ }
     ensures { λ r. ⌜ whole.stepAnswer r ≡ whole.usedAnswer (now (first .entry)) (now (second .entry)) (length (now (records .entry))) (length (now (text .entry))) ⌝ }
-    ensures { λ r. ⌜ now (records .exit) ≡ leftFor (whole.usedAnswer (now (first .entry)) (now (second .entry)) (length (now (records .entry))) (length (now (text .entry)))) (length (now (records .entry)))
+    ensures { λ r. ⌜ now (records .exit) ≡ whole.leftBy (whole.usedAnswer (now (first .entry)) (now (second .entry)) (length (now (records .entry))) (length (now (text .entry)))) (length (now (records .entry)))
         (whole.treeWords (now (first .entry)) (now («first_text» .entry)) (now (second .entry)) (now («second_text» .entry))) ⌝ }
-    ensures { λ r. ⌜ now (text .exit) ≡ leftFor (whole.usedAnswer (now (first .entry)) (now (second .entry)) (length (now (records .entry))) (length (now (text .entry)))) (length (now (text .entry)))
+    ensures { λ r. ⌜ now (text .exit) ≡ whole.leftBy (whole.usedAnswer (now (first .entry)) (now (second .entry)) (length (now (records .entry))) (length (now (text .entry)))) (length (now (text .entry)))
         (whole.treeTexts (now (first .entry)) (now («first_text» .entry)) (now (second .entry)) (now («second_text» .entry))) ⌝ }
 {
     let a = report_in(first);

@@ -3,6 +3,7 @@
 
 use crate::limits::{self, RECORD};
 use crate::table::Table;
+use crate::Tree;
 
 /// The areas that a report is read or built in, allocated once and used again by each call.
 ///
@@ -51,6 +52,13 @@ impl Areas {
         let needs = table.needs();
         let size = |n: u64| usize::try_from(n).unwrap_or(usize::MAX);
         Self::new(size(needs.records), size(needs.text), size(needs.scratch))
+    }
+
+    /// Areas as long as merging these two reports can need: 12 and 13 come only where the limits are too short.
+    pub fn for_merging(first: &Tree<'_>, second: &Tree<'_>) -> Self {
+        let (a, b) = (first.bounds(), second.bounds());
+        let size = |n: u64| usize::try_from(n).unwrap_or(usize::MAX);
+        Self::new(size(a.records + b.records), size(a.texts + b.texts), 0)
     }
 
     /// Makes each area at least as long as reading this table can need.

@@ -1,4 +1,4 @@
-//! Reading, listing, writing, ordering and explaining.
+//! Reading, listing, writing, merging, ordering and explaining.
 #![forbid(unsafe_code)]
 
 use crate::limits::{self, ENTRY};
@@ -303,6 +303,42 @@ pub fn starts(tree: &Tree<'_>) -> Result<Option<Starts>, Refusal> {
         last: Timestamp::of_moment(told.last),
         span: Duration::new(told.seconds, told.nanos),
     }))
+}
+
+/// Two halves of a run as one report: first the suites of one, then of the other, in other areas than theirs.
+///
+/// The name is the first's. Counts and times are added; `disabled` and the time are missing where both are. The timestamp is the earlier
+/// instant, the first's if equal, the only one if one is missing. There is no UUID.
+///
+/// # Errors
+///
+/// 17 where a sum of counts passes its limit, then 22 where the summed time reaches 8,388,608 seconds, then 12 and 13 where areas or limits
+/// are too short; 15 where areas hold no layout. The areas are zero then. Those of [`Areas::for_merging`] are long enough.
+///
+/// ```
+/// use kerzhoma::{list, merge, read, Areas, TableBuilder};
+///
+/// let half = |name: &str, suite: &str| {
+///     let mut table = TableBuilder::new();
+///     table.start("testsuites").attribute("name", name).attribute("tests", "2");
+///     table.empty("testsuite").attribute("name", suite).attribute("tests", "2");
+///     table.end("testsuites");
+///     table.finish()
+/// };
+/// let (a, b) = (half("night", "lab"), half("late", "field"));
+/// let (mut at, mut bt) = (Areas::for_table(&a.as_table()), Areas::for_table(&b.as_table()));
+/// let (first, second) = (read(&a.as_table(), &mut at)?, read(&b.as_table(), &mut bt)?);
+/// let mut areas = Areas::for_merging(&first, &second);
+/// let whole = merge(&first, &second, &mut areas)?;
+/// assert_eq!(list(&whole)?, "(report \"night\" 4 0 0 0 -\n(suite \"lab\" 2 0 0 0 -)\n(suite \"field\" 2 0 0 0 -))\n");
+/// # Ok::<(), kerzhoma::Refusal>(())
+/// ```
+pub fn merge<'a>(first: &Tree<'_>, second: &Tree<'_>, areas: &'a mut Areas) -> Result<Tree<'a>, Refusal> {
+    let Areas { records, text, .. } = areas;
+    let lent = Lent { records: records.len(), text: text.len(), ..Lent::default() };
+    let told = sys::merge(first.records(), first.text().as_bytes(), second.records(), second.text().as_bytes(), records, text);
+    Refusal::result(told, lent)?;
+    Tree::over(records, text)
 }
 
 /// The report as an XML document: what people keep as a file.

@@ -7,8 +7,7 @@
 //!   by a [`TableBuilder`].
 //! - [`Areas`] are what reading works in, allocated once. [`read`] gives a [`Tree`] that borrows them, or a [`Refusal`].
 //! - [`list`] gives the listing without private text, [`read_and_list`] and [`read_and_list_xml`] the same in one call that keeps no tree,
-//!   [`write()`] the table of a report, [`starts`] its first
-//!   and last start, [`explain`] a refusal in words.
+//!   [`write()`] the table of a report, [`starts`] its first and last start, [`merge`] two reports as one, [`explain`] a refusal in words.
 //! - A [`ReportBuilder`] makes a report from nothing, [`rehearse()`] the table of one with the numbers of an [`Order`].
 //! - [`release_sheet`] and [`print_sheet`] sum the [`Counts`] of many reports.
 //! - [`report`] has reports as owned values, with the names of the crate quick-junit, from and to XML documents.
@@ -48,8 +47,8 @@ mod values;
 pub use areas::Areas;
 pub use builder::{CaseBuilder, ReportBuilder, RunBuilder, SuiteBuilder};
 pub use calls::{
-    explain, list, list_into, public_listing, public_listing_into, read, read_and_list, read_and_list_into, rehearse, rehearse_into, starts, to_xml, write,
-    write_into, write_xml, Order,
+    explain, list, list_into, merge, public_listing, public_listing_into, read, read_and_list, read_and_list_into, rehearse, rehearse_into, starts, to_xml,
+    write, write_into, write_xml, Order,
 };
 pub use document::{explain_xml, list_xml, read_and_list_xml, tokenize, tokenize_into, DocumentRefusal, XmlRefusal};
 pub use place::Place;

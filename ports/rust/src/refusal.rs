@@ -60,10 +60,11 @@ pub enum Cause {
     NoSuchReport,
     /// 11: a release sheet over more than 4,096 reports.
     TooManyReports,
+    TimeLimit,
 }
 
 // In the order of their codes, from 1 on, with their numbers.
-const CAUSES: [(Cause, u32); 25] = [
+const CAUSES: [(Cause, u32); 26] = [
     (Cause::XmlFault, 1),
     (Cause::EofInSkip, 1),
     (Cause::NotUtf8, 2),
@@ -89,6 +90,7 @@ const CAUSES: [(Cause, u32); 25] = [
     (Cause::TooManyCases, 23),
     (Cause::NoSuchReport, 24),
     (Cause::TooManyReports, 11),
+    (Cause::TimeLimit, 22),
 ];
 
 impl Cause {
@@ -97,7 +99,7 @@ impl Cause {
         CAUSES.iter().map(|c| c.0)
     }
 
-    /// The number of the refusal: 1 to 17, 20, 21, 23 or 24.
+    /// The number of the refusal: 1 to 17 or 20 to 24.
     pub fn number(self) -> u32 {
         CAUSES[self as usize].1
     }

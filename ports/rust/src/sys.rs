@@ -203,6 +203,10 @@ extern "C" {
     ) -> Explained;
     fn kerzhoma_time_text(out: *mut u8, out_len: usize, seconds: u32, nanos: u32) -> usize;
     fn kerzhoma_starts(records: *const u32, records_len: usize, text: *const u8, text_len: usize) -> Started;
+    fn kerzhoma_merge(
+        first: *const u32, first_len: usize, first_text: *const u8, first_text_len: usize, second: *const u32, second_len: usize,
+        second_text: *const u8, second_text_len: usize, records: *mut u32, records_len: usize, text: *mut u8, text_len: usize,
+    ) -> Refusal;
     fn kerzhoma_add_case(counts: Counts, outcome: u32) -> Counted;
     fn kerzhoma_add_suite(counts: Counts, suite: Counts) -> Counted;
     fn kerzhoma_release_sheet(records: *const Counts, records_len: usize) -> Released;
@@ -436,6 +440,27 @@ pub fn time_text(out: &mut [u8], seconds: u32, nanos: u32) -> usize {
 
 pub fn starts(records: &[u32], text: &[u8]) -> Started {
     unsafe { kerzhoma_starts(records.as_ptr(), records.len(), text.as_ptr(), text.len()) }
+}
+
+pub fn merge(
+    first: &[u32], first_text: &[u8], second: &[u32], second_text: &[u8], records: &mut [u32], text: &mut [u8],
+) -> Refusal {
+    unsafe {
+        kerzhoma_merge(
+            first.as_ptr(),
+            first.len(),
+            first_text.as_ptr(),
+            first_text.len(),
+            second.as_ptr(),
+            second.len(),
+            second_text.as_ptr(),
+            second_text.len(),
+            records.as_mut_ptr(),
+            records.len(),
+            text.as_mut_ptr(),
+            text.len(),
+        )
+    }
 }
 
 pub fn add_case(counts: Counts, outcome: u32) -> Counted {

@@ -215,7 +215,8 @@ impl<'a> Tree<'a> {
         rows[self.at..].iter().filter(|r| r[0] < kind::DEAD).map(move |words| Record { words, text })
     }
 
-    // The lengths of the longest listing, and of the longest written table, that this report can have.
+    // The lengths of the longest listing, and of the longest written table, that this report can have; its live records and the bytes of
+    // their texts, each text by itself.
     pub(crate) fn bounds(&self) -> Bounds {
         let mut bounds = Bounds::default();
         for (_, r) in self.store.live(0) {
@@ -233,6 +234,8 @@ impl<'a> Tree<'a> {
             bounds.listing += line;
             bounds.bytes += WRITTEN + 6 * all;
             bounds.entries += ENTRIES;
+            bounds.records += 1;
+            bounds.texts += all;
         }
         bounds
     }
@@ -251,6 +254,8 @@ pub(crate) struct Bounds {
     pub listing: u64,
     pub entries: u64,
     pub bytes: u64,
+    pub records: u64,
+    pub texts: u64,
 }
 
 impl std::fmt::Debug for Tree<'_> {

@@ -297,6 +297,13 @@ fn every_cause_has_its_line() {
     line(&mut made, &mut seen, Cause::TooManyReports, &refusal, &none);
     assert!(release_sheet(&[Counts::default(); limits::REPORTS]).is_ok());
 
+    let mut half = TableBuilder::new();
+    half.empty("testsuites").attribute("time", "4194304");
+    let mut read_in = Areas::new(1, 0, 0);
+    let half = read(&half.table(), &mut read_in).unwrap();
+    let refusal = merge(&half, &half, &mut Areas::new(1, 0, 0)).unwrap_err();
+    line(&mut made, &mut seen, Cause::TimeLimit, &refusal, &none);
+
     hold("causes.txt", &made);
     let sentences: std::collections::BTreeSet<String> = Cause::all().map(|c| c.to_string()).collect();
     assert_eq!(sentences.len(), Cause::all().count());

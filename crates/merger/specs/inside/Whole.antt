@@ -9,6 +9,7 @@ use Rattle.area.specs.Answer.{Answer, gives, refuses}
 use Rattle.area.specs.Area.{zeros}
 use Rattle.area.specs.Limits.{mostWords, mostBytes}
 use Rattle.refusal.specs.declared.Cause.the-variants as cause
+use Rattle.schema.specs.Stores.{splice}
 use Rattle.list_sums.specs.inside.Rows.{recordsIn}
 use Rattle.tree_record.specs.Record.{live, hasBit, textAt}
 use Rattle.tree_report.specs.ReportOf.{only}
@@ -60,6 +61,11 @@ roomFor a b words bytes = roomBy (length (belowIn a) + length (belowIn b)) (name
 unfoldable pub usedAnswer : (a b : List ℕ) (words bytes : ℕ) → Answer (Unit {0})
 usedAnswer a b words bytes =
     cond (areCounts (sumsOf a b)) (cond (leb 8388608000000000 (nanosFor a b)) (refuses cause.TimeLimit) (roomFor a b words bytes)) (refuses cause.CountLimit)
+
+-- what is left in an area of n zeros
+abbrev pub leftBy : Answer (Unit {0}) → ℕ → List ℕ → List ℕ
+leftBy (gives u) n f = splice 0 f (zeros n)
+leftBy (refuses c) n f = zeros n
 
 -- ---- what the code needs to know of the trees
 pub record Sized (a s b t : List ℕ) : Type 0 where
