@@ -106,7 +106,7 @@ pub record Merging : Type 0 where
   pub refusesOnly : (a b : Tree) (n : Room) (why : Refused) → answerOf a b n ≡ refused why
       → ((why ≡ late cause.NotLayout) ⊎ ((why ≡ late cause.CountLimit) ⊎ ((why ≡ late timeLimit) ⊎ ((why ≡ late cause.RecordsSpent) ⊎ (why ≡ late cause.TextFull)))))
       × (left a b n ≡ zeroed n)
-  -- D. Where both merges succeed, in areas of any lengths, two pairs of trees with equal listings give merged trees with equal listings;
+  -- D. Where both merges succeed, in areas of any lengths, two pairs of trees with equal listings give merged trees with equal listings (rule J11);
   pub sameListing : (a b c d : Tree) (n m : Room) (x y v w : List ℕ) → Listed a x → Listed c x → Listed b y → Listed d y
       → answerOf a b n ≡ accepted tt → answerOf c d m ≡ accepted tt → Listed (left a b n) v → Listed (left c d m) w → v ≡ w
   -- D. a tree has one listing, that of its report.
