@@ -22,7 +22,8 @@ pub finding-start : (words : List ℕ) → Finding words 0
 finding-start words = record { fits = omega arith; left = refl }
 
 module _ {words : List ℕ} {at : ℕ} (f : Finding words at) (s : stands (take (length words - at) (drop at words)) ≡ true) where
-  here : firstOf (cond (live (take (at + 32 - at) (drop at words))) (take (at + 32 - at) (drop at words) ∷ only live (recordsIn (drop (at + 32) words))) (only live (recordsIn (drop (at + 32) words))))
+  here : firstOf
+      (cond (live (take (at + 32 - at) (drop at words))) (take (at + 32 - at) (drop at words) ∷ only live (recordsIn (drop (at + 32) words))) (only live (recordsIn (drop (at + 32) words))))
       ≡ firstOf (only live (recordsIn words))
   here = ap (λ (rs : List (List ℕ)). firstOf (only live rs)) (sym (records-here words at s)) ∙ f .left
 

@@ -1,14 +1,14 @@
 -- What is put into the report's record is the merged report's. Assumes nothing.
-use Prim.Native.Nat.{ℕ, _+_, _-_, _*_, _/_, _%_, _≤_, _<_}
+use Prim.Native.Nat.{ℕ, _+_, _-_, _/_, _%_, _≤_, _<_}
 use mathlib.Core.Bool.{Bool, true, false, cond, not, _&&_, _||_, false≢true}
-use mathlib.Core.List.{List, [], _∷_, _++_, append-nil}
+use mathlib.Core.List.{List, [], append-nil}
 use mathlib.Core.Option.{Option, none, some}
 use mathlib.Core.Path.{_≡_, refl, sym, ap, ap₂, _∙_}
 use native.Mathlib.Nat.{add-zero, zero-add}
 use native.Mathlib.Omega.{arith}
 use borrow.Author.Tests.{leb-true, ltb-true, ltb-false, lt-ltb, le-ltb}
 use lib.Dec.{leb, ltb}
-use lib.ListN.{length, getD, set, take, drop, length-drop}
+use lib.ListN.{length, getD, set, drop, length-drop}
 use lib.Seq.{length-take-le}
 use Rattle.area.specs.Area.{zeros}
 use Rattle.utf8.specs.Characters.{boundary}
@@ -28,8 +28,7 @@ use Rattle.schema.specs.Texts.{storedIn, recordAt}
 use Rattle.schema.proofs.Tests.{and-left, and-right}
 use Rattle.tree_record.specs.Record.{hasBit, textAt, numberAt, marked}
 use Rattle.tree_put.specs.Put.{putText, putCount, putMoment, putTime}
-use Rattle.tree_counts.specs.declared.Counts.{Counts}
-use Rattle.tree_counts.specs.Counts.{isCount, disabledOf, added, areCounts}
+use Rattle.tree_counts.specs.Counts.{isCount, added}
 use Rattle.build_draft.specs.Parts.{countsIn, putCounts}
 use Rattle.tree_report.specs.Fields.{momentOf}
 use Rattle.tree_report.specs.Layout.{zeroAt}
@@ -197,6 +196,7 @@ module _ (g h texts a b : List ℕ) (p : goodCommon g a ≡ true) (q : goodCommo
       last : (t : Bool) → cond t (putMoment (cutMoment b) s) (putMoment (cutMoment a) s) ≡ putMoment (cond t (cutMoment b) (cutMoment a)) s
       last true = refl
       last false = refl
+
       go : (x y : Bool) → hasBit 3 a ≡ x → hasBit 3 b ≡ y
           → cond (y && (not x || isEarlier b a)) (cond y (putMoment (cutMoment b) s) s) (cond x (putMoment (cutMoment a) s) s)
           ≡ putStampOf (eitherBy earlier (given x (momentOf a)) (given y (momentOf b))) s
@@ -214,7 +214,7 @@ module _ (g h texts a b : List ℕ) (p : goodCommon g a ≡ true) (q : goodCommo
     where
       go : (x y : Bool) → hasBit 4 a ≡ x → hasBit 4 b ≡ y
           → cond (x || y)
-            (putTime ((cond x (nanosOf (durationOf a)) 0 + cond y (nanosOf (durationOf b)) 0) / 1000000000, (cond x (nanosOf (durationOf a)) 0 + cond y (nanosOf (durationOf b)) 0) % 1000000000) s) s
+          (putTime ((cond x (nanosOf (durationOf a)) 0 + cond y (nanosOf (durationOf b)) 0) / 1000000000, (cond x (nanosOf (durationOf a)) 0 + cond y (nanosOf (durationOf b)) 0) % 1000000000) s) s
           ≡ putTimeOf (eitherBy addedTime (given x (durationOf a)) (given y (durationOf b))) s
       go true true x y = refl
       go true false x y =
@@ -249,10 +249,12 @@ module _ (g h texts a b : List ℕ) (p : goodCommon g a ≡ true) (q : goodCommo
       go false false x y e = e
 
   counts-put : (s : List ℕ) → putCounts (added (countsIn a) (countsIn b)) s
-      ≡ putDisabledOf disabled (putCount 24 (numberAt a 24 + numberAt b 24) (putCount 22 (numberAt a 22 + numberAt b 22) (putCount 20 (numberAt a 20 + numberAt b 20) (putCount 18 (numberAt a 18 + numberAt b 18) s))))
+      ≡ putDisabledOf disabled
+      (putCount 24 (numberAt a 24 + numberAt b 24) (putCount 22 (numberAt a 22 + numberAt b 22) (putCount 20 (numberAt a 20 + numberAt b 20) (putCount 18 (numberAt a 18 + numberAt b 18) s))))
   unfolding putCounts
   counts-put s =
-      go (hasBit 8 a) (hasBit 8 b) (putCount 24 (numberAt a 24 + numberAt b 24) (putCount 22 (numberAt a 22 + numberAt b 22) (putCount 20 (numberAt a 20 + numberAt b 20) (putCount 18 (numberAt a 18 + numberAt b 18) s))))
+      go (hasBit 8 a) (hasBit 8 b)
+      (putCount 24 (numberAt a 24 + numberAt b 24) (putCount 22 (numberAt a 22 + numberAt b 22) (putCount 20 (numberAt a 20 + numberAt b 20) (putCount 18 (numberAt a 18 + numberAt b 18) s))))
     where
       go : (x y : Bool) (s : List ℕ) → cond (x || y) (marked 8 (putCount 26 (cond x (numberAt a 26) 0 + cond y (numberAt b 26) 0) s)) s
           ≡ putDisabledOf (eitherBy _+_ (given x (numberAt a 26)) (given y (numberAt b 26))) s
@@ -273,11 +275,12 @@ module _ (g h texts a b : List ℕ) (p : goodCommon g a ≡ true) (q : goodCommo
   -- the record whole
   pub head-record : headOf a b (added (countsIn a) (countsIn b)) (nanosIn a + nanosIn b) (zeros 32)
       ≡ recordAt 1 0 report
-        (fieldsOf (numberAt a 18 + numberAt b 18) (numberAt a 20 + numberAt b 20) (numberAt a 22 + numberAt b 22) (numberAt a 24 + numberAt b 24) name stamp time disabled)
+      (fieldsOf (numberAt a 18 + numberAt b 18) (numberAt a 20 + numberAt b 20) (numberAt a 22 + numberAt b 22) (numberAt a 24 + numberAt b 24) name stamp time disabled)
   unfolding headOf
   head-record =
       counts-put (putTotal a b (nanosIn a + nanosIn b) (putStart a b (putName a (set (zeros 32) 0 1))))
-      ∙ ap (λ (s : List ℕ). putDisabledOf disabled (putCount 24 (numberAt a 24 + numberAt b 24) (putCount 22 (numberAt a 22 + numberAt b 22) (putCount 20 (numberAt a 20 + numberAt b 20) (putCount 18 (numberAt a 18 + numberAt b 18) s)))))
-        (time-put (putStart a b (putName a (set (zeros 32) 0 1)))
-        ∙ ap (putTimeOf time) (stamp-put (putName a (set (zeros 32) 0 1)) ∙ ap (putStampOf stamp) (name-put (set (zeros 32) 0 1))))
+      ∙ ap (λ (s : List ℕ). putDisabledOf disabled
+      (putCount 24 (numberAt a 24 + numberAt b 24) (putCount 22 (numberAt a 22 + numberAt b 22) (putCount 20 (numberAt a 20 + numberAt b 20) (putCount 18 (numberAt a 18 + numberAt b 18) s)))))
+      (time-put (putStart a b (putName a (set (zeros 32) 0 1)))
+      ∙ ap (putTimeOf time) (stamp-put (putName a (set (zeros 32) 0 1)) ∙ ap (putStampOf stamp) (name-put (set (zeros 32) 0 1))))
       ∙ all-put (numberAt a 18 + numberAt b 18) (numberAt a 20 + numberAt b 20) (numberAt a 22 + numberAt b 22) (numberAt a 24 + numberAt b 24) name stamp time disabled

@@ -6,7 +6,7 @@ use mathlib.Core.Path.{_≡_, refl, sym, ap, _∙_}
 use native.Mathlib.Omega.{arith}
 use lib.Dec.{ltb, eqb}
 use lib.ListN.{length, getD, take, drop}
-use Rattle.list_sums.specs.inside.Rows.{stands, recordsIn}
+use Rattle.list_sums.specs.inside.Rows.{stands}
 use Rattle.list_sums.proofs.Records.{stands-room, records-here, records-over}
 use Rattle.tree_report.specs.ReportOf.{only}
 use Rattle.tree_merge.specs.Answer.{isBelow}

@@ -1,6 +1,6 @@
 -- Of good records what is copied is what the definitions say. Assumes nothing.
 use Prim.Native.Nat.{ℕ, _+_, _≤_}
-use mathlib.Core.Bool.{Bool, true, false, cond, _&&_}
+use mathlib.Core.Bool.{Bool, true, false, cond}
 use mathlib.Core.List.{List, [], _∷_, _++_}
 use mathlib.Core.Path.{_≡_, refl, sym, ap, ap₂, _∙_}
 use lib.ListN.{length, length-append}
@@ -10,7 +10,6 @@ use Rattle.tree_report.specs.Layout.{goodRecord, allGood}
 use Rattle.tree_report.specs.ReportOf.{only}
 use Rattle.tree_merge.specs.Answer.{isBelow}
 use Rattle.tree_merge.specs.Moved.{textsOf, textsIn, movedFrom}
-use Rattle.merge_rows.specs.inside.Slots.{rowTexts, rowMoved, sizesOf}
 use Rattle.merge_rows.proofs.Rows.{row-texts, row-moved, row-sizes}
 use Rattle.merge_records.specs.inside.Copied.{sizesIn, textsFor, recordsFor}
 

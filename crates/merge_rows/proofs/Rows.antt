@@ -8,7 +8,7 @@ use native.Mathlib.Omega.{arith}
 use borrow.Author.Tests.{leb-true, le-leb, not-true}
 use lib.Dec.{leb, eqb}
 use lib.ListN.{length, getD, set, length-append}
-use Rattle.schema.specs.Schema.{Row, report, suite, case, main, skipped, run, property, extra, tableOf}
+use Rattle.schema.specs.Schema.{report, suite, case, main, skipped, run, property, extra, tableOf}
 use Rattle.schema.specs.Records.{isSet, bitsIn, goodFrom, good}
 use Rattle.schema.proofs.Tests.{and-left, and-right}
 use Rattle.tree_record.specs.Record as words

@@ -1,5 +1,5 @@
 -- The texts of a record by the rows of a table, and by their presence bits and words alone. Assumes nothing.
-use Prim.Native.Nat.{ℕ, _+_, _-_, _/_, _%_, _≤_}
+use Prim.Native.Nat.{ℕ, _+_, _-_, _≤_}
 use mathlib.Core.Bool.{Bool, true, false, cond, _&&_, false≢true}
 use mathlib.Core.List.{List, [], _∷_, _++_}
 use mathlib.Core.Option.{none, some}
@@ -7,14 +7,14 @@ use mathlib.Core.Path.{_≡_, refl, sym, ap, _∙_}
 use native.Mathlib.Nat.{add-zero}
 use native.Mathlib.Omega.{arith}
 use borrow.Author.Tests.{leb-true}
-use lib.Dec.{leb, eqb}
-use lib.ListN.{length, getD, set, take, drop, length-append, length-drop}
+use lib.Dec.{leb}
+use lib.ListN.{length, getD, set, drop, length-append, length-drop}
 use lib.Seq.{length-take-le}
 use Rattle.utf8.specs.Characters.{boundary}
 use Rattle.schema.specs.Report.{Text}
 use Rattle.schema.specs.Schema.{Form, text, number, time, timestamp, uuid, flag, Presence, always, must, may, unkept, Row, behind}
-use Rattle.schema.specs.Records.{Span, Of, Held, isSet, given, valueAt, goodValue, zeroAt, goodSlot, goodFrom}
-use Rattle.schema.specs.Texts.{readValue, shownSlot, fieldsOf, storedValue, stored, storedIn}
+use Rattle.schema.specs.Records.{Of, Held, isSet, given, valueAt, goodValue, zeroAt, goodSlot, goodFrom}
+use Rattle.schema.specs.Texts.{shownSlot, fieldsOf, storedValue, stored, storedIn}
 use Rattle.schema.proofs.Tests.{and-left, and-right}
 use Rattle.tree_record.specs.Record.{textAt}
 use Rattle.tree_merge.specs.Moved.{isText, isThere, hasText, textIn, movedBy}

@@ -1,40 +1,39 @@
 -- Of two layouts, the tree that the code makes and its answer are those of the definitions. Assumes nothing.
-use Prim.Native.Nat.{ℕ, suc, _+_, _-_, _*_, _/_, _≤_, _<_, min}
-use mathlib.Core.Bool.{Bool, true, false, cond, not, _&&_}
-use mathlib.Core.List.{List, [], _∷_, _++_, append-nil, append-assoc}
-use mathlib.Core.Option.{Option, none, some}
+use Prim.Native.Nat.{ℕ, suc, _+_, _-_, _/_, _≤_, _<_, min}
+use mathlib.Core.Bool.{Bool, true, false, cond, _&&_}
+use mathlib.Core.List.{List, [], _∷_, _++_, append-assoc}
+use mathlib.Core.Option.{Option, some}
 use mathlib.Core.Path.{_≡_, refl, sym, ap, ap₂, _∙_}
 use native.Mathlib.Nat.{min-eq-left, min-eq-right}
 use native.Mathlib.Omega.{arith}
-use borrow.Author.Tests.{leb-true, leb-false, ltb-true, ltb-false, le-leb, lt-leb, lt-ltb, le-ltb}
+use borrow.Author.Tests.{leb-true, leb-false, ltb-true, ltb-false, le-leb, lt-leb}
 use lib.Dec.{leb, ltb}
 use lib.ListN.{length, length-append}
 use Rattle.area.specs.Answer.{Answer, gives, refuses}
 use Rattle.area.specs.Area.{zeros}
 use Rattle.area.specs.Limits.{mostWords, mostRecords, mostBytes}
-use Rattle.refusal.specs.declared.Cause.{Cause}
 use Rattle.refusal.specs.declared.Cause.the-variants as cause
 use Rattle.utf8.specs.Characters.{joined}
 use Rattle.schema.specs.Schema.{report}
 use Rattle.schema.specs.Texts.{fieldsOf, storedIn, recordAt}
 use Rattle.schema.specs.Elements as named
-use Rattle.tree_record.specs.Record.{hasBit, textAt, numberAt}
-use Rattle.tree_report.specs.Encode.{Encoding}
+use Rattle.tree_record.specs.Record.{hasBit, textAt}
 use Rattle.tree_report.specs.Report.{Report}
 use Rattle.tree_report.specs.Layout.{usedWords, usedText, filled, recordsOf, layout}
-use Rattle.tree_report.specs.ReportOf.{only, reportOf}
+use Rattle.tree_report.specs.ReportOf.{reportOf}
 use Rattle.tree_counts.specs.Counts as counts
 use Rattle.tree_counts.specs.Counts.{isCount, added}
 use Rattle.build_draft.specs.Parts.{countsIn}
 use Rattle.tree_merge.specs.Merged.{mergedReport}
-use Rattle.tree_merge.specs.Moved.{textsIn, textsOf, movedTo, movedFrom}
+use Rattle.tree_merge.specs.Moved.{textsIn, textsOf, movedFrom}
 use Rattle.tree_merge.specs.Answer as answer
-use Rattle.tree_merge.specs.Answer.{bothBy, mergedOf, isBelow, belowReport, mergedTree, ifAny, isTime, limited, placed, mergeAnswer}
-use Rattle.merge_head.specs.inside.Head.{nanosIn, nameSize, headOf}
+use Rattle.tree_merge.specs.Answer.{bothBy, mergedOf, belowReport, mergedTree, ifAny, limited, placed, mergeAnswer}
+use Rattle.merge_head.specs.inside.Head.{nameSize, headOf}
 use Rattle.merge_head.proofs.Heading.{name-sized, name-alone, disabled-fits, time-fits, head-record}
 use Rattle.merge_records.specs.inside.Copied.{belowIn, sizesIn, textsFor, recordsFor}
 use Rattle.merge_records.proofs.Good.{good-texts, good-records, good-sizes}
-use Rattle.merger.specs.inside.Whole.{reportIn, nameText, sumsOf, nanosFor, rowsFor, rowTextsFor, treeTexts, treeWords, roomBy, roomFor, usedAnswer, Sized}
+use Rattle.merge_limits.specs.inside.Limits.{roomBy}
+use Rattle.merger.specs.inside.Whole.{reportIn, nameText, sumsOf, nanosFor, rowsFor, rowTextsFor, treeTexts, treeWords, roomFor, usedAnswer, Sized}
 use Rattle.merger.proofs.Trees.{Facts, below-same, tree-facts}
 
 -- ---- numbers
@@ -58,7 +57,7 @@ module _ (n m w y : ℕ) where
     where
       go : (s t : Bool) → leb (w / 32) n ≡ s → ltb y m ≡ t
           → _≡_ {A = Answer (Unit {0})} (cond s (refuses cause.RecordsSpent) (cond t (refuses cause.TextFull) (gives tt)))
-            (cond (leb (1 + n) (w / 32)) (cond (leb m y) (gives tt) (refuses cause.TextFull)) (refuses cause.RecordsSpent))
+          (cond (leb (1 + n) (w / 32)) (cond (leb m y) (gives tt) (refuses cause.TextFull)) (refuses cause.RecordsSpent))
       go true t e f = rw (lt-leb (1 + n) (w / 32) (let l = leb-true (w / 32) n e in omega arith)) refl
       go false true e f =
           rw (le-leb (1 + n) (w / 32) (let l = leb-false (w / 32) n e in omega arith), lt-leb m y (ltb-true y m f)) refl
@@ -144,7 +143,7 @@ module _ (first firstText second secondText : List ℕ) (p : layout first firstT
   unfolding mergedTree
   records-are =
       ap (λ (o : Option Report). answer.headOf o
-        ++ (movedFrom s (length (answer.headTexts o)) (belowReport first) ++ movedFrom t (length (answer.headTexts o) + length (textsIn s (belowReport first))) (belowReport second))) merged-is
+      ++ (movedFrom s (length (answer.headTexts o)) (belowReport first) ++ movedFrom t (length (answer.headTexts o) + length (textsIn s (belowReport first))) (belowReport second))) merged-is
 
   pub words-same : treeWords a s b t ≡ joined (mergedTree first firstText second secondText .records)
   unfolding treeWords
@@ -182,16 +181,18 @@ module _ (first firstText second secondText : List ℕ) (p : layout first firstT
   unfolding roomFor placed
   room-is words bytes =
       room-same (length (belowIn a) + length (belowIn b)) (nameSize (reportIn a) + sizesIn (belowIn a) + sizesIn (belowIn b)) (min words mostWords) (min bytes mostBytes)
-      ∙ ap₂ (λ (n k : ℕ). cond (leb n k) (cond (leb (nameSize (reportIn a) + sizesIn (belowIn a) + sizesIn (belowIn b)) (min bytes mostBytes)) (gives tt) (refuses cause.TextFull)) (refuses cause.RecordsSpent))
-        (sym count-is) (least-records words)
-      ∙ ap (λ (n : ℕ). cond (leb (length (mergedTree first firstText second secondText .records)) (min (words / 32) mostRecords)) (cond (leb n (min bytes mostBytes)) (gives tt) (refuses cause.TextFull)) (refuses cause.RecordsSpent))
-        (sizes-are ∙ ap length texts-same)
+      ∙ ap₂ (λ (n k : ℕ).
+      cond (leb n k) (cond (leb (nameSize (reportIn a) + sizesIn (belowIn a) + sizesIn (belowIn b)) (min bytes mostBytes)) (gives tt) (refuses cause.TextFull)) (refuses cause.RecordsSpent))
+      (sym count-is) (least-records words)
+      ∙ ap (λ (n : ℕ). cond (leb (length (mergedTree first firstText second secondText .records)) (min (words / 32) mostRecords))
+      (cond (leb n (min bytes mostBytes)) (gives tt) (refuses cause.TextFull)) (refuses cause.RecordsSpent))
+      (sizes-are ∙ ap length texts-same)
 
   counts-are : counts.areCounts (sumsOf a b) ≡ answer.countsFit m
   unfolding mergedReport
   counts-are =
       ap (λ (x : Bool). isCount (added (countsIn (reportIn a)) (countsIn (reportIn b)) .tests) && (isCount (added (countsIn (reportIn a)) (countsIn (reportIn b)) .failures)
-        && (isCount (added (countsIn (reportIn a)) (countsIn (reportIn b)) .errors) && (isCount (added (countsIn (reportIn a)) (countsIn (reportIn b)) .skipped) && x))))
+      && (isCount (added (countsIn (reportIn a)) (countsIn (reportIn b)) .errors) && (isCount (added (countsIn (reportIn a)) (countsIn (reportIn b)) .skipped) && x))))
       (disabled-fits (filled s) (filled t) s (reportIn a) (reportIn b) (one .head) (two .head) (one .inside))
 
   time-is : (x : Bool) → ltb (nanosFor a b) 8388608000000000 ≡ x → answer.timeFits m ≡ x
@@ -212,7 +213,9 @@ module _ (first firstText second secondText : List ℕ) (p : layout first firstT
   pub answer-same : (words bytes : ℕ) → usedAnswer a b (min words mostWords) (min bytes mostBytes) ≡ mergeAnswer first firstText second secondText words bytes
   unfolding usedAnswer mergeAnswer limited
   answer-same words bytes =
-      ap (λ (x : Answer (Unit {0})). cond (counts.areCounts (sumsOf a b)) (cond (leb 8388608000000000 (nanosFor a b)) (refuses cause.TimeLimit) x) (refuses cause.CountLimit)) (room-is words bytes)
+      ap (λ (x : Answer (Unit {0})). cond (counts.areCounts (sumsOf a b)) (cond (leb 8388608000000000 (nanosFor a b)) (refuses cause.TimeLimit) x) (refuses cause.CountLimit))
+      (room-is words bytes)
       ∙ limits-are (placed (mergedTree first firstText second secondText) words bytes)
-      ∙ ap (λ (o : Option Report). cond (ifAny answer.countsFit o) (cond (ifAny answer.timeFits o) (placed (mergedTree first firstText second secondText) words bytes) (refuses cause.TimeLimit)) (refuses cause.CountLimit)) (sym merged-is)
+      ∙ ap (λ (o : Option Report). cond (ifAny answer.countsFit o)
+      (cond (ifAny answer.timeFits o) (placed (mergedTree first firstText second secondText) words bytes) (refuses cause.TimeLimit)) (refuses cause.CountLimit)) (sym merged-is)
       ∙ rw (p, q) refl

@@ -1,23 +1,22 @@
 -- The call over areas of any length. Assumes nothing.
 use Prim.Native.Nat.{ℕ, _+_, _-_, _≤_, min}
 use mathlib.Core.Bool.{true, false}
-use mathlib.Core.List.{List, [], _++_, append-assoc}
+use mathlib.Core.List.{List, _++_, append-assoc}
 use mathlib.Core.Path.{_≡_, refl, sym, ap, ap₂, _∙_}
 use native.Mathlib.Nat.{min-le-left, min-le-right, zero-add}
 use native.Mathlib.Omega.{arith}
-use lib.ListN.{length, take, drop, length-append, length-drop, length-take, length-replicate, replicate-append-replicate}
+use lib.ListN.{length, take, drop, length-append, length-take, length-replicate, replicate-append-replicate}
 use lib.Seq.{length-take-le}
 use Rattle.area.specs.Answer.{Answer, gives, refuses}
-use Rattle.area.specs.Area.{zeros, laid}
+use Rattle.area.specs.Area.{zeros}
 use Rattle.area.specs.Limits.{mostWords, mostBytes}
 use Rattle.area.proofs.Laying.{laid-zeros}
 use Rattle.area.proofs.Lists.{drop-zeros, take-zeros}
 use Rattle.refusal.specs.Refusal.{refused, late}
 use Rattle.refusal.specs.declared.Cause.the-variants as cause
-use Rattle.schema.specs.Stores.{splice}
 use Rattle.utf8.specs.Characters.{joined}
 use Rattle.list_values.proofs.Cutting.{take-least}
-use Rattle.tree_report.specs.Layout.{usedWords, usedText, layout}
+use Rattle.tree_report.specs.Layout.{usedWords, layout}
 use Rattle.tree_merge.specs.Answer.{mergedTree, mergeAnswer, outcomeOf, merged, leftFor, recordsLeft, textLeft}
 use Rattle.merger.specs.declared.Merging.{Merging}
 use Rattle.merger.specs.Answer.{mergingFrom}

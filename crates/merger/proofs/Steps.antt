@@ -1,11 +1,10 @@
 -- What each call makes of the two result areas. Assumes nothing.
-use Prim.Native.Nat.{ℕ, zero, suc, _+_, _-_, _*_, _/_, _≤_, _<_}
+use Prim.Native.Nat.{ℕ, zero, suc, _+_, _-_, _*_, _/_, _≤_}
 use mathlib.Core.Bool.{Bool, true, false, cond, false≢true}
 use mathlib.Core.List.{List, [], _∷_, _++_}
 use mathlib.Core.Path.{_≡_, refl, sym, ap, ap₂, _∙_}
-use native.Mathlib.Nat.{zero-add}
 use native.Mathlib.Omega.{arith}
-use borrow.Author.Tests.{leb-false, ltb-false, lt-leb}
+use borrow.Author.Tests.{leb-false, ltb-false}
 use lib.Dec.{leb, ltb, eqb}
 use lib.ListN.{length, getD, take, drop, length-append, length-drop}
 use lib.Seq.{length-take-le}
@@ -31,10 +30,11 @@ use Rattle.merge_rows.proofs.Splicing.{splice-then, length-splice, first-fits, 
 use Rattle.merge_records.specs.declared.Mark.{Mark}
 use Rattle.merge_records.specs.inside.Copied.{belowIn, sizesIn, textsFor, recordsFor, Room}
 use Rattle.merge_records.proofs.Copying.{length-moved}
-use Rattle.merge_head.specs.inside.Head.{firstOf, nanosIn, nameSize, headOf}
-use Rattle.merger.specs.declared.Step.{Step}
-use Rattle.merger.specs.declared.Step.the-variants.{Done, Not}
-use Rattle.merger.specs.inside.Whole.{stepAnswer, reportIn, nameText, sumsOf, nanosFor, rowsFor, rowTextsFor, treeTexts, treeWords, roomBy, roomFor, usedAnswer, leftBy, Sized, Enough, Zero}
+use Rattle.merge_head.specs.inside.Head.{firstOf, nameSize, headOf}
+use Rattle.merge_limits.specs.declared.Step.{Step}
+use Rattle.merge_limits.specs.declared.Step.the-variants.{Not}
+use Rattle.merge_limits.specs.inside.Limits.{stepAnswer, roomBy}
+use Rattle.merger.specs.inside.Whole.{reportIn, nameText, sumsOf, nanosFor, rowsFor, rowTextsFor, treeTexts, treeWords, roomFor, usedAnswer, leftBy, Sized, Enough, Zero}
 
 pub report-is : {r : List ℕ} (words : List ℕ) → r ≡ firstOf (only live (recordsIn words)) → r ≡ reportIn words
 unfolding reportIn
@@ -195,7 +195,8 @@ module _ (a s b t records bytes ys : List ℕ) (l : length ys ≡ length (take 3
 module _ (a s b t records bytes : List ℕ) (z : Zero records bytes) where
   pub none-put : {x : Cause} {st : Step} → st ≡ Not x → stepAnswer st ≡ roomFor a b (length records) (length bytes)
       → (stepAnswer st ≡ roomFor a b (length records) (length bytes))
-      × ((records ≡ leftBy (roomFor a b (length records) (length bytes)) (length records) (treeWords a s b t)) × (bytes ≡ leftBy (roomFor a b (length records) (length bytes)) (length bytes) (treeTexts a s b t)))
+      × ((records ≡ leftBy (roomFor a b (length records) (length bytes)) (length records) (treeWords a s b t))
+      × (bytes ≡ leftBy (roomFor a b (length records) (length bytes)) (length bytes) (treeTexts a s b t)))
   none-put {x} {st} e k =
       let r : refuses x ≡ roomFor a b (length records) (length bytes) = sym (ap stepAnswer e) ∙ k in
       (k, (z .words ∙ ap (λ (o : Answer (Unit {0})). leftBy o (length records) (treeWords a s b t)) r, z .texts ∙ ap (λ (o : Answer (Unit {0})). leftBy o (length bytes) (treeTexts a s b t)) r))
@@ -204,7 +205,8 @@ module _ (a s b t records bytes : List ℕ) (z : Zero records bytes) where
       → records₂ ≡ splice 0 (headOf (reportIn a) (reportIn b) c n (take 32 records) ++ rowsFor a s b t (length (nameText s (reportIn a)))) records
       → bytes₂ ≡ splice 0 (treeTexts a s b t) bytes
       → (gives tt ≡ roomFor a b (length records) (length bytes))
-      × ((records₂ ≡ leftBy (roomFor a b (length records) (length bytes)) (length records) (treeWords a s b t)) × (bytes₂ ≡ leftBy (roomFor a b (length records) (length bytes)) (length bytes) (treeTexts a s b t)))
+      × ((records₂ ≡ leftBy (roomFor a b (length records) (length bytes)) (length records) (treeWords a s b t))
+      × (bytes₂ ≡ leftBy (roomFor a b (length records) (length bytes)) (length bytes) (treeTexts a s b t)))
   unfolding treeWords
   all-put {c = c} {n = n} r h x y e f =
       let rows = rowsFor a s b t (length (nameText s (reportIn a))) in
@@ -263,6 +265,7 @@ module _ (a b : List ℕ) (w y : ℕ) where
 -- a refusal leaves zeros
 pub left-zero : (a s b t records bytes : List ℕ) {c : Cause} → Zero records bytes → refuses c ≡ usedAnswer a b (length records) (length bytes)
     → (refuses c ≡ usedAnswer a b (length records) (length bytes))
-    × ((records ≡ leftBy (usedAnswer a b (length records) (length bytes)) (length records) (treeWords a s b t)) × (bytes ≡ leftBy (usedAnswer a b (length records) (length bytes)) (length bytes) (treeTexts a s b t)))
+    × ((records ≡ leftBy (usedAnswer a b (length records) (length bytes)) (length records) (treeWords a s b t))
+    × (bytes ≡ leftBy (usedAnswer a b (length records) (length bytes)) (length bytes) (treeTexts a s b t)))
 left-zero a s b t records bytes z r =
     (r, (z .words ∙ ap (λ (o : Answer (Unit {0})). leftBy o (length records) (treeWords a s b t)) r, z .texts ∙ ap (λ (o : Answer (Unit {0})). leftBy o (length bytes) (treeTexts a s b t)) r))

@@ -1,19 +1,17 @@
 -- What is known of a layout's records: the report's comes first among the live ones, and all are good. Assumes nothing.
-use Prim.Native.Nat.{ℕ, _+_, _*_, _≤_}
+use Prim.Native.Nat.{ℕ, _*_, _≤_}
 use mathlib.Core.Bool.{Bool, true, false, cond, _&&_, false≢true}
 use mathlib.Core.List.{List, [], _∷_, map}
-use mathlib.Core.Option.{Option, some}
+use mathlib.Core.Option.{some}
 use mathlib.Core.Path.{_≡_, refl, sym, ap, _∙_}
-use native.Mathlib.Omega.{arith}
 use lib.ListN.{length, drop}
 use Rattle.schema.proofs.Tests.{and-left, and-right}
 use Rattle.schema.specs.Schema.{report}
 use Rattle.schema.specs.Texts.{fieldsOf}
 use Rattle.schema.specs.Elements as named
-use Rattle.list_sums.specs.inside.Rows.{recordsIn}
 use Rattle.list_sums.proofs.Used.{records-used}
 use Rattle.tree_record.specs.Record.{hasBit, live}
-use Rattle.tree_report.specs.Report.{Report, TestSuite}
+use Rattle.tree_report.specs.Report.{TestSuite}
 use Rattle.tree_report.specs.Fields.{isReport, isSuite, isCase, isSuiteExtra, isCaseExtra, isSuiteProperty, isCaseProperty}
 use Rattle.tree_report.specs.Layout.{usedWords, usedText, filled, goodText, zeroAt, goodRecord, allGood, allZero}
 use Rattle.tree_report.specs.inside.Parts.{goodReport, goodCommon, goodCounts, onlyBits, reportBits, slot}

@@ -8,8 +8,10 @@ use merge_head::nanos_of;
 use merge_head::put_head;
 use merge_head::report_in;
 use merge_head::sums_of;
+use merge_limits::Step;
+use merge_limits::is_long;
+use merge_limits::room_by;
 use merge_records::Mark;
-use merge_records::Needs;
 use merge_records::needs_of;
 use merge_records::put_rows;
 use merge_rows::put_text;
@@ -35,6 +37,7 @@ ghost use Rattle.refusal.specs.Refusal.{refused, late};
 ghost use Rattle.schema.specs.Stores.{splice};
 ghost use Rattle.tree_report.specs.Layout.{layout};
 ghost use Rattle.tree_merge.specs.Answer.{mergeAnswer, outcomeOf, merged, recordsLeft, textLeft};
+ghost use Rattle.merge_limits.specs.inside.Limits.{stepAnswer};
 ghost use Rattle.merge_records.specs.inside.Copied.{belowIn, sizesIn};
 ghost use Rattle.merge_head.specs.inside.Head.{headOf};
 ghost use Rattle.merger.specs.Answer.{mergingFrom};
@@ -46,33 +49,20 @@ pub struct Merging {
     pub refusal: Refusal,
 }
 
-enum Step {
-    Done,
-    Not(Cause),
-}
-
-// 12, then 13: one record for the report, and the two trees' needs.
-fn room_by(x: Needs, y: Needs, name: u64, words: usize, bytes: usize) -> Step
-    requires { ⌜ (x .records ≤ mostWords) × (y .records ≤ mostWords) × (x .bytes ≤ 2251799813685248) × (y .bytes ≤ 2251799813685248) × (name < 4294967296) ⌝ }
-    ensures { λ r. ⌜ whole.stepAnswer r ≡ whole.roomBy (x .records + y .records) (name + x .bytes + y .bytes) words bytes ⌝ }
-{
-    if words / 32 <= x.records + y.records {
-        return Step::Not(Cause::RecordsSpent);
-    }
-    if (bytes as u64) < name + x.bytes + y.bytes {
-        return Step::Not(Cause::TextFull);
-    }
-    Step::Done
-}
-
+// One record for the report, and what the two trees need.
 fn room_for(first: &[u32], second: &[u32], words: usize, bytes: usize) -> Step
     requires { ⌜ (length (now first) ≤ mostWords) × (length (now second) ≤ mostWords) ⌝ }
-    ensures { λ r. ⌜ whole.stepAnswer r ≡ whole.roomFor (now (first .entry)) (now (second .entry)) words bytes ⌝ }
+    ensures { λ r. ⌜ stepAnswer r ≡ whole.roomFor (now (first .entry)) (now (second .entry)) words bytes ⌝ }
 {
     let x = needs_of(first);
     let y = needs_of(second);
     let name = name_size(report_in(first));
-    room_by(x, y, name, words, bytes)
+    room_by(
+        x.records + y.records,
+        name + x.bytes + y.bytes,
+        words,
+        bytes,
+    )
 }
 
 // The name at the front of the text area.
@@ -132,15 +122,7 @@ fn put_tree(
     let a = report_in(first);
     let b = report_in(second);
     put_head(&mut records[..32], a, b, counts, nanos);
-    put_below(
-        first,
-        first_text,
-        second,
-        second_text,
-        a,
-        records,
-        text,
-    );
+    put_below(first, first_text, second, second_text, a, records, text);
 }
 
 // The counts and the time are added.
@@ -156,10 +138,12 @@ fn place(
 ) -> Step
     requires { ⌜ (nanos < 8388608000000000) × (counts ≡ whole.sumsOf (now first) (now second)) × (nanos ≡ whole.nanosFor (now first) (now second))
         × whole.Sized (now first) (now «first_text») (now second) (now «second_text») × whole.Zero (now records) (now text) ⌝ }
-    ensures { λ r. ⌜ whole.stepAnswer r ≡ whole.roomFor (now (first .entry)) (now (second .entry)) (length (now (records .entry))) (length (now (text .entry))) ⌝ }
-    ensures { λ r. ⌜ now (records .exit) ≡ whole.leftBy (whole.roomFor (now (first .entry)) (now (second .entry)) (length (now (records .entry))) (length (now (text .entry)))) (length (now (records .entry)))
+    ensures { λ r. ⌜ stepAnswer r ≡ whole.roomFor (now (first .entry)) (now (second .entry)) (length (now (records .entry))) (length (now (text .entry))) ⌝ }
+    ensures { λ r.
+        ⌜ now (records .exit) ≡ whole.leftBy (whole.roomFor (now (first .entry)) (now (second .entry)) (length (now (records .entry))) (length (now (text .entry)))) (length (now (records .entry)))
         (whole.treeWords (now (first .entry)) (now («first_text» .entry)) (now (second .entry)) (now («second_text» .entry))) ⌝ }
-    ensures { λ r. ⌜ now (text .exit) ≡ whole.leftBy (whole.roomFor (now (first .entry)) (now (second .entry)) (length (now (records .entry))) (length (now (text .entry)))) (length (now (text .entry)))
+    ensures { λ r.
+        ⌜ now (text .exit) ≡ whole.leftBy (whole.roomFor (now (first .entry)) (now (second .entry)) (length (now (records .entry))) (length (now (text .entry)))) (length (now (text .entry)))
         (whole.treeTexts (now (first .entry)) (now («first_text» .entry)) (now (second .entry)) (now («second_text» .entry))) ⌝ }
 {
     let room = room_for(first, second, records.len(), text.len());
@@ -189,10 +173,12 @@ fn merge_used(
     text: &mut [u8],
 ) -> Step
     requires { ⌜ whole.Sized (now first) (now «first_text») (now second) (now «second_text») × whole.Zero (now records) (now text) ⌝ }
-    ensures { λ r. ⌜ whole.stepAnswer r ≡ whole.usedAnswer (now (first .entry)) (now (second .entry)) (length (now (records .entry))) (length (now (text .entry))) ⌝ }
-    ensures { λ r. ⌜ now (records .exit) ≡ whole.leftBy (whole.usedAnswer (now (first .entry)) (now (second .entry)) (length (now (records .entry))) (length (now (text .entry)))) (length (now (records .entry)))
+    ensures { λ r. ⌜ stepAnswer r ≡ whole.usedAnswer (now (first .entry)) (now (second .entry)) (length (now (records .entry))) (length (now (text .entry))) ⌝ }
+    ensures { λ r.
+        ⌜ now (records .exit) ≡ whole.leftBy (whole.usedAnswer (now (first .entry)) (now (second .entry)) (length (now (records .entry))) (length (now (text .entry)))) (length (now (records .entry)))
         (whole.treeWords (now (first .entry)) (now («first_text» .entry)) (now (second .entry)) (now («second_text» .entry))) ⌝ }
-    ensures { λ r. ⌜ now (text .exit) ≡ whole.leftBy (whole.usedAnswer (now (first .entry)) (now (second .entry)) (length (now (records .entry))) (length (now (text .entry)))) (length (now (text .entry)))
+    ensures { λ r.
+        ⌜ now (text .exit) ≡ whole.leftBy (whole.usedAnswer (now (first .entry)) (now (second .entry)) (length (now (records .entry))) (length (now (text .entry)))) (length (now (text .entry)))
         (whole.treeTexts (now (first .entry)) (now («first_text» .entry)) (now (second .entry)) (now («second_text» .entry))) ⌝ }
 {
     let a = report_in(first);
@@ -203,7 +189,7 @@ fn merge_used(
         return Step::Not(Cause::CountLimit);
     };
     let nanos = nanos_of(a, b);
-    if 8388608000000000 <= nanos {
+    if is_long(nanos) {
         return Step::Not(Cause::TimeLimit);
     }
     let counts = sums.counts;
@@ -230,9 +216,12 @@ fn merge_known(
 ) -> Step
     requires { ⌜ (layout (now first) (now «first_text») ≡ true) × (layout (now second) (now «second_text») ≡ true)
         × (now records ≡ zeros (length (now records))) × (now text ≡ zeros (length (now text))) ⌝ }
-    ensures { λ r. ⌜ whole.stepAnswer r ≡ mergeAnswer (now (first .entry)) (now («first_text» .entry)) (now (second .entry)) (now («second_text» .entry)) (length (now (records .entry))) (length (now (text .entry))) ⌝ }
-    ensures { λ r. ⌜ now (records .exit) ≡ recordsLeft (now (first .entry)) (now («first_text» .entry)) (now (second .entry)) (now («second_text» .entry)) (length (now (records .entry))) (length (now (text .entry))) ⌝ }
-    ensures { λ r. ⌜ now (text .exit) ≡ textLeft (now (first .entry)) (now («first_text» .entry)) (now (second .entry)) (now («second_text» .entry)) (length (now (records .entry))) (length (now (text .entry))) ⌝ }
+    ensures { λ r. ⌜ stepAnswer r
+        ≡ mergeAnswer (now (first .entry)) (now («first_text» .entry)) (now (second .entry)) (now («second_text» .entry)) (length (now (records .entry))) (length (now (text .entry))) ⌝ }
+    ensures { λ r. ⌜ now (records .exit)
+        ≡ recordsLeft (now (first .entry)) (now («first_text» .entry)) (now (second .entry)) (now («second_text» .entry)) (length (now (records .entry))) (length (now (text .entry))) ⌝ }
+    ensures { λ r. ⌜ now (text .exit)
+        ≡ textLeft (now (first .entry)) (now («first_text» .entry)) (now (second .entry)) (now («second_text» .entry)) (length (now (records .entry))) (length (now (text .entry))) ⌝ }
 {
     let a = least(first.len(), limit::WORDS);
     let s = least(first_text.len(), limit::BYTES);
@@ -260,7 +249,7 @@ fn refuse(cause: Cause) -> Merging
 }
 
 fn merging_of(step: Step) -> Merging
-    ensures { λ r. ⌜ r ≡ mergingFrom (outcomeOf (whole.stepAnswer step)) ⌝ }
+    ensures { λ r. ⌜ r ≡ mergingFrom (outcomeOf (stepAnswer step)) ⌝ }
 {
     match step {
         Step::Done => Merging {
@@ -280,9 +269,12 @@ pub fn merge(
     records: &mut [u32],
     text: &mut [u8],
 ) -> Merging
-    ensures { λ r. ⌜ r ≡ mergingFrom (merged (now (first .entry)) (now («first_text» .entry)) (now (second .entry)) (now («second_text» .entry)) (length (now (records .entry))) (length (now (text .entry)))) ⌝ }
-    ensures { λ r. ⌜ now (records .exit) ≡ recordsLeft (now (first .entry)) (now («first_text» .entry)) (now (second .entry)) (now («second_text» .entry)) (length (now (records .entry))) (length (now (text .entry))) ⌝ }
-    ensures { λ r. ⌜ now (text .exit) ≡ textLeft (now (first .entry)) (now («first_text» .entry)) (now (second .entry)) (now («second_text» .entry)) (length (now (records .entry))) (length (now (text .entry))) ⌝ }
+    ensures { λ r.
+        ⌜ r ≡ mergingFrom (merged (now (first .entry)) (now («first_text» .entry)) (now (second .entry)) (now («second_text» .entry)) (length (now (records .entry))) (length (now (text .entry)))) ⌝ }
+    ensures { λ r. ⌜ now (records .exit)
+        ≡ recordsLeft (now (first .entry)) (now («first_text» .entry)) (now (second .entry)) (now («second_text» .entry)) (length (now (records .entry))) (length (now (text .entry))) ⌝ }
+    ensures { λ r. ⌜ now (text .exit)
+        ≡ textLeft (now (first .entry)) (now («first_text» .entry)) (now (second .entry)) (now («second_text» .entry)) (length (now (records .entry))) (length (now (text .entry))) ⌝ }
 {
     clear_tree(records, text);
     if !is_layout(first, first_text) {
@@ -291,13 +283,6 @@ pub fn merge(
     if !is_layout(second, second_text) {
         return refuse(Cause::NotLayout);
     }
-    let step = merge_known(
-        first,
-        first_text,
-        second,
-        second_text,
-        records,
-        text,
-    );
+    let step = merge_known(first, first_text, second, second_text, records, text);
     merging_of(step)
 }

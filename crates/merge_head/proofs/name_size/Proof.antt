@@ -3,33 +3,23 @@ use mathlib.Core.Path.{refl, sym, _∙_}
 use borrow.Author.Needs.{needs}
 use Rattle.merge_head.proofs.name_size.Statement.{statement}
 use Rattle.merge_head.proofs.name_size.Tie as tie
-use Rattle.merge_head.proofs.name_size.Reads as reads
-use Rattle.merge_head.proofs.name_size.Lts as lts
-use Rattle.tree_record.proofs.field.Reads as field-reads
-use Rattle.tree_record.proofs.has_bit.Reads as has-bit-reads
 
--- src/lib.rt:75:8
 has-bit-requires : tie.Need-has-bit-requires
 has-bit-requires c κs = search needs
 
--- src/lib.rt:76:25
 add-field : tie.Need-add-field
 add-field c = search needs
 
--- src/lib.rt:76:16
 field-requires : tie.Need-field-requires
 field-requires c κs = search needs
 
--- src/lib.rt:76:16
 cast-result : tie.Need-cast-result
 cast-result c = search needs
 
--- src/lib.rt:76:9
 returns : tie.Need-returns
 unfolding nameSize
 returns c = (rw (sym (c .before .before .has-bit .ensures) ∙ c .before .if1 .taken) (c .field .ensures), search needs)
 
--- src/lib.rt:71:1
 returns-2 : tie.Need-returns-2
 unfolding nameSize
 returns-2 c = (rw (sym (c .before .has-bit .ensures) ∙ c .if1 .left) refl, search needs)

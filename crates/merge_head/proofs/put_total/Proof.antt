@@ -4,41 +4,33 @@ use mathlib.Core.Path.{refl, sym, ap₂, _∙_}
 use borrow.Author.Needs.{needs}
 use Rattle.merge_head.proofs.put_total.Statement.{statement}
 use Rattle.merge_head.proofs.put_total.Tie as tie
-use Rattle.merge_head.proofs.put_total.Reads as reads
-use Rattle.merge_head.proofs.put_total.Lts as lts
-use Rattle.tree_record.proofs.has_bit.Reads as has-bit-reads
-use Rattle.tree_values.proofs.put_time.Reads as put-time-reads
 
--- src/lib.rt:125:8
 has-bit-requires : tie.Need-has-bit-requires
 has-bit-requires c κs = search needs
 
--- src/lib.rt:125:32
 has-bit-requires-2 : tie.Need-has-bit-requires-2
 has-bit-requires-2 c κs = search needs
 
--- src/lib.rt:126:23
 cast-put-time : tie.Need-cast-put-time
 cast-put-time c = search needs
 
--- src/lib.rt:126:52
 cast-put-time-2 : tie.Need-cast-put-time-2
 cast-put-time-2 c = search needs
 
--- src/lib.rt:126:9
 put-time-requires : tie.Need-put-time-requires
 put-time-requires c κs = search needs
 
--- src/lib.rt:121:1
 same-length : tie.Need-same-length
 same-length c = search needs
 
--- src/lib.rt:121:1
 returns : tie.Need-returns
 unfolding putTotal
-returns c = rw (sym (ap₂ _||_ (c .before .before .before .before .before .before .has-bit .ensures) (c .before .before .before .before .before .has-bit2 .ensures)) ∙ c .before .before .before .before .if1 .taken) (c .before .before .put-time .ensures)
+returns c =
+    let has-bit = c .before .before .before .before .before .before .has-bit in
+    let has-bit2 = c .before .before .before .before .before .has-bit2 in
+    let if1 = c .before .before .before .before .if1 in
+    rw (sym (ap₂ _||_ (has-bit .ensures) (has-bit2 .ensures)) ∙ if1 .taken) (c .before .before .put-time .ensures)
 
--- src/lib.rt:121:1
 returns-2 : tie.Need-returns-2
 unfolding putTotal
 returns-2 c = rw (sym (ap₂ _||_ (c .before .before .has-bit .ensures) (c .before .has-bit2 .ensures)) ∙ c .if1 .left) refl

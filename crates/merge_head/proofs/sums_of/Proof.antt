@@ -4,24 +4,16 @@ use mathlib.Core.Path.{ap₂, _∙_}
 use borrow.Author.Needs.{needs}
 use Rattle.merge_head.proofs.sums_of.Statement.{statement}
 use Rattle.merge_head.proofs.sums_of.Tie as tie
-use Rattle.merge_head.proofs.sums_of.Reads as reads
-use Rattle.merge_head.proofs.sums_of.Lts as lts
-use Rattle.build_counts.proofs.counts_in.Reads as counts-in-reads
-use Rattle.tree_counts.proofs.Counts.add_test_suite.Reads as add-test-suite-reads
 
--- src/lib.rt:49:9
 counts-in-requires : tie.Need-counts-in-requires
 counts-in-requires c κs = search needs
 
--- src/lib.rt:50:24
 counts-in-requires-2 : tie.Need-counts-in-requires-2
 counts-in-requires-2 c κs = search needs
 
--- src/lib.rt:50:5
 add-test-suite-requires : tie.Need-add-test-suite-requires
 add-test-suite-requires c κs = search needs
 
--- src/lib.rt:46:1
 returns : tie.Need-returns
 returns c = c .add-test-suite .ensures ∙ ap₂ (λ (x y : Counts). countedFrom x (withSuite x y)) (c .before .before .counts-in .ensures) (c .before .counts-in2 .ensures)
 

@@ -4,16 +4,10 @@ use Rattle.list_sums.proofs.Records.{stands-room}
 use lib.ListN.{length}
 use borrow.Author.Needs.{needs}
 use native.Mathlib.Omega.{arith}
-use mathlib.Core.Path.{sym, ap, _∙_}
-use Prim.Native.Nat.{_-_, _+_, _*_}
+use mathlib.Core.Path.{sym, _∙_}
+use Prim.Native.Nat.{_-_}
 use Rattle.merge_records.proofs.put_rows.Statement.{statement}
 use Rattle.merge_records.proofs.put_rows.Tie as tie
-use Rattle.merge_records.proofs.put_rows.Reads as reads
-use Rattle.merge_records.proofs.put_rows.Lts as lts
-use Rattle.list_sums.proofs.rows.stands_here.Reads as stands-here-reads
-use Rattle.merge_records.proofs.is_below.Reads as is-below-reads
-use Rattle.merge_rows.proofs.move_row.Reads as move-row-reads
-use Rattle.tree_record.proofs.field.Reads as field-reads
 
 abbrev Inv-loop : tie.InvT-loop
 Inv-loop words text out₀ bytes₀ next₀ fill₀ at₀ out bytes next fill at = Copying text words (record { word = next₀; fill = fill₀ }) out₀ bytes₀ out bytes next fill at
@@ -21,107 +15,153 @@ Inv-loop words text out₀ bytes₀ next₀ fill₀ at₀ out bytes next fill at
 abbrev μ-loop : tie.MeasureT-loop
 μ-loop words text out₀ bytes₀ next₀ fill₀ at₀ out bytes next fill at = length words - at
 
--- src/lib.rt:66:5
 loop-holds : tie.Need-loop-holds Inv-loop μ-loop
-loop-holds c = copying-start (c .before .before .before .before .pre)
+loop-holds c =
+    let pre = c .before .before .before .before .pre in
+    copying-start pre
 
--- src/lib.rt:66:23
 mul-stands-here : tie.Need-mul-stands-here Inv-loop μ-loop
 mul-stands-here c = omega (arith, c .loop .inv .fits)
 
--- src/lib.rt:66:23
 sub-stands-here : tie.Need-sub-stands-here Inv-loop μ-loop
 sub-stands-here c = omega (arith, c .loop .inv .fits)
 
--- src/lib.rt:66:23
 part-stands-here-start : tie.Need-part-stands-here-start Inv-loop μ-loop
 part-stands-here-start c = omega (arith, c .loop .inv .fits)
 
--- src/lib.rt:66:23
 part-stands-here-end : tie.Need-part-stands-here-end Inv-loop μ-loop
 part-stands-here-end c = search needs
 
--- src/lib.rt:66:11
 stands-here-requires : tie.Need-stands-here-requires Inv-loop μ-loop
 stands-here-requires c κs = search needs
 
--- src/lib.rt:67:19
 add-end : tie.Need-add-end Inv-loop μ-loop
-add-end c = omega (arith, stands-room (c .before .before .before .before .before .before .before .before .args .words .now) (c .before .before .before .loop .at) (sym (c .before .stands-here .ensures) ∙ c .if1 .taken))
+add-end c =
+    let args = c .before .before .before .before .before .before .before .before .args in
+    omega (arith, stands-room (args .words .now) (c .before .before .before .loop .at) (sym (c .before .stands-here .ensures) ∙ c .if1 .taken))
 
--- src/lib.rt:68:17
 mul-r : tie.Need-mul-r Inv-loop μ-loop
-mul-r c = omega (arith, stands-room (c .before .before .before .before .before .before .before .before .args .words .now) (c .before .before .before .loop .at) (sym (c .before .stands-here .ensures) ∙ c .if1 .taken))
+mul-r c =
+    let args = c .before .before .before .before .before .before .before .before .args in
+    omega (arith, stands-room (args .words .now) (c .before .before .before .loop .at) (sym (c .before .stands-here .ensures) ∙ c .if1 .taken))
 
--- src/lib.rt:68:17
 sub-r : tie.Need-sub-r Inv-loop μ-loop
 sub-r c = omega arith
 
--- src/lib.rt:68:17
 part-r-start : tie.Need-part-r-start Inv-loop μ-loop
 part-r-start c = omega arith
 
--- src/lib.rt:68:17
 part-r-end : tie.Need-part-r-end Inv-loop μ-loop
-part-r-end c = omega (arith, stands-room (c .before .before .before .before .before .before .before .before .args .words .now) (c .before .before .before .loop .at) (sym (c .before .stands-here .ensures) ∙ c .if1 .taken))
+part-r-end c =
+    let args = c .before .before .before .before .before .before .before .before .args in
+    omega (arith, stands-room (args .words .now) (c .before .before .before .loop .at) (sym (c .before .stands-here .ensures) ∙ c .if1 .taken))
 
--- src/lib.rt:70:21
 field-requires : tie.Need-field-requires Inv-loop μ-loop
 field-requires c κs = search needs
 
--- src/lib.rt:70:12
 is-below-requires : tie.Need-is-below-requires Inv-loop μ-loop
 is-below-requires c κs = search needs
 
--- src/lib.rt:71:26
 add-behind : tie.Need-add-behind Inv-loop μ-loop
-add-behind c = omega (arith, word-room (c .before .before .before .before .before .before .before .loop .inv) (sym (c .before .before .before .before .before .stands-here .ensures) ∙ c .before .before .before .before .if1 .taken) (below-kind (here (c .before .before .before .before .before .before .before .before .before .before .before .before .args .words .now) (c .before .before .before .before .before .before .before .loop .at)) (c .before .before .field .ensures) (c .before .is-below .ensures) (c .if2 .taken)))
+add-behind c =
+    let args = c .before .before .before .before .before .before .before .before .before .before .before .before .args in
+    let loop = c .before .before .before .before .before .before .before .loop in
+    let stands-here = c .before .before .before .before .before .stands-here in
+    let if1 = c .before .before .before .before .if1 in
+    omega (
+      arith,
+      word-room (loop .inv) (sym (stands-here .ensures) ∙ if1 .taken)
+          (below-kind (here (args .words .now) (loop .at)) (c .before .before .field .ensures) (c .before .is-below .ensures) (c .if2 .taken)),
+    )
 
--- src/lib.rt:72:29
 mul-move-row : tie.Need-mul-move-row Inv-loop μ-loop
-mul-move-row c = omega (arith, word-room (c .before .before .before .before .before .before .before .loop .inv) (sym (c .before .before .before .before .before .stands-here .ensures) ∙ c .before .before .before .before .if1 .taken) (below-kind (here (c .before .before .before .before .before .before .before .before .before .before .before .before .args .words .now) (c .before .before .before .before .before .before .before .loop .at)) (c .before .before .field .ensures) (c .before .is-below .ensures) (c .if2 .taken)))
+mul-move-row c =
+    let args = c .before .before .before .before .before .before .before .before .before .before .before .before .args in
+    let loop = c .before .before .before .before .before .before .before .loop in
+    let stands-here = c .before .before .before .before .before .stands-here in
+    let if1 = c .before .before .before .before .if1 in
+    omega (
+      arith,
+      word-room (loop .inv) (sym (stands-here .ensures) ∙ if1 .taken)
+          (below-kind (here (args .words .now) (loop .at)) (c .before .before .field .ensures) (c .before .is-below .ensures) (c .if2 .taken)),
+    )
 
--- src/lib.rt:72:29
 sub-move-row : tie.Need-sub-move-row Inv-loop μ-loop
 sub-move-row c = omega arith
 
--- src/lib.rt:72:29
 part-move-row-start : tie.Need-part-move-row-start Inv-loop μ-loop
 part-move-row-start c = omega arith
 
--- src/lib.rt:72:29
 part-move-row-end : tie.Need-part-move-row-end Inv-loop μ-loop
-part-move-row-end c = omega (arith, word-room (c .before .before .before .before .before .before .before .loop .inv) (sym (c .before .before .before .before .before .stands-here .ensures) ∙ c .before .before .before .before .if1 .taken) (below-kind (here (c .before .before .before .before .before .before .before .before .before .before .before .before .args .words .now) (c .before .before .before .before .before .before .before .loop .at)) (c .before .before .field .ensures) (c .before .is-below .ensures) (c .if2 .taken)))
+part-move-row-end c =
+    let args = c .before .before .before .before .before .before .before .before .before .before .before .before .args in
+    let loop = c .before .before .before .before .before .before .before .loop in
+    let stands-here = c .before .before .before .before .before .stands-here in
+    let if1 = c .before .before .before .before .if1 in
+    omega (
+      arith,
+      word-room (loop .inv) (sym (stands-here .ensures) ∙ if1 .taken)
+          (below-kind (here (args .words .now) (loop .at)) (c .before .before .field .ensures) (c .before .is-below .ensures) (c .if2 .taken)),
+    )
 
--- src/lib.rt:72:13
 move-row-requires : tie.Need-move-row-requires Inv-loop μ-loop
-move-row-requires c κs = (same-row (c .before .before .before .before .before .before .before .before .before .loop .inv) (sym (c .before .before .before .before .before .before .before .stands-here .ensures) ∙ c .before .before .before .before .before .before .if1 .taken) (below-kind (here (c .before .before .before .before .before .before .before .before .before .before .before .before .before .before .args .words .now) (c .before .before .before .before .before .before .before .before .before .loop .at)) (c .before .before .before .before .field .ensures) (c .before .before .before .is-below .ensures) (c .before .before .if2 .taken)), text-room (c .before .before .before .before .before .before .before .before .before .loop .inv) (sym (c .before .before .before .before .before .before .before .stands-here .ensures) ∙ c .before .before .before .before .before .before .if1 .taken) (below-kind (here (c .before .before .before .before .before .before .before .before .before .before .before .before .before .before .args .words .now) (c .before .before .before .before .before .before .before .before .before .loop .at)) (c .before .before .before .before .field .ensures) (c .before .before .before .is-below .ensures) (c .before .before .if2 .taken)), c .before .before .before .before .before .before .before .before .before .loop .inv .most)
+move-row-requires c κs =
+    let args = c .before .before .before .before .before .before .before .before .before .before .before .before .before .before .args in
+    let loop = c .before .before .before .before .before .before .before .before .before .loop in
+    let stands-here = c .before .before .before .before .before .before .before .stands-here in
+    let if1 = c .before .before .before .before .before .before .if1 in
+    let field = c .before .before .before .before .field in (
+      same-row (loop .inv) (sym (stands-here .ensures) ∙ if1 .taken)
+          (below-kind (here (args .words .now) (loop .at)) (field .ensures) (c .before .before .before .is-below .ensures) (c .before .before .if2 .taken)),
+      text-room (loop .inv) (sym (stands-here .ensures) ∙ if1 .taken)
+          (below-kind (here (args .words .now) (loop .at)) (field .ensures) (c .before .before .before .is-below .ensures) (c .before .before .if2 .taken)),
+      loop .inv .most,
+    )
 
--- src/lib.rt:66:5
 loop-less : tie.Need-loop-less Inv-loop μ-loop
-loop-less c = omega (arith, stands-room (c .before .before .before .before .before .before .before .before .before .before .before .before .before .before .before .before .before .before .before .args .words .now) (c .before .before .before .before .before .before .before .before .before .before .before .before .before .before .loop .at) (sym (c .before .before .before .before .before .before .before .before .before .before .before .before .stands-here .ensures) ∙ c .before .before .before .before .before .before .before .before .before .before .before .if1 .taken))
+loop-less c =
+    let args = c .before .before .before .before .before .before .before .before .before .before .before .before .before .before .before .before .before .before .before .args in
+    let loop = c .before .before .before .before .before .before .before .before .before .before .before .before .before .before .loop in
+    let stands-here = c .before .before .before .before .before .before .before .before .before .before .before .before .stands-here in
+    let if1 = c .before .before .before .before .before .before .before .before .before .before .before .if1 in
+    omega (arith, stands-room (args .words .now) (loop .at) (sym (stands-here .ensures) ∙ if1 .taken))
 
--- src/lib.rt:66:5
 loop-again : tie.Need-loop-again Inv-loop μ-loop
-loop-again c = copying-more (c .before .before .before .before .before .before .before .before .before .before .before .before .before .before .loop .inv) (sym (c .before .before .before .before .before .before .before .before .before .before .before .before .stands-here .ensures) ∙ c .before .before .before .before .before .before .before .before .before .before .before .if1 .taken) (below-kind (here (c .before .before .before .before .before .before .before .before .before .before .before .before .before .before .before .before .before .before .before .args .words .now) (c .before .before .before .before .before .before .before .before .before .before .before .before .before .before .loop .at)) (c .before .before .before .before .before .before .before .before .before .field .ensures) (c .before .before .before .before .before .before .before .before .is-below .ensures) (c .before .before .before .before .before .before .before .if2 .taken)) (c .before .before .before .before .move-row .ensures .0) (c .before .before .before .before .move-row .ensures .1 .0) (c .before .before .before .before .move-row .ensures .1 .1)
+loop-again c =
+    let at-loop = c .before .before .before .before .before .before .before .before .before .before .before .before .before .before in
+    let args = at-loop .before .before .before .before .before .args in
+    let stands-here = c .before .before .before .before .before .before .before .before .before .before .before .before .stands-here in
+    let if1 = c .before .before .before .before .before .before .before .before .before .before .before .if1 in
+    let field = c .before .before .before .before .before .before .before .before .before .field in
+    let is-below = c .before .before .before .before .before .before .before .before .is-below in
+    let if2 = c .before .before .before .before .before .before .before .if2 in
+    let move-row = c .before .before .before .before .move-row in
+    copying-more (at-loop .loop .inv) (sym (stands-here .ensures) ∙ if1 .taken) (below-kind (here (args .words .now) (at-loop .loop .at)) (field .ensures) (is-below .ensures) (if2 .taken))
+    (move-row .ensures .0) (move-row .ensures .1 .0) (move-row .ensures .1 .1)
 
--- src/lib.rt:66:5
 loop-less-2 : tie.Need-loop-less-2 Inv-loop μ-loop
-loop-less-2 c = omega (arith, stands-room (c .before .before .before .before .before .before .before .before .before .before .before .before .args .words .now) (c .before .before .before .before .before .before .before .loop .at) (sym (c .before .before .before .before .before .stands-here .ensures) ∙ c .before .before .before .before .if1 .taken))
+loop-less-2 c =
+    let args = c .before .before .before .before .before .before .before .before .before .before .before .before .args in
+    let loop = c .before .before .before .before .before .before .before .loop in
+    let stands-here = c .before .before .before .before .before .stands-here in
+    let if1 = c .before .before .before .before .if1 in
+    omega (arith, stands-room (args .words .now) (loop .at) (sym (stands-here .ensures) ∙ if1 .taken))
 
--- src/lib.rt:66:5
 loop-again-2 : tie.Need-loop-again-2 Inv-loop μ-loop
-loop-again-2 c = copying-pass (c .before .before .before .before .before .before .before .loop .inv) (sym (c .before .before .before .before .before .stands-here .ensures) ∙ c .before .before .before .before .if1 .taken) (below-kind (here (c .before .before .before .before .before .before .before .before .before .before .before .before .args .words .now) (c .before .before .before .before .before .before .before .loop .at)) (c .before .before .field .ensures) (c .before .is-below .ensures) (c .if2 .left))
+loop-again-2 c =
+    let args = c .before .before .before .before .before .before .before .before .before .before .before .before .args in
+    let loop = c .before .before .before .before .before .before .before .loop in
+    let stands-here = c .before .before .before .before .before .stands-here in
+    let if1 = c .before .before .before .before .if1 in
+    copying-pass (loop .inv) (sym (stands-here .ensures) ∙ if1 .taken)
+    (below-kind (here (args .words .now) (loop .at)) (c .before .before .field .ensures) (c .before .is-below .ensures) (c .if2 .left))
 
--- src/lib.rt:57:1
 same-length : tie.Need-same-length Inv-loop μ-loop
 same-length c = c .before .before .before .loop .inv .sameWords
 
--- src/lib.rt:57:1
 same-length-2 : tie.Need-same-length-2 Inv-loop μ-loop
 same-length-2 c = c .before .before .before .loop .inv .sameBytes
 
--- src/lib.rt:57:1
 returns : tie.Need-returns Inv-loop μ-loop
 returns c = let s = sym (c .before .stands-here .ensures) ∙ c .if1 .left in
     let i = c .before .before .before .loop .inv in

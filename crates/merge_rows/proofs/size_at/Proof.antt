@@ -3,33 +3,23 @@ use mathlib.Core.Path.{refl, sym, _∙_}
 use borrow.Author.Needs.{needs}
 use Rattle.merge_rows.proofs.size_at.Statement.{statement}
 use Rattle.merge_rows.proofs.size_at.Tie as tie
-use Rattle.merge_rows.proofs.size_at.Reads as reads
-use Rattle.merge_rows.proofs.size_at.Lts as lts
-use Rattle.merge_rows.proofs.has_text.Reads as has-text-reads
-use Rattle.tree_record.proofs.field.Reads as field-reads
 
--- src/lib.rt:56:8
 has-text-requires : tie.Need-has-text-requires
 has-text-requires c κs = search needs
 
--- src/lib.rt:57:25
 add-field : tie.Need-add-field
 add-field c = search needs
 
--- src/lib.rt:57:16
 field-requires : tie.Need-field-requires
 field-requires c κs = search needs
 
--- src/lib.rt:57:16
 cast-result : tie.Need-cast-result
 cast-result c = search needs
 
--- src/lib.rt:57:9
 returns : tie.Need-returns
 unfolding sizeAt
 returns c = (rw (sym (c .before .before .has-text .ensures) ∙ c .before .if1 .taken) (c .field .ensures), search needs)
 
--- src/lib.rt:51:1
 returns-2 : tie.Need-returns-2
 unfolding sizeAt
 returns-2 c = (rw (sym (c .before .has-text .ensures) ∙ c .if1 .left) refl, search needs)

@@ -5,73 +5,58 @@ use mathlib.Core.Path.{ap, _∙_}
 use borrow.Author.Needs.{needs}
 use Rattle.merge_rows.proofs.sizes_of.Statement.{statement}
 use Rattle.merge_rows.proofs.sizes_of.Tie as tie
-use Rattle.merge_rows.proofs.sizes_of.Reads as reads
-use Rattle.merge_rows.proofs.sizes_of.Lts as lts
-use Rattle.merge_rows.proofs.size_at.Reads as size-at-reads
-use Rattle.merge_rows.proofs.text_bits.Reads as text-bits-reads
-use Rattle.tree_record.proofs.field.Reads as field-reads
 
--- src/lib.rt:67:23
 field-requires : tie.Need-field-requires
 field-requires c κs = search needs
 
--- src/lib.rt:67:9
 text-bits-requires : tie.Need-text-bits-requires
 text-bits-requires c κs = search needs
 
--- src/lib.rt:68:5
 size-at-requires : tie.Need-size-at-requires
 size-at-requires c κs = search needs
 
--- src/lib.rt:69:11
 size-at-requires-2 : tie.Need-size-at-requires-2
 size-at-requires-2 c κs = search needs
 
--- src/lib.rt:68:5
 add-result : tie.Need-add-result
 add-result c = search needs
 
--- src/lib.rt:70:11
 size-at-requires-3 : tie.Need-size-at-requires-3
 size-at-requires-3 c κs = search needs
 
--- src/lib.rt:68:5
 add-result-2 : tie.Need-add-result-2
 add-result-2 c = search needs
 
--- src/lib.rt:71:11
 size-at-requires-4 : tie.Need-size-at-requires-4
 size-at-requires-4 c κs = search needs
 
--- src/lib.rt:68:5
 add-result-3 : tie.Need-add-result-3
 add-result-3 c = search needs
 
--- src/lib.rt:72:11
 size-at-requires-5 : tie.Need-size-at-requires-5
 size-at-requires-5 c κs = search needs
 
--- src/lib.rt:68:5
 add-result-4 : tie.Need-add-result-4
 add-result-4 c = search needs
 
--- src/lib.rt:73:11
 size-at-requires-6 : tie.Need-size-at-requires-6
 size-at-requires-6 c κs = search needs
 
--- src/lib.rt:68:5
 add-result-5 : tie.Need-add-result-5
 add-result-5 c = search needs
 
--- src/lib.rt:63:1
 returns : tie.Need-returns
-returns c = let a = c .before .before .before .before .before .size-at .ensures in
+returns c =
+    let args = c .before .before .before .before .before .before .before .before .before .args in
+    let field = c .before .before .before .before .before .before .before .field in
+    let text-bits = c .before .before .before .before .before .before .text-bits in
+    let a = c .before .before .before .before .before .size-at .ensures in
     let b = c .before .before .before .before .size-at2 .ensures in
     let d = c .before .before .before .size-at3 .ensures in
     let e = c .before .before .size-at4 .ensures in
     let f = c .before .size-at5 .ensures in
     let g = c .size-at6 .ensures in
-    (sizes-added (c .before .before .before .before .before .before .before .before .before .args .r .now) (c .before .before .before .before .before .before .text-bits .ensures ∙ ap textBits (c .before .before .before .before .before .before .before .field .ensures)) (a .0) (b .0) (d .0) (e .0) (f .0) (g .0), omega (arith, a .1, b .1, d .1, e .1, f .1, g .1))
+    (sizes-added (args .r .now) (text-bits .ensures ∙ ap textBits (field .ensures)) (a .0) (b .0) (d .0) (e .0) (f .0) (g .0), omega (arith, a .1, b .1, d .1, e .1, f .1, g .1))
 
 pub sizes-of-spec : {M : Type 1} → statement M
 sizes-of-spec =

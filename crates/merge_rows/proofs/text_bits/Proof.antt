@@ -27,16 +27,28 @@ returns-4 c =
 returns-5 : tie.Need-returns-5
 unfolding textBits
 returns-5 c =
+    let if1 = c .before .before .before .before .if1 in
     let k = c .before .before .before .before .before .args .k in
-    rw (ne-eqb k 2 (c .before .before .before .before .if1 .left), ne-eqb k 3 (c .before .before .before .if2 .left), lt-leb k 5 (c .before .before .if3 .left),
-    lt-leb k 8 (c .before .if4 .left), le-leb k 12 (c .if5 .taken)) refl
+    rw (
+      ne-eqb k 2 (if1 .left),
+      ne-eqb k 3 (c .before .before .before .if2 .left),
+      lt-leb k 5 (c .before .before .if3 .left),
+      lt-leb k 8 (c .before .if4 .left),
+      le-leb k 12 (c .if5 .taken),
+    ) refl
 
 returns-6 : tie.Need-returns-6
 unfolding textBits
 returns-6 c =
+    let if1 = c .before .before .before .before .if1 in
     let k = c .before .before .before .before .before .args .k in
-    rw (ne-eqb k 2 (c .before .before .before .before .if1 .left), ne-eqb k 3 (c .before .before .before .if2 .left), lt-leb k 5 (c .before .before .if3 .left),
-    lt-leb k 8 (c .before .if4 .left), lt-leb k 12 (c .if5 .left)) refl
+    rw (
+      ne-eqb k 2 (if1 .left),
+      ne-eqb k 3 (c .before .before .before .if2 .left),
+      lt-leb k 5 (c .before .before .if3 .left),
+      lt-leb k 8 (c .before .if4 .left),
+      lt-leb k 12 (c .if5 .left),
+    ) refl
 
 pub text-bits-spec : {M : Type 1} → statement M
 text-bits-spec = tie.close (tie.spec returns returns-2 returns-3 returns-4 returns-5 returns-6)

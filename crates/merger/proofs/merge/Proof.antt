@@ -5,81 +5,80 @@ use mathlib.Core.Path.{sym, _∙_}
 use borrow.Author.Needs.{needs}
 use Rattle.merger.proofs.merge.Statement.{statement}
 use Rattle.merger.proofs.merge.Tie as tie
-use Rattle.merger.proofs.merge.Reads as reads
-use Rattle.merger.proofs.merge.Lts as lts
-use Rattle.clearing.proofs.clear_tree.Reads as clear-tree-reads
-use Rattle.merger.proofs.merge_known.Reads as merge-known-reads
-use Rattle.merger.proofs.merging_of.Reads as merging-of-reads
-use Rattle.merger.proofs.refuse.Reads as refuse-reads
-use Rattle.tree_layout.proofs.is_layout.Reads as is-layout-reads
 
--- src/lib.rt:287:5
 clear-tree-requires : tie.Need-clear-tree-requires
 clear-tree-requires c κs = search needs
 
--- src/lib.rt:288:9
 is-layout-requires : tie.Need-is-layout-requires
 is-layout-requires c κs = search needs
 
--- src/lib.rt:289:9
 refuse-requires : tie.Need-refuse-requires
 refuse-requires c κs = search needs
 
--- src/lib.rt:289:9
 same-length : tie.Need-same-length
 same-length c = search needs
 
--- src/lib.rt:289:9
 same-length-2 : tie.Need-same-length-2
 same-length-2 c = search needs
 
--- src/lib.rt:289:9
 returns : tie.Need-returns
-returns c = let s = c .before .before .before .before .before .before .before .before .before .before .before .before .before .before .before .before .args in
-    not-first (s .first .now) (s .first-text .now) (s .second .now) (s .second-text .now) (length (s .records .now)) (length (s .text .now)) (sym (c .before .before .is-layout .ensures) ∙ not-true _ (c .before .if1 .taken)) (c .refuse .ensures) (c .before .before .before .before .before .before .before .clear-tree .ensures .0) (c .before .before .before .before .before .before .before .clear-tree .ensures .1)
+returns c =
+    let clear-tree = c .before .before .before .before .before .before .before .clear-tree in
+    let s = c .before .before .before .before .before .before .before .before .before .before .before .before .before .before .before .before .args in
+    not-first (s .first .now) (s .first-text .now) (s .second .now) (s .second-text .now) (length (s .records .now)) (length (s .text .now))
+    (sym (c .before .before .is-layout .ensures) ∙ not-true _ (c .before .if1 .taken)) (c .refuse .ensures) (clear-tree .ensures .0) (clear-tree .ensures .1)
 
--- src/lib.rt:291:9
 is-layout-requires-2 : tie.Need-is-layout-requires-2
 is-layout-requires-2 c κs = search needs
 
--- src/lib.rt:292:9
 refuse-requires-2 : tie.Need-refuse-requires-2
 refuse-requires-2 c κs = search needs
 
--- src/lib.rt:292:9
 same-length-3 : tie.Need-same-length-3
 same-length-3 c = search needs
 
--- src/lib.rt:292:9
 same-length-4 : tie.Need-same-length-4
 same-length-4 c = search needs
 
--- src/lib.rt:292:9
 returns-2 : tie.Need-returns-2
-returns-2 c = let s = c .before .before .before .before .before .before .before .before .before .before .before .before .before .before .before .before .before .before .args in
-    not-second (s .first .now) (s .first-text .now) (s .second .now) (s .second-text .now) (length (s .records .now)) (length (s .text .now)) (sym (c .before .before .before .before .is-layout .ensures) ∙ not-false _ (c .before .before .before .if1 .left)) (sym (c .before .before .is-layout2 .ensures) ∙ not-true _ (c .before .if2 .taken)) (c .refuse2 .ensures) (c .before .before .before .before .before .before .before .before .before .clear-tree .ensures .0) (c .before .before .before .before .before .before .before .before .before .clear-tree .ensures .1)
+returns-2 c =
+    let clear-tree = c .before .before .before .before .before .before .before .before .before .clear-tree in
+    let is-layout = c .before .before .before .before .is-layout in
+    let s = c .before .before .before .before .before .before .before .before .before .before .before .before .before .before .before .before .before .before .args in
+    not-second (s .first .now) (s .first-text .now) (s .second .now) (s .second-text .now) (length (s .records .now))
+    (length (s .text .now)) (sym (is-layout .ensures) ∙ not-false _ (c .before .before .before .if1 .left))
+    (sym (c .before .before .is-layout2 .ensures) ∙ not-true _ (c .before .if2 .taken)) (c .refuse2 .ensures) (clear-tree .ensures .0) (clear-tree .ensures .1)
 
--- src/lib.rt:294:9
 merge-known-requires : tie.Need-merge-known-requires
-merge-known-requires c κs = let s = c .before .before .before .before .before .before .before .before .before .before .before .before .before .before .before .before .before .before .before .args in
-    (sym (c .before .before .before .before .before .is-layout .ensures) ∙ not-false _ (c .before .before .before .before .if1 .left), sym (c .before .before .before .is-layout2 .ensures) ∙ not-false _ (c .before .before .if2 .left), cleared-zero (length (s .records .now)) (c .before .before .before .before .before .before .before .before .before .before .clear-tree .ensures .0), cleared-zero (length (s .text .now)) (c .before .before .before .before .before .before .before .before .before .before .clear-tree .ensures .1))
+merge-known-requires c κs =
+    let clear-tree = c .before .before .before .before .before .before .before .before .before .before .clear-tree in
+    let is-layout = c .before .before .before .before .before .is-layout in
+    let if1 = c .before .before .before .before .if1 in
+    let s = c .before .before .before .before .before .before .before .before .before .before .before .before .before .before .before .before .before .before .before .args in (
+      sym (is-layout .ensures) ∙ not-false _ (if1 .left),
+      sym (c .before .before .before .is-layout2 .ensures) ∙ not-false _ (c .before .before .if2 .left),
+      cleared-zero (length (s .records .now)) (clear-tree .ensures .0),
+      cleared-zero (length (s .text .now)) (clear-tree .ensures .1),
+    )
 
--- src/lib.rt:302:5
 merging-of-requires : tie.Need-merging-of-requires
 merging-of-requires c κs = search needs
 
--- src/lib.rt:275:1
 same-length-5 : tie.Need-same-length-5
 same-length-5 c = search needs
 
--- src/lib.rt:275:1
 same-length-6 : tie.Need-same-length-6
 same-length-6 c = search needs
 
--- src/lib.rt:275:1
 returns-3 : tie.Need-returns-3
-returns-3 c = let s = c .before .before .before .before .before .before .before .before .before .before .before .before .before .before .before .before .before .before .before .before .before .before .before .before .before .args in
-    whole-merge (s .first .now) (s .first-text .now) (s .second .now) (s .second-text .now) (length (s .records .now)) (length (s .text .now)) (cleared (length (s .records .now)) (c .before .before .before .before .before .before .before .before .before .before .before .before .before .before .before .before .clear-tree .ensures .0)) (cleared (length (s .text .now)) (c .before .before .before .before .before .before .before .before .before .before .before .before .before .before .before .before .clear-tree .ensures .1)) (c .merging-of .ensures) (c .before .before .before .before .before .merge-known .ensures .0) (c .before .before .before .before .before .merge-known .ensures .1 .0) (c .before .before .before .before .before .merge-known .ensures .1 .1)
+returns-3 c =
+    let clear-tree = c .before .before .before .before .before .before .before .before .before .before .before .before .before .before .before .before .clear-tree in
+    let merge-known = c .before .before .before .before .before .merge-known in
+    let s = c .before .before .before .before .before .before .before .before .before .before .before .before .before
+    .before .before .before .before .before .before .before .before .before .before .before .before .args in
+    whole-merge (s .first .now) (s .first-text .now) (s .second .now) (s .second-text .now) (length (s .records .now)) (length (s .text .now))
+    (cleared (length (s .records .now)) (clear-tree .ensures .0)) (cleared (length (s .text .now)) (clear-tree .ensures .1))
+    (c .merging-of .ensures) (merge-known .ensures .0) (merge-known .ensures .1 .0) (merge-known .ensures .1 .1)
 
 pub merge-spec : {M : Type 1} → statement M
 merge-spec =

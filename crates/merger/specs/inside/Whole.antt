@@ -1,9 +1,9 @@
 -- The merged tree by the words of two, as the code finds it. Definitions only.
-use Prim.Native.Nat.{ℕ, _+_, _*_, _/_, _≤_}
+use Prim.Native.Nat.{ℕ, _+_, _*_, _≤_}
 use mathlib.Core.Bool.{cond}
 use mathlib.Core.List.{List, [], _++_}
 use mathlib.Core.Path.{_≡_}
-use lib.Dec.{leb, ltb}
+use lib.Dec.{leb}
 use lib.ListN.{length}
 use Rattle.area.specs.Answer.{Answer, gives, refuses}
 use Rattle.area.specs.Area.{zeros}
@@ -17,13 +17,8 @@ use Rattle.tree_counts.specs.declared.Counts.{Counts}
 use Rattle.tree_counts.specs.Counts.{added, areCounts}
 use Rattle.build_draft.specs.Parts.{countsIn}
 use Rattle.merge_head.specs.inside.Head.{firstOf, nanosIn, nameSize, headOf}
+use Rattle.merge_limits.specs.inside.Limits.{roomBy}
 use Rattle.merge_records.specs.inside.Copied.{belowIn, sizesIn, textsFor, recordsFor}
-use Rattle.merger.specs.declared.Step.{Step}
-use Rattle.merger.specs.declared.Step.the-variants.{Done, Not}
-
-abbrev pub stepAnswer : Step → Answer (Unit {0})
-stepAnswer Done = gives tt
-stepAnswer (Not c) = refuses c
 
 unfoldable pub reportIn : List ℕ → List ℕ
 reportIn words = firstOf (only live (recordsIn words))
@@ -51,10 +46,6 @@ unfoldable pub treeWords : (a s b t : List ℕ) → List ℕ
 treeWords a s b t = headOf (reportIn a) (reportIn b) (sumsOf a b) (nanosFor a b) (zeros 32) ++ rowsFor a s b t (length (nameText s (reportIn a)))
 
 -- ---- 17, then 22, then 12, then 13
-abbrev pub roomBy : (records bytes words room : ℕ) → Answer (Unit {0})
-roomBy records bytes words room =
-    cond (leb (words / 32) records) (refuses cause.RecordsSpent) (cond (ltb room bytes) (refuses cause.TextFull) (gives tt))
-
 unfoldable pub roomFor : (a b : List ℕ) (words bytes : ℕ) → Answer (Unit {0})
 roomFor a b words bytes = roomBy (length (belowIn a) + length (belowIn b)) (nameSize (reportIn a) + sizesIn (belowIn a) + sizesIn (belowIn b)) words bytes
 
