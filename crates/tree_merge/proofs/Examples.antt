@@ -59,7 +59,7 @@ plain = reportWords 0 0 0 0 0 0 0 0
 -- neither has a name, a suite, a time or a `disabled`
 nothing : recordsLeft plain [] plain [] 33 1 ≡ plain ++ (0 ∷ [])
 unfolding recordsLeft mergeAnswer limited placed mergedOf mergedTree mergedReport movedTo textsOf recordAt encode
-    layout goodText recordsOf recordsFrom goodRecord goodReport good goodOrder mayFollow following mayEnd tallied ruled reportOf need low high
+    layout goodText recordsOf recordsFrom goodRecord good goodOrder mayFollow following mayEnd tallied ruled reportOf need low high
 nothing = refl
 
 -- both have a UUID and a name: the first's name, no UUID
@@ -68,12 +68,12 @@ named start = reportWords 3 start 1 7 0 0 0 0
 
 names : recordsLeft (named 0) (bytes "ab") (named 1) (bytes "ab") 32 1 ≡ reportWords 1 0 1 0 0 0 0 0
 unfolding recordsLeft mergeAnswer limited placed mergedOf mergedTree mergedReport movedTo textsOf recordAt encode
-    layout goodText recordsOf recordsFrom goodRecord goodReport good goodOrder mayFollow following mayEnd tallied ruled reportOf need low high
+    layout goodText recordsOf recordsFrom goodRecord good goodOrder mayFollow following mayEnd tallied ruled reportOf need low high
 names = refl
 
 name-text : textLeft (named 0) (bytes "ab") (named 1) (bytes "ab") 32 3 ≡ bytes "a" ++ (0 ∷ 0 ∷ [])
 unfolding textLeft mergeAnswer limited placed mergedOf mergedTree mergedReport movedTo textsOf recordAt encode
-    layout goodText recordsOf recordsFrom goodRecord goodReport good goodOrder mayFollow following mayEnd tallied ruled reportOf need low high
+    layout goodText recordsOf recordsFrom goodRecord good goodOrder mayFollow following mayEnd tallied ruled reportOf need low high
 name-text = refl
 
 -- ---- refusals, in their order
@@ -86,24 +86,24 @@ short = reportWords 16 0 0 0 0 1 1 0
 
 too-long : mergeAnswer (long 0 0) [] short [] 0 0 ≡ refuses cause.TimeLimit
 unfolding mergeAnswer limited placed mergedOf mergedTree mergedReport movedTo textsOf recordAt encode
-    layout goodText recordsOf recordsFrom goodRecord goodReport good goodOrder mayFollow following mayEnd tallied ruled reportOf need low high
+    layout goodText recordsOf recordsFrom goodRecord good goodOrder mayFollow following mayEnd tallied ruled reportOf need low high
 too-long = refl
 
 -- 17 before 22
 too-many : mergeAnswer (long 4294967295 4294967295) [] short [] 0 0 ≡ refuses cause.CountLimit
 unfolding mergeAnswer limited placed mergedOf mergedTree mergedReport movedTo textsOf recordAt encode
-    layout goodText recordsOf recordsFrom goodRecord goodReport good goodOrder mayFollow following mayEnd tallied ruled reportOf need low high
+    layout goodText recordsOf recordsFrom goodRecord good goodOrder mayFollow following mayEnd tallied ruled reportOf need low high
 too-many = refl
 
 -- both areas are too short: 12
 no-records : mergeAnswer (named 0) (bytes "ab") plain [] 31 0 ≡ refuses cause.RecordsSpent
 unfolding mergeAnswer limited placed mergedOf mergedTree mergedReport movedTo textsOf recordAt encode
-    layout goodText recordsOf recordsFrom goodRecord goodReport good goodOrder mayFollow following mayEnd tallied ruled reportOf need low high
+    layout goodText recordsOf recordsFrom goodRecord good goodOrder mayFollow following mayEnd tallied ruled reportOf need low high
 no-records = refl
 
 no-text : mergeAnswer (named 0) (bytes "ab") plain [] 32 0 ≡ refuses cause.TextFull
 unfolding mergeAnswer limited placed mergedOf mergedTree mergedReport movedTo textsOf recordAt encode
-    layout goodText recordsOf recordsFrom goodRecord goodReport good goodOrder mayFollow following mayEnd tallied ruled reportOf need low high
+    layout goodText recordsOf recordsFrom goodRecord good goodOrder mayFollow following mayEnd tallied ruled reportOf need low high
 no-text = refl
 
 -- ---- texts that share bytes count each by itself; a dead record isn't copied
