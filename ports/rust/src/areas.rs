@@ -3,7 +3,7 @@
 
 use crate::limits::{self, RECORD};
 use crate::table::Table;
-use crate::Tree;
+use crate::{Refusal, Tree};
 
 /// The areas that a report is read or built in, allocated once and used again by each call.
 ///
@@ -77,6 +77,15 @@ impl Areas {
         if self.scratch.len() < scratch {
             self.scratch.resize(scratch, 0);
         }
+    }
+
+    /// The report that reading, building or merging left in these areas.
+    ///
+    /// # Errors
+    ///
+    /// 15 where they hold none.
+    pub fn tree(&self) -> Result<Tree<'_>, Refusal> {
+        Tree::from_layout(&self.records, &self.text)
     }
 
     /// Fills all areas with zeros, so that no text of a report is left in them.

@@ -60,6 +60,7 @@ pub enum Cause {
     NoSuchReport,
     /// 11: a release sheet over more than 4,096 reports.
     TooManyReports,
+    /// 22: the times of two reports that are merged reach 8,388,608 seconds.
     TimeLimit,
 }
 

@@ -397,6 +397,39 @@ fn release_sheets() {
 }
 
 #[test]
+fn halves_of_a_run() {
+    let half = |name: &str, suite: &str, time: &str| {
+        format!("<testsuites name=\"{name}\" tests=\"1\" time=\"{time}\"><testsuite name=\"{suite}\"/></testsuites>")
+    };
+    let (a, b, long) = (half("night", "lab", "1.25"), half("late", "field", "2"), half("x", "y", "8388605.75"));
+    let path = folder("halves", &[("a.xml", &a), ("b.xml", &b), ("long.xml", &long), ("no.xml", "<testsuites tests=\"private\"/>")]);
+    let [a, b, long, no, to, table] =
+        ["a.xml", "b.xml", "long.xml", "no.xml", "out.xml", "out.bin"].map(|name| path.join(name).to_str().unwrap().to_owned());
+    let two = "(report \"night\" 2 0 0 0 -\n(suite \"lab\" 0 0 0 0 -)\n(suite \"field\" 0 0 0 0 -))\n";
+    for to in [&to, &table] {
+        let ran = run(&["merge", &a, &b, "-o", to], b"");
+        assert_eq!((ran.status, ran.out.len(), ran.err.as_str()), (0, 0, ""));
+        assert_eq!(text(&run(&["list", to], b"")), two);
+    }
+    assert!(fs::read_to_string(&to).unwrap().contains(" time=\"3.250\""));
+    // a table that was written is one of them; more than two are told
+    let ran = run(&["merge", &table, &b, &a, "-o", &to], b"");
+    assert_eq!((ran.status, ran.err.as_str()), (0, "kerzhoma: 3 reports are merged one after the other, in this order\n"));
+    let listed = run(&["list", &to], b"");
+    assert!(text(&listed).starts_with("(report \"night\" 4 ") && text(&listed).matches("(suite ").count() == 4);
+    fs::remove_file(&to).unwrap();
+    // the summed time; a report that isn't accepted; one alone
+    let ran = run(&["merge", &a, &b, &long, "-o", &to], b"");
+    let why = "refused 22: the times of the two reports together reach 8388608 seconds";
+    assert_eq!((ran.status, ran.err), (1, format!("kerzhoma: {long}: {why}\n")));
+    let ran = run(&["merge", &a, &no, &b, "-o", &to], b"");
+    assert!(ran.status == 1 && ran.err.contains("refused 3 ") && !ran.err.contains("private"), "{}", ran.err);
+    let ran = run(&["merge", &a, "-o", &to], b"");
+    assert_eq!((ran.status, ran.err.as_str()), (2, "kerzhoma: merge needs two reports or more\n"));
+    assert!(!PathBuf::from(&to).exists());
+}
+
+#[test]
 fn first_and_last_start() {
     let case =
         |t: &mut TableBuilder, stamp: &str| _ = t.empty("testcase").attribute("name", "private").attribute("timestamp", stamp);
@@ -461,8 +494,8 @@ fn usage() {
     }
 }
 
-const COMMANDS: [&str; 11] =
-    ["list", "check", "explain", "summary", "write", "sheet", "span", "rehearse", "help", "man", "completions"];
+const COMMANDS: [&str; 12] =
+    ["list", "check", "explain", "summary", "write", "merge", "sheet", "span", "rehearse", "help", "man", "completions"];
 
 // Manual page and completions have every command with every option that its help tells.
 #[test]
@@ -597,6 +630,7 @@ fn outputs() {
         &["explain", file],
         &["summary", file],
         &["write", file],
+        &["merge", file, file],
         &["sheet", file],
         &["span", file],
         &["check", "--json", file],

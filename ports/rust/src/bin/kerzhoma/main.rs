@@ -1,4 +1,4 @@
-//! The command line: lists, checks, explains, sums up and writes reports. The table of commands stands in `table`.
+//! The command line: lists, checks, explains, sums up, writes and merges reports. The table of commands stands in `table`.
 #![deny(unsafe_code)]
 
 mod closed;
@@ -11,7 +11,7 @@ mod table;
 mod why;
 
 use json::Object;
-use kerzhoma::{print_sheet, read, read_and_list, rehearse, starts, to_xml, write};
+use kerzhoma::{merge, print_sheet, read, read_and_list, rehearse, starts, to_xml, write};
 use kerzhoma::{Areas, Counts, NonSuccessKind, Order, Refusal, Status, Table, TableBuf, Tree};
 use out::{say, Failed, Out};
 use parse::{parse, Asked, Parsed};
@@ -60,6 +60,8 @@ struct Work {
     status: u8,
     /// For `sheet`.
     stated: Vec<Counts>,
+    /// For `merge`: the reports so far as one.
+    merged: Option<Areas>,
 }
 
 type Done = Result<(), Failed>;
@@ -67,7 +69,7 @@ type Done = Result<(), Failed>;
 impl Work {
     fn of(mut asked: Asked) -> Self {
         let out = Out::new(asked.output.take());
-        Work { quiet: asked.has("quiet"), asked, out, several: false, status: ACCEPTED, stated: Vec::new() }
+        Work { quiet: asked.has("quiet"), asked, out, several: false, status: ACCEPTED, stated: Vec::new(), merged: None }
     }
 
     fn done(mut self) -> u8 {
@@ -103,6 +105,10 @@ impl Work {
     fn all(&mut self) -> Done {
         let (files, several) = files(&self.asked.words);
         self.several = several;
+        let count = files.len();
+        if self.asked.command.name == "merge" && count < 2 {
+            return Err(Failed(Some("merge needs two reports or more".to_owned())));
+        }
         for file in files {
             match file {
                 Ok(file) => self.one(&file)?,
@@ -115,7 +121,10 @@ impl Work {
                 Err(refusal) => self.refuse(&refusal),
             };
         }
-        Ok(())
+        match self.merged.take() {
+            Some(areas) if self.status == ACCEPTED => self.put_merged(&areas, count),
+            _ => Ok(()),
+        }
     }
 
     fn one(&mut self, file: &Path) -> Done {
@@ -139,6 +148,7 @@ impl Work {
             "explain" => self.explain(&loaded, table),
             "summary" => self.summary(&loaded, table),
             "write" => self.write(table),
+            "merge" => self.merge(table),
             "span" => self.span(&loaded, table),
             _ => self.add(&loaded, table),
         };
@@ -281,6 +291,31 @@ impl Work {
         let mut areas = Areas::for_table(&table);
         let tree = read(&table, &mut areas)?;
         self.put_report(&tree)
+    }
+
+    // The reports so far, and this one behind them.
+    fn merge(&mut self, table: &TableBuf) -> Result<Done, Refusal> {
+        let table = table.as_table();
+        let mut areas = Areas::for_table(&table);
+        let tree = read(&table, &mut areas)?;
+        self.merged = Some(match self.merged.take() {
+            None => areas,
+            Some(before) => {
+                let first = before.tree()?;
+                let mut both = Areas::for_merging(&first, &tree);
+                merge(&first, &tree, &mut both)?;
+                both
+            }
+        });
+        Ok(Ok(()))
+    }
+
+    fn put_merged(&mut self, areas: &Areas, count: usize) -> Done {
+        if count > 2 {
+            self.say(&format!("{count} reports are merged one after the other, in this order"));
+        }
+        let put = areas.tree().and_then(|tree| self.put_report(&tree));
+        put.unwrap_or_else(|refusal| self.refuse(&refusal))
     }
 
     // XML, but for a file whose name ends in .bin.

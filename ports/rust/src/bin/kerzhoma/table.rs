@@ -50,7 +50,6 @@ pub const OPTIONS: &[Choice] = &[
 
 const READING: &[&str] = &["output", "quiet", "xml", "table", "help"];
 
-// `merge` will have its place behind `write`.
 pub const COMMANDS: &[Command] = &[
     Command {
         name: "list",
@@ -91,6 +90,17 @@ pub const COMMANDS: &[Command] = &[
         takes: Takes::File,
         what: "write the report again",
         more: &["It is written as an XML document, or as a table where the name of -o ends in .bin or --table-out is given."],
+        options: &["output", "quiet", "xml", "table", "xml-out", "table-out", "help"],
+    },
+    Command {
+        name: "merge",
+        takes: Takes::Files,
+        what: "write two reports or more as one",
+        more: &[
+            "First the suites of one, then of the next. The name is the first's; counts and times are added; the timestamp is the earliest; \
+             there is no UUID. More than two are merged one after the other, in their order, and that is told on standard error. Where a \
+             report isn't accepted nothing is written. It is written as write does.",
+        ],
         options: &["output", "quiet", "xml", "table", "xml-out", "table-out", "help"],
     },
     Command {
