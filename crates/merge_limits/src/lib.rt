@@ -20,10 +20,12 @@ pub fn is_long(nanos: u64) -> bool
 pub fn room_by(records: usize, bytes: u64, words: usize, room: usize) -> Step
     ensures { λ r. ⌜ stepAnswer r ≡ roomBy records bytes words room ⌝ }
 {
-    if words / 32 <= records {
+    let spent = words / 32 <= records;
+    let full = (room as u64) < bytes;
+    if spent {
         return Step::Not(Cause::RecordsSpent);
     }
-    if (room as u64) < bytes {
+    if full {
         return Step::Not(Cause::TextFull);
     }
     Step::Done
