@@ -178,7 +178,7 @@ pub fn store_entry(events: &mut [u32], k: Marks, to: Stored, kind: u32, count: u
     let Stored::Put(_) = put else {
         return shut(k);
     };
-    event_more(k, to)
+    event_more(k, Stored::Put(end))
 }
 
 // An event whose bytes, with what stands around them, were put up to `to`, with so many attributes behind it (rules W12 and W18).
@@ -219,7 +219,7 @@ pub fn store_pair(attributes: &mut [u32], k: Marks, middle: Stored, to: Stored) 
     let Stored::Put(_) = put else {
         return shut(k);
     };
-    attribute_more(k, to)
+    attribute_more(k, Stored::Put(end))
 }
 
 // An attribute whose key was put up to `middle`, and its value from there up to `to`, each with what stands around it (rules W12 and
