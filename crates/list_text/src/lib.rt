@@ -26,7 +26,7 @@ pub fn put(out: &mut [u8], k: Stored, t: &[u8]) -> Stored
         return Stored::Full;
     };
     let from = least(used, out.len());
-    let put = area::copy_into(&mut out[from..], t);
+    let put = copying::copy_into(&mut out[from..], t);
     let Stored::Put(n) = put else {
         return Stored::Full;
     };

@@ -4,7 +4,7 @@ use crate::kept::kept_of;
 use crate::value::Checked;
 use crate::value::check_value;
 use area::Stored;
-use area::copy_into;
+use copying::copy_into;
 use reference::Ref;
 use reference::ref_at;
 use text_filter::is_dropped;

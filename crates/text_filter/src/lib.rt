@@ -1,6 +1,6 @@
 // The filter of control characters, into the text area from its fill mark on.
 use area::Stored;
-use area::copy_into;
+use copying::copy_into;
 ghost use mathlib.Core.Path.{_≡_};
 ghost use lib.ListN.{length};
 ghost use Rattle.area.specs.Area.{storedAnswer, placing, laid};
