@@ -1,9 +1,9 @@
 // Text and values as they are written, put into an area that the caller lends.
 use area::Stored;
-use area::copy_into;
 use area::least;
+use copying::copy_into;
 ghost use mathlib.Core.Path.{_≡_};
-ghost use Prim.Native.Nat.{_≤_};
+ghost use Prim.Native.Nat.{_+_, _≤_};
 ghost use lib.ListN.{length};
 ghost use Rattle.area.specs.Area.{storedAnswer, placing, laid};
 ghost use Rattle.write_escape.specs.Escape.{written, escaped};
@@ -71,37 +71,55 @@ fn is_plain(s: &[u8]) -> bool
     !(amp | (lt | (gt | (apos | quot))))
 }
 
-// Puts s at the front of an area that has room for it.
-fn copy_whole(out: &mut [u8], s: &[u8]) -> Stored
-    requires { ⌜ length (now s) ≤ length (now out) ⌝ }
-    ensures { λ r. ⌜ storedAnswer cause.OutputFull r ≡ placing cause.OutputFull (length (now (out .entry))) (now (s .entry)) ⌝ }
-    ensures { λ r. ⌜ now (out .exit) ≡ laid (now (out .entry)) (now (s .entry)) ⌝ }
+// n bytes at the front and n at the end, which together are all.
+fn is_plain_around(s: &[u8], n: usize) -> bool
+    requires { ⌜ (n ≤ length (now s)) × (length (now s) ≤ n + n) ⌝ }
+    ensures { λ r. ⌜ r ≡ plain (now (s .entry)) ⌝ }
 {
-    let mut i = 0;
-    while i < s.len() {
-        out[i] = s[i];
-        i += 1;
-    }
-    Stored::Put(i)
+    let last = s.len() - n;
+    is_plain(&s[..n]) & is_plain(&s[last..])
 }
 
-// As `copy_into`; where there is room for all, none is asked for byte by byte.
-fn copy_run(out: &mut [u8], s: &[u8]) -> Stored
-    ensures { λ r. ⌜ storedAnswer cause.OutputFull r ≡ placing cause.OutputFull (length (now (out .entry))) (now (s .entry)) ⌝ }
-    ensures { λ r. ⌜ now (out .exit) ≡ laid (now (out .entry)) (now (s .entry)) ⌝ }
+// Sixteen bytes at a time, and the last sixteen, some of them again.
+fn is_plain_long(s: &[u8]) -> bool
+    requires { ⌜ 16 ≤ length (now s) ⌝ }
+    ensures { λ r. ⌜ r ≡ plain (now (s .entry)) ⌝ }
 {
-    if s.len() <= out.len() {
-        return copy_whole(out, s);
+    let mut i = 0;
+    while 16 <= s.len() - i {
+        let end = i + 16;
+        if is_plain(&s[i..end]) {
+            i = end;
+        } else {
+            return false;
+        }
     }
-    copy_into(out, s)
+    let last = s.len() - 16;
+    is_plain(&s[last..])
+}
+
+// Where the compiler knows how many bytes are tested, none of them goes by itself.
+fn is_plain_text(s: &[u8]) -> bool
+    ensures { λ r. ⌜ r ≡ plain (now (s .entry)) ⌝ }
+{
+    if 16 <= s.len() {
+        return is_plain_long(s);
+    }
+    if 8 <= s.len() {
+        return is_plain_around(s, 8);
+    }
+    if 4 <= s.len() {
+        return is_plain_around(s, 4);
+    }
+    is_plain(s)
 }
 
 fn put_block(out: &mut [u8], s: &[u8]) -> Stored
     ensures { λ r. ⌜ storedAnswer cause.OutputFull r ≡ placing cause.OutputFull (length (now (out .entry))) (escaped (now (s .entry))) ⌝ }
     ensures { λ r. ⌜ now (out .exit) ≡ laid (now (out .entry)) (escaped (now (s .entry))) ⌝ }
 {
-    if is_plain(s) {
-        return copy_run(out, s);
+    if is_plain_text(s) {
+        return copy_into(out, s);
     }
     escape_bytes(out, s)
 }

@@ -4,11 +4,11 @@ use borrow.Author.Needs.{needs}
 use Rattle.write_escape.proofs.put_block.Statement.{statement}
 use Rattle.write_escape.proofs.put_block.Tie as tie
 
-is-plain-requires : tie.Need-is-plain-requires
-is-plain-requires c κs = search needs
+is-plain-text-requires : tie.Need-is-plain-text-requires
+is-plain-text-requires c κs = search needs
 
-copy-run-requires : tie.Need-copy-run-requires
-copy-run-requires c κs = search needs
+copy-into-requires : tie.Need-copy-into-requires
+copy-into-requires c κs = search needs
 
 same-length : tie.Need-same-length
 same-length c = search needs
@@ -16,9 +16,9 @@ same-length c = search needs
 returns : tie.Need-returns
 returns c =
     let args = c .before .before .before .before .before .before .before .before .args in
-    let is-plain = c .before .before .before .before .before .is-plain in
+    let is-plain = c .before .before .before .before .before .is-plain-text in
     let if1 = c .before .before .before .before .if1 in
-    rw (plain-escaped (args .s .now) (sym (is-plain .ensures) ∙ if1 .taken)) (c .before .before .copy-run .ensures)
+    rw (plain-escaped (args .s .now) (sym (is-plain .ensures) ∙ if1 .taken)) (c .before .before .copy-into .ensures)
 
 escape-bytes-requires : tie.Need-escape-bytes-requires
 escape-bytes-requires c κs = search needs
@@ -33,8 +33,8 @@ pub put-block-spec : {M : Type 1} → statement M
 put-block-spec =
     tie.close
     (tie.spec
-    is-plain-requires
-    copy-run-requires
+    is-plain-text-requires
+    copy-into-requires
     same-length
     returns
     escape-bytes-requires
