@@ -1,5 +1,6 @@
 // The values of a record, and names by their codes, put behind what the byte area holds.
 use area::Stored;
+use list_text::put;
 use list_values::part_of;
 use names::key;
 use tree_record::field;
@@ -48,10 +49,10 @@ fn put_named(bytes: &mut [u8], k: Stored, names: &[u8], starts: &[u8], code: u8)
     let i = code as usize;
     let start = byte_at(starts, i);
     let len = less(byte_at(starts, i + 1), start);
-    list_text::put(bytes, k, part_of(names, start as u32, len as u32))
+    put(bytes, k, part_of(names, start as u32, len as u32))
 }
 
-pub fn put_tag_name(bytes: &mut [u8], k: Stored, code: u8) -> Stored
+fn put_any_tag(bytes: &mut [u8], k: Stored, code: u8) -> Stored
     ensures { λ r. ⌜ Puts (filled k (now (bytes .entry))) (tagName code) (filled r (now (bytes .exit))) ⌝ }
 {
     put_named(
@@ -63,7 +64,24 @@ pub fn put_tag_name(bytes: &mut [u8], k: Stored, code: u8) -> Stored
     )
 }
 
-fn put_key_name(bytes: &mut [u8], k: Stored, code: u8) -> Stored
+// The usual ones by themselves: a table of all is put into memory each time.
+pub fn put_tag_name(bytes: &mut [u8], k: Stored, code: u8) -> Stored
+    ensures { λ r. ⌜ Puts (filled k (now (bytes .entry))) (tagName code) (filled r (now (bytes .exit))) ⌝ }
+{
+    match code {
+        3 => put(bytes, k, b"testcase"),
+        5 => put(bytes, k, b"property"),
+        6 => put(bytes, k, b"failure"),
+        7 => put(bytes, k, b"error"),
+        8 => put(bytes, k, b"skipped"),
+        11 => put(bytes, k, b"rerunFailure"),
+        14 => put(bytes, k, b"system-out"),
+        15 => put(bytes, k, b"system-err"),
+        _ => put_any_tag(bytes, k, code),
+    }
+}
+
+fn put_any_key(bytes: &mut [u8], k: Stored, code: u8) -> Stored
     ensures { λ r. ⌜ Puts (filled k (now (bytes .entry))) (keyName code) (filled r (now (bytes .exit))) ⌝ }
 {
     put_named(
@@ -73,6 +91,21 @@ fn put_key_name(bytes: &mut [u8], k: Stored, code: u8) -> Stored
         b"\x00\x00\x04\x0d\x11\x1a\x1e\x23\x2b\x31\x38\x40\x4a\x51\x55\x5a\x5e",
         code,
     )
+}
+
+fn put_key_name(bytes: &mut [u8], k: Stored, code: u8) -> Stored
+    ensures { λ r. ⌜ Puts (filled k (now (bytes .entry))) (keyName code) (filled r (now (bytes .exit))) ⌝ }
+{
+    match code {
+        1 => put(bytes, k, b"name"),
+        2 => put(bytes, k, b"classname"),
+        4 => put(bytes, k, b"timestamp"),
+        5 => put(bytes, k, b"time"),
+        12 => put(bytes, k, b"message"),
+        13 => put(bytes, k, b"type"),
+        14 => put(bytes, k, b"value"),
+        _ => put_any_key(bytes, k, code),
+    }
 }
 
 fn known(code: u8) -> u8
