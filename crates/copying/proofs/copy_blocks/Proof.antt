@@ -80,14 +80,16 @@ same-length c =
     let l = c .before .before .before .before .before .before .loop in
     let t = c .before .before .before .before .before .loop-test .left in
     let s = c .before .before .before .before .before .before .before .before .before .args .s .now in
-    copied-lent (l .inv .2) (length s - 16) 16 (omega (arith, t, l .inv .0)) (omega (arith, l .inv .0, l .inv .1)) (omega (arith, l .inv .0)) _ (c .before .before .copy-sixteen2 .ensures) .same
+    copied-lent (l .inv .2) (length s - 16) 16 (omega (arith, t, l .inv .0)) (omega (arith, l .inv .0, l .inv .1)) (omega (arith, l .inv .0))
+    _ (c .before .before .copy-sixteen2 .ensures) .same
 
 returns : tie.Need-returns Inv-loop μ-loop
 returns c =
     let l = c .before .before .before .before .before .before .loop in
     let t = c .before .before .before .before .before .loop-test .left in
     let s = c .before .before .before .before .before .before .before .before .before .args .s .now in
-    copied-done (copied-lent (l .inv .2) (length s - 16) 16 (omega (arith, t, l .inv .0)) (omega (arith, l .inv .0, l .inv .1)) (omega (arith, l .inv .0)) _ (c .before .before .copy-sixteen2 .ensures))
+    copied-done (copied-lent (l .inv .2) (length s - 16) 16 (omega (arith, t, l .inv .0)) (omega (arith, l .inv .0, l .inv .1)) (omega (arith, l .inv .0))
+    _ (c .before .before .copy-sixteen2 .ensures))
     (omega (arith, l .inv .0))
 
 pub copy-blocks-spec : {M : Type 1} → statement M

@@ -30,7 +30,8 @@ same-length c = search needs
 returns : tie.Need-returns
 returns c =
     let start = c .before .before .before .before .before .before .before .before .before .before .before in
-    by-way (start .args .out .now) (zeros 4) _ (take 4 (start .args .s .now)) _ (length-take-le 4 (start .args .s .now) (start .pre .0)) (c .before .before .before .before .before .before .copy-each .ensures) (c .before .before .copy-each2 .ensures)
+    by-way (start .args .out .now) (zeros 4) _ (take 4 (start .args .s .now)) _
+    (length-take-le 4 (start .args .s .now) (start .pre .0)) (c .before .before .before .before .before .before .copy-each .ensures) (c .before .before .copy-each2 .ensures)
 
 pub copy-four-spec : {M : Type 1} → statement M
 copy-four-spec =

@@ -30,7 +30,8 @@ same-length c = search needs
 returns : tie.Need-returns
 returns c =
     let start = c .before .before .before .before .before .before .before .before .before .before .before in
-    by-way (start .args .out .now) (zeros 16) _ (take 16 (start .args .s .now)) _ (length-take-le 16 (start .args .s .now) (start .pre .0)) (c .before .before .before .before .before .before .copy-each .ensures) (c .before .before .copy-each2 .ensures)
+    by-way (start .args .out .now) (zeros 16) _ (take 16 (start .args .s .now)) _
+    (length-take-le 16 (start .args .s .now) (start .pre .0)) (c .before .before .before .before .before .before .copy-each .ensures) (c .before .before .copy-each2 .ensures)
 
 pub copy-sixteen-spec : {M : Type 1} → statement M
 copy-sixteen-spec =
