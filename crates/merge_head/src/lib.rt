@@ -123,7 +123,11 @@ fn put_total(out: &mut [u32], a: &[u32], b: &[u32], nanos: u64)
     ensures { λ _. ⌜ now (out .exit) ≡ head.putTotal (now (a .entry)) (now (b .entry)) nanos (now (out .entry)) ⌝ }
 {
     if has_bit(a, bit::TIME) | has_bit(b, bit::TIME) {
-        put_time(out, (nanos / 1000000000) as u32, (nanos % 1000000000) as u32);
+        put_time(
+            out,
+            (nanos / 1000000000) as u32,
+            (nanos % 1000000000) as u32,
+        );
     }
 }
 

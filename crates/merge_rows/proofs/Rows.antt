@@ -117,8 +117,8 @@ module _ (m : ℕ) (texts r : List ℕ) where
       ∙ slot-start texts r 6 20 refl (eqb (m / 64 % 2) 1) (from7 m) f6 w6
       ∙ slot-start texts r 7 22 refl (eqb (m / 128 % 2) 1) [] f7 w7
       ∙ ap
-        (λ (f : ℕ). startAt (eqb (m / 128 % 2) 1) 7 22 r (f + length t5 + length t6)
-          (startAt (eqb (m / 64 % 2) 1) 6 20 r (f + length t5) (startAt (eqb (m / 32 % 2) 1) 5 18 r f w5))) z
+      (λ (f : ℕ). startAt (eqb (m / 128 % 2) 1) 7 22 r (f + length t5 + length t6)
+      (startAt (eqb (m / 64 % 2) 1) 6 20 r (f + length t5) (startAt (eqb (m / 32 % 2) 1) 5 18 r f w5))) z
 
   six-sizes : slotSizes r (slotsIn m)
       ≡ sizeAt (eqb (m % 2) 1) 0 2 r + sizeAt (eqb (m / 2 % 2) 1) 1 4 r + sizeAt (eqb (m / 4 % 2) 1) 2 6 r

@@ -33,7 +33,7 @@ module _ (fill : ℕ) (b : List ℕ) where
     length-splice =
         let d : length (drop (fill + length p) b) ≡ length b - (fill + length p) = length-drop (fill + length p) b in
         let e : length (splice fill p b) ≡ length (take fill b ++ p) + length (drop (fill + length p) b) =
-            ap length again ∙ length-append (take fill b ++ p) (drop (fill + length p) b) in
+        ap length again ∙ length-append (take fill b ++ p) (drop (fill + length p) b) in
         let f = front-length in
         omega arith
 
@@ -49,7 +49,7 @@ module _ (fill : ℕ) (b : List ℕ) where
         let n : fill + length p + length q ≡ fill + length (p ++ q) = (let e = length-append p q in omega arith) in
         ap (λ (l : List ℕ). l ++ (q ++ drop (fill + length p + length q) (splice fill p b))) take-splice
         ∙ ap (λ (l : List ℕ). (take fill b ++ p) ++ (q ++ l))
-          (sym (drop-drop (length q) (fill + length p) (splice fill p b)) ∙ ap (drop (length q)) drop-splice ∙ drop-drop (length q) (fill + length p) b)
+        (sym (drop-drop (length q) (fill + length p) (splice fill p b)) ∙ ap (drop (length q)) drop-splice ∙ drop-drop (length q) (fill + length p) b)
         ∙ append-assoc (take fill b) p (q ++ drop (fill + length p + length q) b)
         ∙ ap (λ (l : List ℕ). take fill b ++ l) (sym (append-assoc p q (drop (fill + length p + length q) b)))
         ∙ ap (λ (m : ℕ). take fill b ++ ((p ++ q) ++ drop m b)) n

@@ -54,7 +54,7 @@ module _ (m : ℕ) (texts r : List ℕ) (fill : ℕ) (w : List ℕ) {a b : ℕ} 
   front-rows x y e f g =
       g
       ∙ ap₂ (λ (n : ℕ) (l : List ℕ). startAt (eqb (m / 4 % 2) 1) 2 6 r n l) (y ∙ ap (λ (n : ℕ). n + length (out m texts r)) x)
-        (f ∙ ap₂ (λ (n : ℕ) (l : List ℕ). startAt (eqb (m / 2 % 2) 1) 1 4 r n l) x e)
+      (f ∙ ap₂ (λ (n : ℕ) (l : List ℕ). startAt (eqb (m / 2 % 2) 1) 1 4 r n l) x e)
 
   pub back-rows : a ≡ fill + length (type m texts r) → b ≡ a + length (description m texts r)
       → w1 ≡ startAt (eqb (m / 32 % 2) 1) 5 18 r fill w → w2 ≡ startAt (eqb (m / 64 % 2) 1) 6 20 r a w1 → w3 ≡ startAt (eqb (m / 128 % 2) 1) 7 22 r b w2
@@ -63,7 +63,7 @@ module _ (m : ℕ) (texts r : List ℕ) (fill : ℕ) (w : List ℕ) {a b : ℕ} 
   back-rows x y e f g =
       g
       ∙ ap₂ (λ (n : ℕ) (l : List ℕ). startAt (eqb (m / 128 % 2) 1) 7 22 r n l) (y ∙ ap (λ (n : ℕ). n + length (description m texts r)) x)
-        (f ∙ ap₂ (λ (n : ℕ) (l : List ℕ). startAt (eqb (m / 64 % 2) 1) 6 20 r n l) x e)
+      (f ∙ ap₂ (λ (n : ℕ) (l : List ℕ). startAt (eqb (m / 64 % 2) 1) 6 20 r n l) x e)
 
 -- ---- a whole record
 -- the words of r fill an area of their length

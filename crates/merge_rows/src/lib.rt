@@ -107,7 +107,14 @@ fn move_text(
 }
 
 // The texts before a record's times.
-fn move_front(row: &mut [u32], bytes: &mut [u8], fill: usize, text: &[u8], r: &[u32], m: u32) -> usize
+fn move_front(
+    row: &mut [u32],
+    bytes: &mut [u8],
+    fill: usize,
+    text: &[u8],
+    r: &[u32],
+    m: u32,
+) -> usize
     requires { ⌜ (fill + length (slots.frontTexts m (now text) (now r)) ≤ length (now bytes)) × (length (now bytes) ≤ mostBytes) ⌝ }
     ensures { λ n. ⌜ n ≡ fill + length (slots.frontTexts m (now (text .entry)) (now (r .entry))) ⌝ }
     ensures { λ n. ⌜ now (row .exit) ≡ slots.frontMoved m (now (text .entry)) fill (now (r .entry)) (now (row .entry)) ⌝ }
@@ -119,15 +126,49 @@ fn move_front(row: &mut [u32], bytes: &mut [u8], fill: usize, text: &[u8], r: &[
 }
 
 // Those behind them.
-fn move_back(row: &mut [u32], bytes: &mut [u8], fill: usize, text: &[u8], r: &[u32], m: u32) -> usize
+fn move_back(
+    row: &mut [u32],
+    bytes: &mut [u8],
+    fill: usize,
+    text: &[u8],
+    r: &[u32],
+    m: u32,
+) -> usize
     requires { ⌜ (fill + length (slots.backTexts m (now text) (now r)) ≤ length (now bytes)) × (length (now bytes) ≤ mostBytes) ⌝ }
     ensures { λ n. ⌜ n ≡ fill + length (slots.backTexts m (now (text .entry)) (now (r .entry))) ⌝ }
     ensures { λ n. ⌜ now (row .exit) ≡ slots.backMoved m (now (text .entry)) fill (now (r .entry)) (now (row .entry)) ⌝ }
     ensures { λ n. ⌜ now (bytes .exit) ≡ splice fill (slots.backTexts m (now (text .entry)) (now (r .entry))) (now (bytes .entry)) ⌝ }
 {
-    let a = move_text(row, bytes, fill, text, r, m / 32 % 2 == 1, bit::TYPE, word::TYPE);
-    let b = move_text(row, bytes, a, text, r, m / 64 % 2 == 1, bit::DESCRIPTION, word::DESCRIPTION);
-    move_text(row, bytes, b, text, r, m / 128 % 2 == 1, bit::STACK_TRACE, word::STACK_TRACE)
+    let a = move_text(
+        row,
+        bytes,
+        fill,
+        text,
+        r,
+        m / 32 % 2 == 1,
+        bit::TYPE,
+        word::TYPE,
+    );
+    let b = move_text(
+        row,
+        bytes,
+        a,
+        text,
+        r,
+        m / 64 % 2 == 1,
+        bit::DESCRIPTION,
+        word::DESCRIPTION,
+    );
+    move_text(
+        row,
+        bytes,
+        b,
+        text,
+        r,
+        m / 128 % 2 == 1,
+        bit::STACK_TRACE,
+        word::STACK_TRACE,
+    )
 }
 
 // Copies the record r into `row`, and its texts behind the first `fill` bytes; says how many are in use then.

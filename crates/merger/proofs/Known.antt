@@ -29,7 +29,7 @@ module _ (n w : ℕ) (f part : List ℕ) (h : w ≤ n) (l : length part ≡ w) w
   left-back (gives u) e =
       let a : part ≡ f ++ zeros (w - length f) = e ∙ ap (λ (k : ℕ). f ++ drop k (zeros w)) (zero-add (length f)) ∙ ap (λ (x : List ℕ). f ++ x) (drop-zeros (length f) w) in
       let b : length part ≡ length f + (w - length f) =
-          ap length a ∙ length-append f (zeros (w - length f)) ∙ ap (λ (k : ℕ). length f + k) (length-replicate {A = ℕ} (w - length f) 0) in
+      ap length a ∙ length-append f (zeros (w - length f)) ∙ ap (λ (k : ℕ). length f + k) (length-replicate {A = ℕ} (w - length f) 0) in
       let c : length f ≤ n = omega arith in
       let d : w - length f + (n - w) ≡ n - length f = omega arith in
       ap₂ _++_ a (drop-zeros w n)

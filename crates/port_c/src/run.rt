@@ -55,14 +55,7 @@ pub extern "C" fn kerzhoma_merge(
     ensures { λ _. ⌜ now (text .exit) ≡ textLeft (now (first .entry)) (now («first_text» .entry)) (now (second .entry)) (now («second_text» .entry))
         (length (now (records .entry))) (length (now (text .entry))) ⌝ }
 {
-    let answer = merger::merge(
-        first,
-        first_text,
-        second,
-        second_text,
-        records,
-        text,
-    );
+    let answer = merger::merge(first, first_text, second, second_text, records, text);
     let verdict = answer.verdict;
     let refusal = answer.refusal;
     from_refusal(verdict, refusal)

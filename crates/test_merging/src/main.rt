@@ -78,14 +78,7 @@ fn try_merge(
     records: &mut [u32],
     text: &mut [u8],
 ) {
-    let merging = merge(
-        first,
-        first_text,
-        second,
-        second_text,
-        records,
-        text,
-    );
+    let merging = merge(first, first_text, second, second_text, records, text);
     say(title);
     tell(merging, records, text);
 }
@@ -183,21 +176,9 @@ fn try_rooms(first: &[u32], second: &[u32]) {
 
 // 10:00+01:00 and 09:00Z are one instant.
 fn try_hours(first: &mut [u32], second: &mut [u32]) {
-    try_wide(
-        b"one timestamp:",
-        first,
-        b"nightlab",
-        second,
-        b"latefield",
-    );
+    try_wide(b"one timestamp:", first, b"nightlab", second, b"latefield");
     put_hour(second, 9, 1439);
-    try_wide(
-        b"one instant:",
-        first,
-        b"nightlab",
-        second,
-        b"latefield",
-    );
+    try_wide(b"one instant:", first, b"nightlab", second, b"latefield");
     try_wide(
         b"the other way round:",
         second,

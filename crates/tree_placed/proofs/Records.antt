@@ -161,9 +161,16 @@ case-placing c = record {
       let bits = flags-by q table.case (named.caseFields c) (flagsOf (presence (caseRow c))) (case-bits c) in
       λ i. kind.case ∷ bits i ∷ q .first ∷ length (c .name) ∷ text-words 1 (q .out) (c .systemOut) (text-words 2 (q .err) (c .systemErr) (moment-words 3 0 (c .timestamp)
       (time-words 4 0 (c .time) (text-words 5 (q .second) (c .classname) (number-words 6 (q .third) (c .assertions) (q .third) (zeros 10) i) i) i) i) i) i;
-  stand = λ texts q h.
-      (h .first, (stands-text texts (q .out) (c .systemOut) (h .out), (stands-text texts (q .err) (c .systemErr) (h .err),
-      (tt, (tt, (stands-text texts (q .second) (c .classname) (h .second), (tt, tt)))))));
+  stand = λ texts q h. (
+    h .first,
+    (
+      stands-text texts (q .out) (c .systemOut) (h .out),
+      (
+        stands-text texts (q .err) (c .systemErr) (h .err),
+        (tt, (tt, (stands-text texts (q .second) (c .classname) (h .second), (tt, tt)))),
+      ),
+    ),
+  );
 }
 
 -- a failure or error
@@ -194,9 +201,16 @@ run-placing family r = record {
       let bits = flags-by q table.run (named.runFields r) (flagsOf (presence (runRow family r))) (run-bits family r) in
       λ i. kindOfRun family (r .kind) ∷ bits i ∷ text-words 0 (q .first) (r .message) (text-words 1 (q .out) (r .systemOut) (text-words 2 (q .err) (r .systemErr) (moment-words 3 0 (r .timestamp)
       (time-words 4 0 (r .time) (text-words 5 (q .second) (r .type) (text-words 6 (q .third) (r .description) (text-words 7 (q .fourth) (r .stackTrace) (zeros 8) i) i) i) i) i) i) i) i;
-  stand = λ texts q h.
-      (stands-text texts (q .first) (r .message) (h .first), (stands-text texts (q .out) (r .systemOut) (h .out), (stands-text texts (q .err) (r .systemErr) (h .err),
-      (tt, (tt, (stands-text texts (q .second) (r .type) (h .second), (stands-text texts (q .third) (r .description) (h .third), (stands-text texts (q .fourth) (r .stackTrace) (h .fourth), tt))))))));
+  stand = λ texts q h. (
+    stands-text texts (q .first) (r .message) (h .first),
+    (
+      stands-text texts (q .out) (r .systemOut) (h .out),
+      (
+        stands-text texts (q .err) (r .systemErr) (h .err),
+        (tt, (tt, (stands-text texts (q .second) (r .type) (h .second), (stands-text texts (q .third) (r .description) (h .third), (stands-text texts (q .fourth) (r .stackTrace) (h .fourth), tt))))),
+      ),
+    ),
+  );
 }
 
 pub pair-placing : (k : ℕ) (p : Pair) → Placing (row.pairRow k p) (pairRow k p)
