@@ -86,7 +86,8 @@ module _ (texts : List ℕ) where
           → ((f : Ends) → endsFrom startOf f rs ≡ startsFold f (momentsIn rs))
           → endsFrom startOf (withRecord startOf e r) rs ≡ startsFold e (cond b (behind (timestamp r) (momentsIn rs)) (momentsIn rs))
       go true c true h q k =
-          ap (λ (f : Ends). endsFrom startOf f rs) (with-moment e r c h ∙ ap (λ (m : Moment). withStart e (startOf m)) (moment-own r (range-of r q c h))) ∙ k (withStart e (startOf (momentOf r))) ∙ rw h refl
+          ap (λ (f : Ends). endsFrom startOf f rs) (with-moment e r c h ∙ ap (λ (m : Moment). withStart e (startOf m)) (moment-own r (range-of r q c h)))
+          ∙ k (withStart e (startOf (momentOf r))) ∙ rw h refl
       go true c false h q k = ap (λ (f : Ends). endsFrom startOf f rs) (with-missing e r c h) ∙ k e ∙ rw h refl
       go false c t h q k = ap (λ (f : Ends). endsFrom startOf f rs) (with-other e r c) ∙ k e
 

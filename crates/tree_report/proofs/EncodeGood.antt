@@ -8,7 +8,8 @@ use Rattle.schema.specs.Records.{good}
 use Rattle.tree_report.specs.Encode.{Row, pairRow, mainRow, skippedRow, kindOfRun, runRow, isFlakyAlone, statusRows, caseRow, caseRows, suiteRow, suiteRows, reportRow, rowsOf}
 use Rattle.tree_report.specs.Fields.{kindOf}
 use Rattle.tree_report.specs.Layout.{goodRecord}
-use Rattle.tree_report.specs.Report.{Pair, NonSuccessKind, failure, error, FlakyOrRerun, flaky, rerun, TestRerun, Reason, TestCaseStatus, success, nonSuccess, skipped, TestCase, TestSuite, Report}
+use Rattle.tree_report.specs.Report.{Pair, NonSuccessKind, failure, error, FlakyOrRerun, flaky, rerun, TestRerun, Reason}
+use Rattle.tree_report.specs.Report.{TestCaseStatus, success, nonSuccess, skipped, TestCase, TestSuite, Report}
 use Rattle.tree_report.proofs.EncodeLists.{Each, done, more, each-append, each-map, each-rows}
 
 -- its table is fine, and is the one that a layout asks of a record of its kind
