@@ -2,6 +2,7 @@
 use crate::{
     calls,
     explain::Sentences,
+    merging::{merged, Tree},
     random::Random,
     reference::{self, Outcome, Read, Refused},
     report::{fields, is_plain, listing, starts, tree_fields, written},
@@ -30,10 +31,11 @@ pub struct Tally {
     pub orders: u64,
     pub sheets: u64,
     pub starts: u64,
+    pub merged: u64,
 }
 
 impl Tally {
-    pub fn rows(&self) -> [(&'static str, u64); 16] {
+    pub fn rows(&self) -> [(&'static str, u64); 17] {
         [
             ("tables", self.tables),
             ("accepted", self.accepted),
@@ -51,9 +53,10 @@ impl Tally {
             ("reports to order", self.orders),
             ("release sheets", self.sheets),
             ("first and last starts", self.starts),
+            ("reports merged", self.merged),
         ]
     }
-    pub fn slots(&mut self) -> [&mut u64; 16] {
+    pub fn slots(&mut self) -> [&mut u64; 17] {
         [
             &mut self.tables,
             &mut self.accepted,
@@ -71,6 +74,7 @@ impl Tally {
             &mut self.orders,
             &mut self.sheets,
             &mut self.starts,
+            &mut self.merged,
         ]
     }
 }
@@ -86,6 +90,8 @@ pub struct Bench {
     text: Vec<u8>,
     scratch: Vec<u8>,
     out: Vec<u8>,
+    /// A tree that was read before.
+    before: Tree,
 }
 
 /// How the areas of a call are chosen.
@@ -136,7 +142,7 @@ pub fn differing(want: &str, got: &str) -> String {
 impl Bench {
     pub fn new(changes: Changes, sentences: Sentences) -> Self {
         let empty = Vec::new;
-        Bench { tally: Tally::default(), changes, sentences, records: vec![], text: empty(), scratch: empty(), out: empty() }
+        Bench { tally: Tally::default(), changes, sentences, records: vec![], text: empty(), scratch: empty(), out: empty(), before: Tree::default() }
     }
 
     /// All areas at the lengths asked for, full of other bytes.
@@ -178,6 +184,7 @@ impl Bench {
                 self.tally.accepted += 1;
                 self.listing(input, read, areas, words, &mut r)?;
                 self.starts(read)?;
+                self.merging(&mut r)?;
                 self.writing(read, &mut r)?;
                 if r.one(4) {
                     self.spoiled(input, areas, words, &mut r)
@@ -386,6 +393,59 @@ impl Bench {
         let got = sys::explain(given, lent, &input.events(), &input.attributes(), &input.table.source, &mut self.out);
         self.tally.explained += 1;
         self.listed("the refusal's line", fits.then_some(&want), &got.refusal, got.length)
+    }
+
+    /// This tree behind one that was read before, in areas that suffice and that don't (rules J1 to J11).
+    fn merging(&mut self, r: &mut Random) -> Compared {
+        self.tally.merged += 1;
+        let mut first = Tree { records: self.records.clone(), text: self.text.clone() };
+        first.records.truncate(first.records.len() / 32 * 32);
+        let mut second = std::mem::replace(&mut self.before, first.clone());
+        if second.records.is_empty() {
+            second = first.clone();
+        }
+        if r.one(2) {
+            std::mem::swap(&mut first, &mut second);
+        }
+        // the largest count, and the longest time
+        let largest = r.one(8).then(|| [18, 20, 22, 24][r.index(4)]);
+        if let Some(word) = largest {
+            (first.records[word], first.records[word + 1]) = (u32::MAX, u32::MAX - r.below(2) as u32);
+        }
+        if r.one(8) {
+            first.records[1] |= 16;
+            (first.records[16], first.records[17]) = (8_388_607, 999_999_999);
+        }
+        let live = |t: &Tree| (0..t.records.len() / 32).find(|i| t.records[32 * i] == 1) == Some(0);
+        if !live(&first) || !live(&second) || !sys::is_layout(&first.records, &first.text) {
+            return Ok(());
+        }
+        let most = (first.records.len() + second.records.len(), first.text.len() + second.text.len());
+        let (words, bytes) = if r.one(3) { (r.index(most.0 + 1), r.index(most.1 + 1)) } else { most };
+        let (mut records, mut text) = (vec![7u32; words + r.index(40)], vec![7u8; bytes + r.index(3)]);
+        let got = sys::merge(&first.records, &first.text, &second.records, &second.text, &mut records, &mut text);
+        match merged(&first, &second, records.len(), text.len()) {
+            Ok(want) => {
+                hit!("J9", "within the limits");
+                let same = accepted(&got) && records.starts_with(&want.records) && text.starts_with(&want.text);
+                let zero = is_zero(&records[want.records.len()..]) && is_clear(&text[want.text.len()..]);
+                check(same && zero, || "the merged tree".into())?;
+                hit!("J11", "a listing of what was merged");
+                let mut out = vec![7; 40_000 + 20 * want.text.len() + 200 * want.records.len()];
+                check(sys::list(&records, &text, &mut out).refusal.number == 0, || "the merged tree isn't listed".into())?;
+            }
+            Err((number, cause)) => {
+                if number == 17 || number == 22 {
+                    hit_if!(number == 17, "J9", "a sum of counts is too large", "the summed time is too long");
+                }
+                let zero = is_zero(&records) && is_clear(&text);
+                check(Refused::late(number, cause).is(&got) && zero, || format!("merging refused with {number}"))?;
+            }
+        }
+        let none = sys::merge(&first.records, &first.text, &[], &[], &mut records, &mut text).number;
+        let other = sys::merge(&[], &[], &second.records, &second.text, &mut records, &mut text).number;
+        hit!("J1", "no layout");
+        check((none, other) == (15, 15) && is_zero(&records) && is_clear(&text), || "merging without a second or a first tree".into())
     }
 
     fn starts(&mut self, read: &Read) -> Compared {

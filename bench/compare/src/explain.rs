@@ -16,7 +16,7 @@ pub struct Sentences {
     pub attributes: usize,
 }
 
-const CAUSES: [&str; 25] = [
+const CAUSES: [&str; 26] = [
     "XmlFault",
     "EofInSkip",
     "NotUtf8",
@@ -42,6 +42,7 @@ const CAUSES: [&str; 25] = [
     "TooManyCases",
     "NoSuchReport",
     "TooManyReports",
+    "TimeLimit",
 ];
 
 /// What stands between the first and the last backtick of a table's cell.
@@ -54,7 +55,7 @@ impl Sentences {
     /// From the tables under "In words" of docs/REFUSALS.md.
     pub fn from_page(page: &str) -> Result<Self, String> {
         let words = page.split_once("## In words").ok_or("docs/REFUSALS.md has no heading In words")?.1;
-        let (mut of_cause, mut of_document) = (vec![(String::new(), None); 25], HashMap::new());
+        let (mut of_cause, mut of_document) = (vec![(String::new(), None); CAUSES.len()], HashMap::new());
         let mut last = 0;
         for line in words.lines().filter(|l| l.starts_with("| ")) {
             let cells: Vec<&str> = line.trim_matches('|').split(" | ").map(str::trim).collect();

@@ -11,6 +11,7 @@ pub mod fixed;
 pub mod fuzz;
 pub mod generator;
 pub mod lenient;
+pub mod merging;
 pub mod numbers;
 pub mod programs;
 pub mod random;

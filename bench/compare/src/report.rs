@@ -632,6 +632,11 @@ fn days_before(year: u32) -> i64 {
     DAYS.with(|d| d[year as usize])
 }
 
+/// The days before a date, from 0000-01-01 on.
+pub fn days_to(year: u32, month: u32, day: u32) -> i64 {
+    days_before(year as _) + (1..month).map(|k| chrono::month_length(year as _, k as _) as i64).sum::<i64>() + i64::from(day) - 1
+}
+
 fn instant(m: &Moment) -> i128 {
     let days = days_before(m.year) + (1..m.month).map(|k| chrono::month_length(m.year, k) as i64).sum::<i64>() + m.day as i64 - 1;
     let seconds = days * 86_400 + m.hour as i64 * 3600 + m.minute as i64 * 60 + m.second as i64 - m.offset as i64 * 60;
