@@ -17,6 +17,7 @@ use Rattle.tree_report.specs.Layout.{usedWords, usedText, filled, goodText, zer
 use Rattle.tree_report.specs.inside.Parts.{goodReport, goodCommon, goodCounts, onlyBits, reportBits, slot}
 use Rattle.tree_report.specs.Layout.{nothing, mayFollow, following, goodOrder, recordsOf, layout}
 use Rattle.tree_report.specs.ReportOf.{only, branches, suiteOf, reportFrom, reportOf}
+use Rattle.tree_report.proofs.ByKind.{record-parts}
 use Rattle.tree_report.proofs.ByTable.{report-good}
 use Rattle.tree_layout.proofs.Filling.{fill-fits}
 use Rattle.tree_merge.specs.Answer.{isBelow, belowReport}
@@ -76,8 +77,7 @@ first-live g (r ∷ rs) a o =
 
 -- ---- its fields are good
 report-record : (g r : List ℕ) → live r ≡ true → isReport r ≡ true → goodRecord g r ≡ true → goodReport g r ≡ true
-unfolding goodRecord
-report-record g r l k h = rw (l, k) at h
+report-record g r l k h = rw (l, k) at (sym (record-parts g r) ∙ h)
 
 common : (g r : List ℕ) → goodReport g r ≡ true → goodCommon g r ≡ true
 common g r h =
