@@ -196,15 +196,23 @@ fn try_hours(first: &mut [u32], second: &mut [u32]) {
     );
 }
 
-// A time of one alone, then of both, up to the limit, and counts beyond theirs.
+// A time of one alone, then of both.
 fn try_times(first: &mut [u32], second: &mut [u32]) {
     put_time(first, 1, 600000000);
     try_wide(b"one time:", second, b"latefield", first, b"nightlab");
     put_time(second, 2, 700000000);
     try_wide(b"two times:", first, b"nightlab", second, b"latefield");
+}
+
+// Up to the limit of a time.
+fn try_longest(first: &mut [u32], second: &mut [u32]) {
     put_time(first, 8388607, 999999999);
     put_time(second, 0, 0);
     try_wide(b"the longest:", first, b"nightlab", second, b"latefield");
+}
+
+// Beyond it, and beyond the limit of a count.
+fn try_limits(first: &mut [u32], second: &mut [u32]) {
     put_time(second, 0, 1);
     try_wide(b"too long:", first, b"nightlab", second, b"latefield");
     put_count(first, word::TESTS, 18446744073709551615);
@@ -221,6 +229,14 @@ fn try_bare(first: &[u32]) {
     try_wide(b"no first:", &[], b"", first, b"nightlab");
 }
 
+fn try_timed(first: &mut [u32], second: &mut [u32]) {
+    put_hour(first, 10, 1499);
+    try_hours(first, second);
+    try_times(first, second);
+    try_longest(first, second);
+    try_limits(first, second);
+}
+
 fn try_all(first: &mut [u32], second: &mut [u32])
     requires { ⌜ (length (now first) ≡ 128) × (length (now second) ≡ 128) ⌝ }
 {
@@ -228,9 +244,7 @@ fn try_all(first: &mut [u32], second: &mut [u32])
     put_half(second, 4, 5);
     try_rooms(first, second);
     try_bare(first);
-    put_hour(first, 10, 1499);
-    try_hours(first, second);
-    try_times(first, second);
+    try_timed(first, second);
 }
 
 fn main() {
