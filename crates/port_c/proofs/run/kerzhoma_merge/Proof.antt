@@ -19,7 +19,7 @@ same-length-2 c = search needs
 
 returns : tie.Need-returns
 returns c =
-    let merge = c .before .before .before .before .before .before .before .merge in
+    let merge = c .before .before .before .before .before .before .merge in
     (c .from-refusal .ensures ∙ ap (λ (a : Merging). portRefusal (a .verdict) (a .refusal)) (merge .ensures .0), merge .ensures .1)
 
 pub kerzhoma-merge-spec : {M : Type 1} → statement M
