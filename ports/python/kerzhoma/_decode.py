@@ -4,7 +4,8 @@ from __future__ import annotations
 import gc
 import struct
 import uuid
-from typing import Any
+from operator import length_hint
+from typing import Any, Union
 
 from ._library import RECORD, Area
 from ._types import Property, Report, Run, TestCase, TestSuite, Timestamp
@@ -13,23 +14,20 @@ from ._types import Property, Report, Run, TestCase, TestSuite, Timestamp
 _ROW = struct.Struct("<6I40x4I48x")
 _COUNTS = struct.Struct("<5Q")
 _MOMENT = struct.Struct("<8I")
+# the three texts of a failure, error or skip
+_MAIN = struct.Struct("<2I56x4I")
 _PAIR = struct.Struct("<2I")
 _NUMBER = struct.Struct("<Q")
 _BYTES = 4 * RECORD
 _OUTCOMES = {6: "failure", 7: "error", 8: "skipped"}
 
 
-def _whole(text: memoryview) -> "tuple[str, bool]":
-    """The text area as a string whose places are those of the bytes, and whether a character of it stands for a byte that isn't ASCII."""
+def _whole(text: memoryview) -> "Union[str, bytes]":
+    """The text area, a string where it is ASCII, so that the places of its characters are those of the bytes."""
     try:
-        return str(text, "ascii"), False
+        return str(text, "ascii")
     except UnicodeDecodeError:
-        return str(text, "latin-1"), True
-
-
-def _wide(part: str) -> str:
-    """The text whose bytes these characters stand for."""
-    return part.encode("latin-1").decode()
+        return bytes(text)
 
 
 def _used(words: memoryview) -> int:
@@ -54,7 +52,7 @@ def report_of(records: Area, words: int, text: Area, length: int) -> Report:
     # so many new objects would be looked through again and again
     gc.disable()
     try:
-        return _Decoding(records.bytes, *whole).report(used)
+        return _Decoding(records.bytes, whole).report(used)
     finally:
         if collects:
             _settle()
@@ -71,80 +69,101 @@ def _settle() -> None:
 
 
 class _Decoding:
-    def __init__(self, records: bytearray, text: str, wide: bool) -> None:
+    def __init__(self, records: bytearray, text: "Union[str, bytes]") -> None:
         self.records = records
-        self.text, self.wide = text, wide
+        self.text: Any = text
+        self.wide = isinstance(text, bytes)
+        self.made = Report()
+        self.suite: Any = None
         # the case of the last run, and its kind
         self.of: Any = None
         self.family = "rerun"
 
     def report(self, used: int) -> Report:
-        report = Report()
-        suite: Any = None
+        cases: Any = None
         case: Any = None
         extra: Any = None
-        add: Any = None
+        # those before, as they stand in the area and as strings: most come again in the next case, and are kept once
+        raw_class = classname = raw_key = key = raw_value = value = None
         new = object.__new__
-        s, wide, at = self.text, self.wide, -_BYTES
-        rows = memoryview(self.records)[: used * _BYTES]
-        for kind, bits, a, al, b, bl, seconds, nanos, p, pl in _ROW.iter_unpack(rows):
-            at += 128
+        s, wide = self.text, self.wide
+        rows = _ROW.iter_unpack(memoryview(self.records)[: used * _BYTES])
+        for kind, bits, a, al, b, bl, seconds, nanos, p, pl in rows:
             if kind == 3:
                 # what isn't set here is the field's default
                 case = new(TestCase)
-                name = s[a : a + al]
-                case.name = _wide(name) if wide and not name.isascii() else name
-                if bits & 32:
-                    name = s[p : p + pl]
-                    case.classname = _wide(name) if wide and not name.isascii() else name
-                if bits & 16:
+                raw = s[a : a + al]
+                case.name = raw.decode() if wide else raw
+                # most have name, classname and time alone, which is 49: one comparison is less than a test of each bit
+                if bits == 49 or bits & 32:
+                    raw = s[p : p + pl]
+                    if raw != raw_class:
+                        raw_class, classname = raw, raw.decode() if wide else raw
+                    case.classname = classname
+                if bits == 49 or bits & 16:
                     case.time = (seconds * 1e9 + nanos) / 1e9 if seconds else nanos / 1e9
-                if bits & 78:
-                    self.case(case, at, bits)
-                add(case)
+                if bits != 49 and bits & 78:
+                    self.case(case, _BYTES * (used - 1 - length_hint(rows)), bits)
+                cases.append(case)
                 extra = None
             elif kind == 14:
-                name = s[a : a + al]
-                value = s[b : b + bl]
-                if wide:
-                    name = name if name.isascii() else _wide(name)
-                    value = value if value.isascii() else _wide(value)
+                raw = s[a : a + al]
+                if raw != raw_key:
+                    raw_key, key = raw, raw.decode() if wide else raw
+                raw = s[b : b + bl]
+                if raw != raw_value:
+                    raw_value, value = raw, raw.decode() if wide else raw
                 if extra is None:
-                    case.extra = extra = {name: value}
+                    case.extra = extra = {key: value}
                 else:
-                    extra[name] = value
-            elif kind == 5:
-                case.properties.append(Property(self.cut(at, 2), self.cut(at, 4)))
-            elif 6 <= kind <= 8:
-                case.outcome = _OUTCOMES[kind]
-                if bits & 1:
-                    case.message = self.cut(at, 2)
-                if bits & 32:
-                    case.type = self.cut(at, 18)
-                if bits & 64:
-                    case.description = self.cut(at, 20)
-                # the main may stand behind its runs, which say of which kind they are
-                if bits & 512 or (self.of is case and self.family == "flaky"):
-                    case.rerun_kind = "flaky"
-            elif 9 <= kind <= 12:
-                self.run(case, at, kind, bits)
+                    extra[key] = value
             elif kind == 2:
-                suite = TestSuite(self.cut(at, 2))
-                self.times(suite, at, bits)
-                self.counts(suite, at, bits)
-                self.outputs(suite, at, bits)
-                add = suite.cases.append
-                report.suites.append(suite)
-            elif kind == 13:
-                suite.extra[self.cut(at, 2)] = self.cut(at, 4)
-            elif kind == 4:
-                suite.properties.append(Property(self.cut(at, 2), self.cut(at, 4)))
-            elif kind == 1:
-                report.name = self.cut(at, 2) if bits & 1 else None
-                report.uuid = uuid.UUID(bytes=struct.pack(">4I", *self.words(at, 4, 4))) if bits & 2 else None
-                self.times(report, at, bits)
-                self.counts(report, at, bits)
-        return report
+                cases = self.add_suite(_BYTES * (used - 1 - length_hint(rows)), bits)
+            else:
+                self.other(case, _BYTES * (used - 1 - length_hint(rows)), kind, bits)
+        return self.made
+
+    def add_suite(self, at: int, bits: int) -> "list[TestCase]":
+        """The list that its cases go into."""
+        self.suite = suite = TestSuite(self.cut(at, 2))
+        self.times(suite, at, bits)
+        self.counts(suite, at, bits)
+        self.outputs(suite, at, bits)
+        self.made.suites.append(suite)
+        return suite.cases
+
+    def other(self, case: Any, at: int, kind: int, bits: int) -> None:
+        """A record that is neither suite nor case nor a case's extra."""
+        if 6 <= kind <= 8:
+            self.main(case, at, kind, bits)
+        elif kind == 5:
+            case.properties.append(Property(self.cut(at, 2), self.cut(at, 4)))
+        elif 9 <= kind <= 12:
+            self.run(case, at, kind, bits)
+        elif kind == 13:
+            self.suite.extra[self.cut(at, 2)] = self.cut(at, 4)
+        elif kind == 4:
+            self.suite.properties.append(Property(self.cut(at, 2), self.cut(at, 4)))
+        elif kind == 1:
+            report = self.made
+            report.name = self.cut(at, 2) if bits & 1 else None
+            report.uuid = uuid.UUID(bytes=struct.pack(">4I", *self.words(at, 4, 4))) if bits & 2 else None
+            self.times(report, at, bits)
+            self.counts(report, at, bits)
+
+    def main(self, case: TestCase, at: int, kind: int, bits: int) -> None:
+        s, wide = self.text, self.wide
+        a, al, p, pl, d, dl = _MAIN.unpack_from(self.records, at + 8)
+        case.outcome = _OUTCOMES[kind]
+        if bits & 1:
+            case.message = s[a : a + al].decode() if wide else s[a : a + al]
+        if bits & 32:
+            case.type = s[p : p + pl].decode() if wide else s[p : p + pl]
+        if bits & 64:
+            case.description = s[d : d + dl].decode() if wide else s[d : d + dl]
+        # the main may stand behind its runs, which say of which kind they are
+        if bits & 512 or (self.of is case and self.family == "flaky"):
+            case.rerun_kind = "flaky"
 
     def words(self, at: int, word: int, n: int) -> "tuple[int, ...]":
         return struct.unpack_from(f"<{n}I", self.records, at + 4 * word)
@@ -152,7 +171,7 @@ class _Decoding:
     def cut(self, at: int, word: int) -> str:
         start, length = _PAIR.unpack_from(self.records, at + 4 * word)
         part = self.text[start : start + length]
-        return _wide(part) if self.wide and not part.isascii() else part
+        return part.decode() if self.wide else part
 
     def times(self, into: Any, at: int, bits: int) -> None:
         if bits & 8:
