@@ -1,6 +1,6 @@
 // What owned reports cost: a document of 2 MB tokenized and read as a tree, and as the values of kerzhoma::report; the same from its
-// table, in areas that are used again. Turn about, the best time of each, in milliseconds; with a file's name the document is put there.
-// Build and run: see README.md beside this file.
+// table, in areas that are used again. Turn about, the best time of each, in milliseconds; with a file's name the document is put there,
+// and with two words behind it the second stands in place of the first. Build and run: see README.md beside this file.
 use kerzhoma::{read, report::Report, tokenize, Areas};
 use std::fmt::Write;
 use std::time::Instant;
@@ -41,7 +41,10 @@ fn timed<T>(best: &mut f64, f: impl FnOnce() -> T) -> T {
 }
 
 fn main() {
-    let document = document();
+    let mut document = document();
+    if let (Some(word), Some(other)) = (env::args().nth(2), env::args().nth(3)) {
+        document = document.replace(&word, &other);
+    }
     if let Some(file) = env::args().nth(1) {
         fs::write(file, &document).unwrap();
     }
