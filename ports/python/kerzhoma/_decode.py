@@ -22,10 +22,12 @@ _BYTES = 4 * RECORD
 _OUTCOMES = {6: "failure", 7: "error", 8: "skipped"}
 
 
-def _whole(text: bytearray, end: int) -> "Union[str, bytes]":
-    """The text area up to its fill: a string where it is ASCII, whose places are those of the bytes."""
-    data = bytes(memoryview(text)[:end])
-    return data.decode("ascii") if data.isascii() else data
+def _whole(text: memoryview) -> "Union[str, bytes]":
+    """The text area, a string where it is ASCII, so that the places of its characters are those of the bytes."""
+    try:
+        return str(text, "ascii")
+    except UnicodeDecodeError:
+        return bytes(text)
 
 
 def _used(words: memoryview) -> int:
@@ -45,7 +47,7 @@ def report_of(records: Area, words: int, text: Area, length: int) -> Report:
     used = _used(memoryview(records.bytes).cast("I")[:words])
     end = text.bytes.find(0, 0, length)
     end = length if end < 0 else end
-    whole = _whole(text.bytes, end)
+    whole = _whole(memoryview(text.bytes)[:end])
     collects = gc.isenabled()
     # so many new objects would be looked through again and again
     gc.disable()
