@@ -397,7 +397,6 @@ impl Bench {
 
     /// This tree behind one that was read before, in areas that suffice and that don't (rules J1 to J11).
     fn merging(&mut self, r: &mut Random) -> Compared {
-        self.tally.merged += 1;
         let mut first = Tree { records: self.records.clone(), text: self.text.clone() };
         first.records.truncate(first.records.len() / 32 * 32);
         let mut second = std::mem::replace(&mut self.before, first.clone());
@@ -420,6 +419,7 @@ impl Bench {
         if !live(&first) || !live(&second) || !sys::is_layout(&first.records, &first.text) {
             return Ok(());
         }
+        self.tally.merged += 1;
         let most = (first.records.len() + second.records.len(), first.text.len() + second.text.len());
         let (words, bytes) = if r.one(3) { (r.index(most.0 + 1), r.index(most.1 + 1)) } else { most };
         let (mut records, mut text) = (vec![7u32; words + r.index(40)], vec![7u8; bytes + r.index(3)]);
