@@ -3,7 +3,7 @@
 written out anew, with the rules B1 to B10 where a call is refused. Run it here: expected.py | cmp - stdout"""
 import re, sys
 
-FIELDS = "classname message type description stackTrace system-out system-err".split()
+FIELDS = "classname message type description stackTrace system-out system-err hostname".split()
 FAMILIES = {"flaky": ("flakyFailure", "flakyError"), "rerun": ("rerunFailure", "rerunError")}
 STAMP = "2026-02-28T%02d:30:59.125+02:00"
 UUID = "123e4567-e89b-12d3-a456-426614174000"
@@ -37,6 +37,8 @@ class Element:
             return self.kind in ("main", "run")
         if field == "stackTrace":
             return self.kind == "run"
+        if field == "hostname":
+            return self.kind == "suite"
         return self.kind in ("suite", "case", "run")
 
     def timed(self):
@@ -244,7 +246,7 @@ def events(r):
         t, f, err, sk = map(str, s.sums)
         disabled = None if s.disabled is None else str(s.disabled)
         pairs = of(s, "name") + [("tests", t), ("skipped", sk), ("errors", err), ("failures", f), ("disabled", disabled)]
-        pairs += of(s, "stamp", "time") + list(s.extras.items())
+        pairs += of(s, "stamp", "time", "hostname") + list(s.extras.items())
         if not (s.properties or s.cases or "system-out" in s.fields or "system-err" in s.fields):
             tag(1, "testsuite", *pairs)
             continue

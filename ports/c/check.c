@@ -350,8 +350,9 @@ static void build(void)
     b = kerzhoma_set_uuid(b.builder, IN, id);
     b = kerzhoma_set_timestamp(b.builder, IN, KERZHOMA_REPORT, leap);
     b = kerzhoma_add_test_suite(b.builder, IN, BYTES("lab"));
-    b = kerzhoma_add_extra(b.builder, IN, KERZHOMA_OF_SUITE, BYTES("hostname"), BYTES("a1"));
-    b = kerzhoma_add_extra(b.builder, IN, KERZHOMA_OF_SUITE, BYTES("hostname"), BYTES("b<2"));
+    b = kerzhoma_add_extra(b.builder, IN, KERZHOMA_OF_SUITE, BYTES("package"), BYTES("a1"));
+    b = kerzhoma_add_extra(b.builder, IN, KERZHOMA_OF_SUITE, BYTES("package"), BYTES("b<2"));
+    b = kerzhoma_set_text(b.builder, IN, KERZHOMA_SUITE, KERZHOMA_HOSTNAME, BYTES("bench-7"));
     b = kerzhoma_add_property(b.builder, IN, KERZHOMA_OF_SUITE, BYTES("seed"), BYTES("42"));
     b = kerzhoma_set_number(b.builder, IN, KERZHOMA_DISABLED, 4);
     b = kerzhoma_set_text(b.builder, IN, KERZHOMA_SUITE, KERZHOMA_SYSTEM_ERR, BYTES("suite err"));
@@ -419,7 +420,7 @@ static bool holds(const uint8_t *area, size_t size, const char *part)
 static void built(void)
 {
     static const char *const parts[] = {
-        "01234567-89ab-cdef-0123-456789abcdef", "2024-02-29T23:59:58.123+01:00", "hostname", "b&lt;2", "seed", "42", "suite err", "c.d",
+        "01234567-89ab-cdef-0123-456789abcdef", "2024-02-29T23:59:58.123+01:00", "package", "b&lt;2", "hostname", "bench-7", "seed", "42", "suite err", "c.d",
         "18446744073709551615", "x\xef\xbf\xbd", "trace", "flakyError",
     };
     kerzhoma_writing w;

@@ -508,7 +508,8 @@ enum kerzhoma_field {
     KERZHOMA_DESCRIPTION = 3, /* status, run */
     KERZHOMA_STACK_TRACE = 4, /* run */
     KERZHOMA_SYSTEM_OUT = 5,  /* suite, case, run */
-    KERZHOMA_SYSTEM_ERR = 6   /* suite, case, run */
+    KERZHOMA_SYSTEM_ERR = 6,  /* suite, case, run */
+    KERZHOMA_HOSTNAME = 7     /* suite */
 };
 
 kerzhoma_built kerzhoma_set_text(

@@ -340,9 +340,9 @@ impl Script {
     fn has(&self, element: u32, field: u32) -> Said {
         let main = self.case.as_ref().is_some_and(|c| !matches!(c.0.status, TestCaseStatus::Success { .. }));
         let good = match (element, field) {
-            (_, 7..) | (5.., _) => false,
+            (_, 8..) | (5.., _) => false,
             (REPORT, _) => false,
-            (SUITE, 5 | 6) => self.suite.is_some(),
+            (SUITE, 5..=7) => self.suite.is_some(),
             (CASE, 0 | 5 | 6) => self.case.is_some(),
             (STATUS, 1..=3) => main,
             (LAST, 1..=6) if self.last == Some(LAST) => true,
@@ -366,11 +366,17 @@ impl Script {
         }
     }
 
+    /// The crate has it as an extra.
+    fn set_hostname(&mut self, s: &str) {
+        self.suite.as_mut().unwrap().0.extra.insert(XmlString::new("hostname"), XmlString::new(s));
+    }
+
     fn set_text(&mut self, at: usize, element: u32, field: u32, s: String) -> Said {
         self.store(at, &s);
         let run = element == LAST && self.last == Some(LAST);
         match (element, field) {
             (SUITE, 5) => drop(self.suite.as_mut().unwrap().0.set_system_out(s)),
+            (SUITE, 7) => self.set_hostname(&s),
             (SUITE, _) => drop(self.suite.as_mut().unwrap().0.set_system_err(s)),
             (CASE, 0) => drop(self.case.as_mut().unwrap().0.set_classname(s)),
             (CASE, 5) => drop(self.case.as_mut().unwrap().0.set_system_out(s)),
@@ -477,7 +483,7 @@ fn setter(r: &mut Random, element: u32) -> Call {
         3 if element == CASE => Call::Number(0, r.next() >> r.below(64)),
         3 if element == SUITE => Call::Number(1, r.below(1000)),
         3 | 4 if element == REPORT => Call::Uuid([r.next() as u32, r.next() as u32, r.next() as u32, r.next() as u32]),
-        _ => Call::Text(element, r.below(7) as u32, text(r)),
+        _ => Call::Text(element, r.below(8) as u32, text(r)),
     }
 }
 
@@ -507,7 +513,7 @@ fn any_call(r: &mut Random) -> Call {
         9 => Call::Uuid([1, 2, 3, r.next() as u32]),
         10 => Call::Number(r.below(3) as u32, r.next()),
         11 => Call::Finish,
-        _ => Call::Text(element, r.below(8) as u32, any_bytes(r)),
+        _ => Call::Text(element, r.below(9) as u32, any_bytes(r)),
     }
 }
 

@@ -747,7 +747,7 @@ fn agree(a: &Input, b: &Input) -> bool {
 }
 
 /// Request 12 lets crate and product differ where another key is cleaned to `hostname`.
-fn cleans_to_hostname(input: &Input) -> bool {
+pub fn cleans_to_hostname(input: &Input) -> bool {
     let t = &input.table;
     let cleaned =
         |key: &[u8]| std::str::from_utf8(key).ok().and_then(quick_xml::rules::decoded).map(|k| quick_xml::rules::filtered(&k));

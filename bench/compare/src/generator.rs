@@ -610,8 +610,10 @@ impl<'a> Generator<'a> {
 
     /// A key of an extra, or one that is passed over; some are cleaned to the same, or to a key that the element has.
     fn other_key(&mut self) -> Vec<u8> {
-        const KEYS: [&[u8]; 16] = [
+        const KEYS: [&[u8]; 18] = [
             b"hostname",
+            b"host&#110;ame",
+            b"host\x01name",
             b"package",
             b"a",
             b"&#97;",

@@ -30,7 +30,7 @@ pub mod tokens;
 #[cfg(writes_xml)]
 pub mod write_xml;
 
-/// What the requests that have landed changed (docs/DIFFERENCES.md), 8 among them; 3 and 7 stand in `respelling`.
+/// What the requests that have landed changed (docs/DIFFERENCES.md), 8 and 12 among them; 3 and 7 stand in `respelling`.
 pub fn changes() -> quick_xml::replay::Changes {
-    quick_xml::replay::Changes { scratch_alone: true, hostname: false }
+    quick_xml::replay::Changes { scratch_alone: true, hostname: true }
 }

@@ -1,6 +1,6 @@
 //! The programs `list`, `write`, `write_xml` and `list_xml` (rules P1 to P6 and N12), each started for each table or document.
 use crate::{
-    compare::{differing, Bench, Compared},
+    compare::{cleans_to_hostname, differing, Bench, Compared},
     documents::Documents,
     generator::Generator,
     random::Random,
@@ -80,6 +80,9 @@ impl Bench {
             read.as_ref().map(|r| listing(&r.report).into_bytes()).filter(|l| l.len() <= BUFFER).unwrap_or(REFUSED.to_vec());
         hit_if!(listed == REFUSED, "P4", "(refused)", "a listing");
         same("list", &listed, &run(&folder.join("list"), &bytes)?)?;
+        if self.changes.hostname && read.is_some() && cleans_to_hostname(&input) {
+            return self.document_program(seed, folder);
+        }
         let (table, document) = read.map(|r| written(&r.report, self.changes.hostname)).unzip();
         let table = table.filter(fits).map_or(REFUSED.to_vec(), |t| Input::new(t).to_bytes());
         hit_if!(table == REFUSED, "P5", "(refused)", "a table");

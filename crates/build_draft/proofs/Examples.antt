@@ -4,7 +4,7 @@ use mathlib.Core.Path.{_≡_, refl}
 use mathlib.Core.List.{List, [], _∷_, _++_}
 use mathlib.Core.Bool.{Bool, cond}
 use Rattle.tree_record.specs.Kinds as kind
-use Rattle.build_draft.specs.declared.TextField.the-variants.{Classname, Message, Ty, Description, StackTrace, SystemOut, SystemErr}
+use Rattle.build_draft.specs.declared.TextField.the-variants.{Classname, Message, Ty, Description, StackTrace, SystemOut, SystemErr, Hostname}
 use Rattle.build_draft.specs.Parts.{hasText, hasTimes, isOutput}
 
 abbrev kinds : List ℕ
@@ -44,8 +44,11 @@ system-out = refl
 system-err : those (λ k. hasText k SystemErr) kinds ≡ kind.suite ∷ kind.case ∷ runs
 system-err = refl
 
+hostname : those (λ k. hasText k Hostname) kinds ≡ kind.suite ∷ []
+hostname = refl
+
 -- those that may go in lossily
-outputs : those isOutput (Classname ∷ Message ∷ Ty ∷ Description ∷ StackTrace ∷ SystemOut ∷ SystemErr ∷ []) ≡ SystemOut ∷ SystemErr ∷ []
+outputs : those isOutput (Classname ∷ Message ∷ Ty ∷ Description ∷ StackTrace ∷ SystemOut ∷ SystemErr ∷ Hostname ∷ []) ≡ SystemOut ∷ SystemErr ∷ []
 outputs = refl
 
 -- ---- timestamp and time

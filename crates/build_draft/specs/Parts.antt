@@ -18,7 +18,7 @@ use Rattle.tree_put.specs.Put.{putText, putCount}
 use Rattle.tree_counts.specs.declared.Counts.{Counts}
 use Rattle.tree_counts.specs.Counts.{withSuite}
 use Rattle.build_draft.specs.declared.TextField.{TextField}
-use Rattle.build_draft.specs.declared.TextField.the-variants.{Classname, Message, Ty, Description, StackTrace, SystemOut, SystemErr}
+use Rattle.build_draft.specs.declared.TextField.the-variants.{Classname, Message, Ty, Description, StackTrace, SystemOut, SystemErr, Hostname}
 use Rattle.build_draft.specs.declared.NonSuccessKind.{NonSuccessKind}
 use Rattle.build_draft.specs.declared.NonSuccessKind.the-variants.{Failure, Error}
 use Rattle.build_draft.specs.declared.FlakyOrRerun.{FlakyOrRerun}
@@ -170,6 +170,7 @@ hasText k Description = isStatus k
 hasText k StackTrace = isRun k
 hasText k SystemOut = eqb k kind.suite || (eqb k kind.case || isRun k)
 hasText k SystemErr = eqb k kind.suite || (eqb k kind.case || isRun k)
+hasText k Hostname = eqb k kind.suite
 
 abbrev pub wordFor : TextField → ℕ
 wordFor Classname = word.classname
@@ -179,6 +180,7 @@ wordFor Description = word.description
 wordFor StackTrace = word.stackTrace
 wordFor SystemOut = word.out
 wordFor SystemErr = word.err
+wordFor Hostname = word.hostname
 
 abbrev pub bitFor : TextField → ℕ
 bitFor Classname = bit.classname
@@ -188,6 +190,7 @@ bitFor Description = bit.description
 bitFor StackTrace = bit.stackTrace
 bitFor SystemOut = bit.out
 bitFor SystemErr = bit.err
+bitFor Hostname = bit.hostname
 
 -- the crate takes only outputs lossily
 abbrev pub isOutput : TextField → Bool
@@ -198,6 +201,7 @@ isOutput Message = false
 isOutput Ty = false
 isOutput Description = false
 isOutput StackTrace = false
+isOutput Hostname = false
 
 -- which kinds of records have a timestamp and a time (rule B4)
 abbrev pub hasTimes : ℕ → Bool

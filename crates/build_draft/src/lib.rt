@@ -64,6 +64,7 @@ pub enum TextField {
     StackTrace,
     SystemOut,
     SystemErr,
+    Hostname,
 }
 
 pub enum NumberField {

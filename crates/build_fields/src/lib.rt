@@ -62,6 +62,7 @@ pub fn has_text(k: u32, field: TextField) -> bool
         TextField::StackTrace => is_run(k),
         TextField::SystemOut => has_outputs(k),
         TextField::SystemErr => has_outputs(k),
+        TextField::Hostname => k == kind::SUITE,
     }
 }
 
@@ -76,6 +77,7 @@ pub fn word_for(field: TextField) -> usize
         TextField::StackTrace => word::STACK_TRACE,
         TextField::SystemOut => word::OUT,
         TextField::SystemErr => word::ERR,
+        TextField::Hostname => word::HOSTNAME,
     }
 }
 
@@ -90,6 +92,7 @@ pub fn bit_for(field: TextField) -> u32
         TextField::StackTrace => bit::STACK_TRACE,
         TextField::SystemOut => bit::OUT,
         TextField::SystemErr => bit::ERR,
+        TextField::Hostname => bit::HOSTNAME,
     }
 }
 
@@ -104,6 +107,7 @@ pub fn is_output(field: TextField) -> bool
         TextField::Ty => false,
         TextField::Description => false,
         TextField::StackTrace => false,
+        TextField::Hostname => false,
     }
 }
 

@@ -73,7 +73,7 @@ module _ {b : Builder} {words text : List ℕ} {q : Report} (s : Stored b words 
       ∙ ap (λ (r : List ℕ). recordsIn (s .placed) ++ (r ∷ [])) (suite-record (b .bytes) v)
       ∙ sym (records-append (s .placed) (suitePlaced (b .bytes) v ∷ [])))
       (each-append (each-front (s .placed) (firstText (b .bytes) v (blankPlaced kind.suite) ∷ []) (k .standing))
-      (more (record { first = name-stands (s .placed) (blankPlaced kind.suite) h v w c f; out = tt; err = tt; second = tt; third = tt; fourth = tt }) done)) in
+      (more (record { first = name-stands (s .placed) (blankPlaced kind.suite) h v w c f; out = tt; err = tt; second = tt; third = tt; fourth = tt; seventh = tt }) done)) in
       record {
         stored = stored-more s (suitePlaced (b .bytes) v) j refl (rows-new-suite q v) (suite-fits v w c);
         marks = marked-new-suite q v e (last-taken b ∙ sym (rows-many s)) refl refl;

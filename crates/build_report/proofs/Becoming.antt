@@ -14,7 +14,7 @@ use Rattle.tree_report.specs.Report.{Text}
 use Rattle.tree_report.specs.inside.Cells.{written, isGiven, ofNumber, ofCount, uuidFront, uuidBack, Row}
 use Rattle.tree_placed.specs.inside.Placed.{Placed, recordOf, StandsAt, InTexts}
 use Rattle.tree_placed.specs.inside.Changed.{withFirst, withOut, withErr, withMiddle, withTimestamp, withTime, withSecond, withThird, withFourth}
-use Rattle.tree_placed.specs.inside.Changed.{withFifth, withSixth, withFlaky, onRow, firstText, outText, errText, secondText, thirdText, fourthText}
+use Rattle.tree_placed.specs.inside.Changed.{withFifth, withSixth, withSeventh, withFlaky, onRow, firstText, outText, errText, secondText, thirdText, fourthText, seventhText}
 use Rattle.tree_placed.proofs.Putting as put
 use Rattle.tree_placed.proofs.Putting.{record-length}
 use Rattle.tree_placed.proofs.Fronts.{text-fronts, number-fronts, count-fronts, moment-fronts, time-fronts, uuid-fronts, mark-fronts, unmark-fronts}
@@ -41,6 +41,7 @@ withText field.Description v r = withThird (written v) r
 withText field.StackTrace v r = withFourth (written v) r
 withText field.SystemOut v r = withOut (written v) r
 withText field.SystemErr v r = withErr (written v) r
+withText field.Hostname v r = withSeventh (written v) r
 
 module _ {texts : List ℕ} {p : Placed} (h : InTexts texts p) where
   -- by what it makes of the record alone, and that it touches no words behind it
@@ -69,6 +70,10 @@ module _ {texts : List ℕ} {p : Placed} (h : InTexts texts p) where
     fourth-becomes =
         made (fourthText x v p) (putText 22 7 x (length v)) (λ z. text-fronts (recordOf p) z (record-length p) 22 7 x (length v) (lit≤ tt)) (put.put-fourth p x v) (still.fourth-in h x v s)
 
+    pub seventh-becomes : Becomes (putText 28 10 x (length v)) texts p (withSeventh (written v) (p .row))
+    seventh-becomes =
+        made (seventhText x v p) (putText 28 10 x (length v)) (λ z. text-fronts (recordOf p) z (record-length p) 28 10 x (length v) (lit≤ tt)) (put.put-seventh p x v) (still.seventh-in h x v s)
+
     pub text-becomes : (f : TextField) → Becomes (putText (wordFor f) (bitFor f) x (length v)) texts p (withText f v (p .row))
     text-becomes field.Classname = second-becomes
     text-becomes field.Message = first-becomes
@@ -77,6 +82,7 @@ module _ {texts : List ℕ} {p : Placed} (h : InTexts texts p) where
     text-becomes field.StackTrace = fourth-becomes
     text-becomes field.SystemOut = out-becomes
     text-becomes field.SystemErr = err-becomes
+    text-becomes field.Hostname = seventh-becomes
 
   -- ---- a value with a presence bit
   pub moment-becomes : (m : Moment) → Becomes (putMoment m) texts p (withTimestamp (some m) (p .row))

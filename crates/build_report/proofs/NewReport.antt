@@ -60,7 +60,7 @@ module _ (words bytes : ℕ) where
   begun : leb 1 (roomFor (zeros words)) ≡ true → Stands first (takenDraft kind.report (start words bytes) .words) (zeros bytes) (report.reportNamed none)
   begun l =
       let h = holding-more kind.report l (empty-held words bytes) in
-      let k = same-records h unnamed-record (more (record { first = tt; out = tt; err = tt; second = tt; third = tt; fourth = tt }) done) in
+      let k = same-records h unnamed-record (more (record { first = tt; out = tt; err = tt; second = tt; third = tt; fourth = tt; seventh = tt }) done) in
       record {
         stored = stored (report.reportNamed none) (holding-marks k refl refl) refl (both unnamed-fits refl);
         marks = marked-none (report.reportNamed none) refl refl refl refl refl;

@@ -97,6 +97,7 @@ pair-fits κ p a b c d = whole-fits (record {
   fourth = refl;
   fifth = refl;
   sixth = refl;
+  seventh = refl;
   timestamp = refl;
   time = refl;
 })
@@ -107,7 +108,7 @@ unfolding recordOf
 put-value p x v e =
     ap (λ (t : Bool). set (recordOf (outText x v p)) 1
     (flagsOf (isGiven (p .row .first) ∷ t ∷ isGiven (p .row .err) ∷ isSome (p .row .timestamp) ∷ isSome (p .row .time)
-    ∷ isGiven (p .row .second) ∷ isGiven (p .row .third) ∷ isGiven (p .row .fourth) ∷ isGiven (p .row .sixth) ∷ p .row .isFlaky ∷ []))) e
+    ∷ isGiven (p .row .second) ∷ isGiven (p .row .third) ∷ isGiven (p .row .fourth) ∷ isGiven (p .row .sixth) ∷ p .row .isFlaky ∷ isGiven (p .row .seventh) ∷ []))) e
 
 value-becomes : {texts : List ℕ} {κ : ℕ} {q : Pair} (p : Placed) → p .row ≡ pairRow κ q → InTexts texts p → (x : ℕ) (v : Text) → StandsAt texts x (written v)
     → Becomes (putPair 4 x (length v)) texts p (pairRow κ (record { key = q .key; value = v }))

@@ -31,6 +31,7 @@ same-fields k k′ a b c d e = record { text = go; times = λ i. a i || (b i || 
     go field.StackTrace = e
     go field.SystemOut = λ i. b i || (c i || e i)
     go field.SystemErr = λ i. b i || (c i || e i)
+    go field.Hostname = b
 
 pub same-kind : (k : ℕ) → SameFields k k
 same-kind k = record { text = λ f. refl; times = refl }

@@ -24,6 +24,7 @@ no-report-text field.Description e = false≢true e
 no-report-text field.StackTrace e = false≢true e
 no-report-text field.SystemOut e = false≢true e
 no-report-text field.SystemErr e = false≢true e
+no-report-text field.Hostname e = false≢true e
 
 no-pair-text : (f : TextField) → hasText 4 f ≡ true → ⊥
 no-pair-text field.Classname e = false≢true e
@@ -33,6 +34,7 @@ no-pair-text field.Description e = false≢true e
 no-pair-text field.StackTrace e = false≢true e
 no-pair-text field.SystemOut e = false≢true e
 no-pair-text field.SystemErr e = false≢true e
+no-pair-text field.Hostname e = false≢true e
 
 -- ---- the rows
 module _ {b : Builder} (r : Report) (m : Marked b r) (v : Text) where
@@ -44,6 +46,7 @@ module _ {b : Builder} (r : Report) (m : Marked b r) (v : Text) where
   suite-text field.StackTrace e n h = absurd (false≢true h)
   suite-text field.SystemOut e n h = suite-altered r m (withText field.SystemOut v) (suiteText field.SystemOut v) e n refl refl refl refl
   suite-text field.SystemErr e n h = suite-altered r m (withText field.SystemErr v) (suiteText field.SystemErr v) e n refl refl refl refl
+  suite-text field.Hostname e n h = suite-altered r m (withText field.Hostname v) (suiteText field.Hostname v) e n refl refl refl refl
 
   case-text : {s : TestSuite} {c : TestCase} {i : ℕ} (f : TextField) → lastIn (r .suites) ≡ some s → lastIn (s .cases) ≡ some c → i ≡ caseMark (suiteMark r) s → hasText 3 f ≡ true
       → Altered b r i (withText f v) (setText case f v r)
@@ -54,6 +57,7 @@ module _ {b : Builder} (r : Report) (m : Marked b r) (v : Text) where
   case-text field.StackTrace e d n h = absurd (false≢true h)
   case-text field.SystemOut e d n h = case-altered r m (withText field.SystemOut v) e d (caseText field.SystemOut v) n refl refl refl refl
   case-text field.SystemErr e d n h = case-altered r m (withText field.SystemErr v) e d (caseText field.SystemErr v) n refl refl refl refl
+  case-text field.Hostname e d n h = absurd (false≢true h)
 
   main-row : (f : TextField) → hasText 6 f ≡ true → (k : ℕ) (a : Bool) (g : Reason) → mainRow k a (reasonText f v g) ≡ withText f v (mainRow k a g)
   main-row field.Classname h k a g = absurd (false≢true h)
@@ -63,6 +67,7 @@ module _ {b : Builder} (r : Report) (m : Marked b r) (v : Text) where
   main-row field.StackTrace h k a g = absurd (false≢true h)
   main-row field.SystemOut h k a g = absurd (false≢true h)
   main-row field.SystemErr h k a g = absurd (false≢true h)
+  main-row field.Hostname h k a g = absurd (false≢true h)
 
   run-row : (f : TextField) → hasText 9 f ≡ true → (g : FlakyOrRerun) (x : TestRerun) → runRow g (runText f v x) ≡ withText f v (runRow g x)
   run-row field.Classname h g x = absurd (false≢true h)
@@ -72,6 +77,7 @@ module _ {b : Builder} (r : Report) (m : Marked b r) (v : Text) where
   run-row field.StackTrace h g x = refl
   run-row field.SystemOut h g x = refl
   run-row field.SystemErr h g x = refl
+  run-row field.Hostname h g x = absurd (false≢true h)
 
   pub text-altered : {i : ℕ} {t : Target} (f : TextField) → Place r i t → hasText (kindOfTarget t) f ≡ true → Altered b r i (withText f v) (setText t f v r)
   text-altered f (at-report n) h = absurd (no-report-text f h)

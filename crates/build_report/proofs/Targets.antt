@@ -31,6 +31,7 @@ no-text field.Description = refl
 no-text field.StackTrace = refl
 no-text field.SystemOut = refl
 no-text field.SystemErr = refl
+no-text field.Hostname = refl
 
 module _ {b : Builder} {words text : List ℕ} {r : Report} (s : Stored b words text r) {i : ℕ} {t : Target} where
   pub text-test : (f : TextField) → Reads r i t → hasText (kindAt words i) f ≡ hasText (kindOfTarget t) f

@@ -46,7 +46,7 @@ reportNamed name = record { name = name; uuid = none; timestamp = none; time = n
 
 -- `TestSuite::new`
 abbrev pub newSuite : Text → TestSuite
-newSuite name = record { name = name; counts = noCounts; timestamp = none; time = none; cases = []; properties = []; systemOut = none; systemErr = none; extra = [] }
+newSuite name = record { name = name; counts = noCounts; timestamp = none; time = none; hostname = none; cases = []; properties = []; systemOut = none; systemErr = none; extra = [] }
 
 abbrev pub noReason : Reason
 noReason = record { message = none; type = none; description = none }
@@ -86,7 +86,18 @@ onSuite f r = withSuites r (onLast f (r .suites))
 
 abbrev pub withCases : TestSuite → Counts → List TestCase → TestSuite
 withCases s c cs =
-    record { name = s .name; counts = c; timestamp = s .timestamp; time = s .time; cases = cs; properties = s .properties; systemOut = s .systemOut; systemErr = s .systemErr; extra = s .extra }
+    record {
+      name = s .name;
+      counts = c;
+      timestamp = s .timestamp;
+      time = s .time;
+      hostname = s .hostname;
+      cases = cs;
+      properties = s .properties;
+      systemOut = s .systemOut;
+      systemErr = s .systemErr;
+      extra = s .extra;
+    }
 
 abbrev pub onCase : (TestCase → TestCase) → Report → Report
 onCase f r = onSuite (λ s. withCases s (s .counts) (onLast f (s .cases))) r
@@ -175,6 +186,7 @@ suitePairs extra properties s =
       counts = s .counts;
       timestamp = s .timestamp;
       time = s .time;
+      hostname = s .hostname;
       cases = s .cases;
       properties = properties;
       systemOut = s .systemOut;
@@ -293,6 +305,7 @@ suiteText field.SystemOut t s = record {
   counts = s .counts;
   timestamp = s .timestamp;
   time = s .time;
+  hostname = s .hostname;
   cases = s .cases;
   properties = s .properties;
   systemOut = some t;
@@ -304,10 +317,23 @@ suiteText field.SystemErr t s = record {
   counts = s .counts;
   timestamp = s .timestamp;
   time = s .time;
+  hostname = s .hostname;
   cases = s .cases;
   properties = s .properties;
   systemOut = s .systemOut;
   systemErr = some t;
+  extra = s .extra;
+}
+suiteText field.Hostname t s = record {
+  name = s .name;
+  counts = s .counts;
+  timestamp = s .timestamp;
+  time = s .time;
+  hostname = some t;
+  cases = s .cases;
+  properties = s .properties;
+  systemOut = s .systemOut;
+  systemErr = s .systemErr;
   extra = s .extra;
 }
 
@@ -353,6 +379,7 @@ caseText field.SystemErr t c = record {
   extra = c .extra;
   properties = c .properties;
 }
+caseText field.Hostname t c = c
 
 -- of a failure, error or skipped
 abbrev pub reasonText : TextField → Text → Reason → Reason
@@ -363,6 +390,7 @@ reasonText field.Description t m = record { message = m .message; type = m .type
 reasonText field.StackTrace t m = m
 reasonText field.SystemOut t m = m
 reasonText field.SystemErr t m = m
+reasonText field.Hostname t m = m
 
 -- of a run
 abbrev pub runText : TextField → Text → TestRerun → TestRerun
@@ -433,6 +461,7 @@ runText field.SystemErr t e = record {
   systemErr = some t;
   description = e .description;
 }
+runText field.Hostname t e = e
 
 abbrev pub onReason : (Reason → Reason) → TestCaseStatus → TestCaseStatus
 onReason f (success runs) = success runs
@@ -460,6 +489,7 @@ setTimestamp suite m r = onSuite (λ s. record {
   counts = s .counts;
   timestamp = some m;
   time = s .time;
+  hostname = s .hostname;
   cases = s .cases;
   properties = s .properties;
   systemOut = s .systemOut;
@@ -499,6 +529,7 @@ setTime suite d r = onSuite (λ s. record {
   counts = s .counts;
   timestamp = s .timestamp;
   time = some d;
+  hostname = s .hostname;
   cases = s .cases;
   properties = s .properties;
   systemOut = s .systemOut;

@@ -90,6 +90,6 @@ no-outcome c = refl
 
 no-codes : (o : Outcome draft.Draft)
     → (coded code.elements 5 o ≡ refused (late cause.NotLayout)) × (coded code.holders 2 o ≡ refused (late cause.NotLayout))
-    × (coded code.fields 7 o ≡ refused (late cause.NotLayout)) × (coded code.numbers 2 o ≡ refused (late cause.NotLayout))
+    × (coded code.fields 8 o ≡ refused (late cause.NotLayout)) × (coded code.numbers 2 o ≡ refused (late cause.NotLayout))
     × (coded code.kinds 2 o ≡ refused (late cause.NotLayout)) × (coded code.families 2 o ≡ refused (late cause.NotLayout))
 no-codes o = (refl, refl, refl, refl, refl, refl)

@@ -169,34 +169,40 @@ module _ (c : TestCase) (e : fitCase c ≡ true) where
       (outputs-kids (c .systemOut) (c .systemErr) (every-behind xmlText (listed (c .classname)) (listed (c .systemOut) ++ listed (c .systemErr)) later-texts)))))
 
 module _ (s : TestSuite) (e : fitSuite s ≡ true) where
-  abbrev suite-outputs : Bool
-  suite-outputs = every xmlText (listed (s .systemOut) ++ listed (s .systemErr))
+  abbrev suite-later : Bool
+  suite-later = every xmlText (listed (s .hostname) ++ (listed (s .systemOut) ++ listed (s .systemErr)))
 
   abbrev suite-rest : Bool
   suite-rest = every fitProperty (s .properties) && every fitCase (s .cases)
 
-  suite-texts : (xmlText (s .name) && suite-outputs) ≡ true
+  suite-texts : (xmlText (s .name) && suite-later) ≡ true
   unfolding fitSuite
-  suite-texts = and-left (xmlText (s .name) && suite-outputs) (every fitExtra (s .extra) && suite-rest) e
+  suite-texts = and-left (xmlText (s .name) && suite-later) (every fitExtra (s .extra) && suite-rest) e
 
   suite-extras : every fitExtra (s .extra) ≡ true
   unfolding fitSuite
-  suite-extras = and-left (every fitExtra (s .extra)) suite-rest (and-right (xmlText (s .name) && suite-outputs) (every fitExtra (s .extra) && suite-rest) e)
+  suite-extras = and-left (every fitExtra (s .extra)) suite-rest (and-right (xmlText (s .name) && suite-later) (every fitExtra (s .extra) && suite-rest) e)
 
   suite-parts : suite-rest ≡ true
   unfolding fitSuite
-  suite-parts = and-right (every fitExtra (s .extra)) suite-rest (and-right (xmlText (s .name) && suite-outputs) (every fitExtra (s .extra) && suite-rest) e)
+  suite-parts = and-right (every fitExtra (s .extra)) suite-rest (and-right (xmlText (s .name) && suite-later) (every fitExtra (s .extra) && suite-rest) e)
+
+  later-suite-texts : suite-later ≡ true
+  later-suite-texts = and-right (xmlText (s .name)) suite-later suite-texts
 
   suite-fine : Each Fine (suiteAttributes s)
   unfolding xmlName crosses need low high
   suite-fine =
-      each-append (textual-fine (bytes "name") refl (s .name) (and-left (xmlText (s .name)) suite-outputs suite-texts))
+      each-append (textual-fine (bytes "name") refl (s .name) (and-left (xmlText (s .name)) suite-later suite-texts))
       (each-append (numeric-fine (bytes "tests") refl (s .counts .tests))
       (each-append (numeric-fine (bytes "skipped") refl (s .counts .skipped))
       (each-append (numeric-fine (bytes "errors") refl (s .counts .errors))
       (each-append (numeric-fine (bytes "failures") refl (s .counts .failures))
       (each-append (numbers-fine (bytes "disabled") refl (s .counts .disabled))
-      (each-append (stamped-fine (s .timestamp)) (each-append (timed-fine (s .time)) (extras-fine (s .extra) suite-extras))))))))
+      (each-append (stamped-fine (s .timestamp))
+      (each-append (timed-fine (s .time))
+      (each-append (texts-fine (bytes "hostname") refl (s .hostname) (every-front xmlText (listed (s .hostname)) (listed (s .systemOut) ++ listed (s .systemErr)) later-suite-texts))
+      (extras-fine (s .extra) suite-extras)))))))))
 
   suite-kids : Kids (serializeTestSuite s)
   unfolding serializeTestSuite xmlName crosses need low high
@@ -205,7 +211,7 @@ module _ (s : TestSuite) (e : fitSuite s ≡ true) where
       (serializeProperties (s .properties) ++ (each serializeTestCase (s .cases) ++ serializeOutputs (s .systemOut) (s .systemErr)))
       (kids-append (properties-kids (s .properties) (and-left (every fitProperty (s .properties)) (every fitCase (s .cases)) suite-parts))
       (kids-append (each-kids fitCase serializeTestCase case-kids (s .cases) (and-right (every fitProperty (s .properties)) (every fitCase (s .cases)) suite-parts))
-      (outputs-kids (s .systemOut) (s .systemErr) (and-right (xmlText (s .name)) suite-outputs suite-texts)))))
+      (outputs-kids (s .systemOut) (s .systemErr) (every-behind xmlText (listed (s .hostname)) (listed (s .systemOut) ++ listed (s .systemErr)) later-suite-texts)))))
 
 uuid-fine : (u : Option Words) → Each Fine (optional (λ (x : Words). attribute (bytes "uuid") (uuidText x) ∷ []) u)
 unfolding xmlName crosses need low high

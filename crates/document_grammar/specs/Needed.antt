@@ -27,6 +27,7 @@ small extra out = record {
         counts = record { tests = 0; failures = 0; errors = 0; skipped = 0; disabled = none };
         timestamp = none;
         time = none;
+        hostname = none;
         cases = [];
         properties = [];
         systemOut = out;

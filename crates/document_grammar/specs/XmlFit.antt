@@ -52,7 +52,7 @@ fitCase c =
 
 unfoldable pub fitSuite : TestSuite → Bool
 fitSuite s =
-    every xmlText (s .name ∷ (listed (s .systemOut) ++ listed (s .systemErr)))
+    every xmlText (s .name ∷ (listed (s .hostname) ++ (listed (s .systemOut) ++ listed (s .systemErr))))
     && (every fitExtra (s .extra) && (every fitProperty (s .properties) && every fitCase (s .cases)))
 
 unfoldable pub xmlFit : Report → Bool

@@ -22,11 +22,11 @@ unfolding kindNames
 kind-at k = table-at kindTable kindNames (bytes "?") 17 refl refl k
 
 abbrev pub attributeTable : List ℕ
-attributeTable = bytes "?\nname\nclassname\nuuid\ntimestamp\ntime\ntests\nfailures\nerrors\nskipped\ndisabled\nassertions\nmessage\ntype\nvalue\nstackTrace\n?"
+attributeTable = bytes "?\nname\nclassname\nuuid\ntimestamp\ntime\ntests\nfailures\nerrors\nskipped\ndisabled\nassertions\nmessage\ntype\nvalue\nstackTrace\nhostname\n?"
 
-pub attribute-at : (k : ℕ) → lineIn (min k 16) attributeTable ≡ named attributeNames k
+pub attribute-at : (k : ℕ) → lineIn (min k 17) attributeTable ≡ named attributeNames k
 unfolding attributeNames keys
-attribute-at k = table-at attributeTable attributeNames (bytes "?") 16 refl refl k
+attribute-at k = table-at attributeTable attributeNames (bytes "?") 17 refl refl k
 
 -- ---- the index
 module _ (kind index : ℕ) {r : Bool} (p : r ≡ hasName kind) where

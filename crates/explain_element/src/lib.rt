@@ -27,8 +27,8 @@ fn put_attribute(out: &mut [u8], k: Stored, code: usize) -> Stored
     ensures { λ r. ⌜ Puts (filled k (now (out .entry))) (named attributeNames code) (filled r (now (out .exit))) ⌝ }
 {
     let names =
-        b"?\nname\nclassname\nuuid\ntimestamp\ntime\ntests\nfailures\nerrors\nskipped\ndisabled\nassertions\nmessage\ntype\nvalue\nstackTrace\n?";
-    put(out, k, line_in(names, least(code, 16)))
+        b"?\nname\nclassname\nuuid\ntimestamp\ntime\ntests\nfailures\nerrors\nskipped\ndisabled\nassertions\nmessage\ntype\nvalue\nstackTrace\nhostname\n?";
+    put(out, k, line_in(names, least(code, 17)))
 }
 
 fn has_name(kind: usize) -> bool

@@ -54,6 +54,12 @@ unfolding lineOf pathText elementsText elementText kindNames attributeNames keys
     eventOf attributesFrom sameBytes need low high letter listed placeText sentence digit places decimal
 bad-time = refl
 
+-- a suite's host: the code of its key is 15, which is a stack trace's in a path
+host-and-trace : lineOf [] [] [] (refusal cause.NotUtf8 (element 2 0 nowhere ∷ element 16 16 nowhere ∷ element 16 15 nowhere ∷ element 16 14 nowhere ∷ []) nowhere nowhere) 0
+    ≡ bytes "refused 2 at testsuite[0]/@hostname/@stackTrace/@value: the text is not UTF-8\n"
+unfolding lineOf pathText elementsText elementText kindNames attributeNames keys indexText nameAt placeText sentence digit places decimal
+host-and-trace = refl
+
 -- ---- no events at all: an empty path
 no-report : lineOf [] [] [] (refusal cause.MissingReport [] 0 nowhere) 0 ≡ bytes "refused 8: the report ends before a testsuites element begins (event 0)\n"
 unfolding lineOf pathText elementsText placeText sentence digit places decimal
@@ -92,7 +98,7 @@ no-value = (refl, refl)
 
 -- ---- what no refusal of reading holds
 -- kinds and attributes that aren't there
-unknown : lineOf [] [] [] (refusal cause.XmlFault (element 0 0 0 ∷ element 13 0 0 ∷ element 17 5 0 ∷ element 16 0 0 ∷ element 16 16 0 ∷ []) 4 nowhere) 0
+unknown : lineOf [] [] [] (refusal cause.XmlFault (element 0 0 0 ∷ element 13 0 0 ∷ element 17 5 0 ∷ element 16 0 0 ∷ element 16 17 0 ∷ []) 4 nowhere) 0
     ≡ bytes "refused 1 at ?/?/?/@?/@?: the XML is broken here (event 4)\n"
 unfolding lineOf pathText elementsText elementText kindNames attributeNames keys indexText placeText sentence digit places decimal
 unknown = refl

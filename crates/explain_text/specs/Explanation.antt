@@ -5,7 +5,7 @@ use Prim.Native.Nat.{ℕ}
 use mathlib.Core.List.{List, [], _∷_, _++_}
 use mathlib.Core.Bool.{Bool, cond, _||_}
 use mathlib.Core.Option.{Option, none, some}
-use lib.ListN.{getD, take}
+use lib.ListN.{getD, take, drop}
 use lib.Dec.{leb, eqb}
 use Rattle.refusal.specs.Refusal.{nowhere, number, filler, Outcome}
 use Rattle.refusal.specs.declared.PathElement.{PathElement}
@@ -66,9 +66,9 @@ kindNames =
     ∷ bytes "@"
     ∷ []
 
--- an Attribute's index is the code of its key, or 15
+-- an Attribute's index is the code of its key up to 14, then 15 for a stack trace, then the next key's (attributeOf of read_element)
 unfoldable pub attributeNames : List (List ℕ)
-attributeNames = bytes "?" ∷ (keys ++ (bytes "stackTrace" ∷ []))
+attributeNames = bytes "?" ∷ (take 14 keys ++ (bytes "stackTrace" ∷ drop 14 keys))
 
 -- rule E4
 abbrev pub named : List (List ℕ) → ℕ → List ℕ

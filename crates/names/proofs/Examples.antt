@@ -21,10 +21,11 @@ key-names : (keyOf (bytes "type") ≡ 13) × (keyOf (bytes "kind") ≡ 0) × (ke
 unfolding keys codeFrom sameBytes
 key-names = (refl, refl, refl, refl, refl)
 
--- the last public key, the first other one, and what is no key
-public : (isPublic (keyOf (bytes "assertions")) ≡ true) × (isPublic (keyOf (bytes "message")) ≡ false) × (isPublic (keyOf (bytes "kind")) ≡ false)
+-- the last public key, the first other one, the last other one, and what is no key
+public : (isPublic (keyOf (bytes "assertions")) ≡ true) × (isPublic (keyOf (bytes "message")) ≡ false) × (isPublic (keyOf (bytes "hostname")) ≡ false)
+    × (isPublic (keyOf (bytes "kind")) ≡ false)
 unfolding keys codeFrom sameBytes
-public = (refl, refl, refl)
+public = (refl, refl, refl, refl)
 
 -- names of lengths that go past the bytes
 short-table : cut (bytes "ab") (1 ∷ 3 ∷ 1 ∷ []) ≡ bytes "a" ∷ bytes "b" ∷ [] ∷ []

@@ -105,7 +105,7 @@ pub tag-count : length tags ≡ 15
 unfolding tags
 tag-count = refl
 
-pub key-count : length keys ≡ 14
+pub key-count : length keys ≡ 15
 unfolding keys
 key-count = refl
 
@@ -120,7 +120,7 @@ own-keys = refl
 pub tag-code : (k : ℕ) → k < 15 → tagOf (getD tags k []) ≡ suc k
 tag-code k h = own-code tags own-tags k (rw tag-count h)
 
-pub key-code : (k : ℕ) → k < 14 → keyOf (getD keys k []) ≡ suc k
+pub key-code : (k : ℕ) → k < 15 → keyOf (getD keys k []) ≡ suc k
 key-code k h = own-code keys own-keys k (rw key-count h)
 
 -- the codes by name are those of the tables
@@ -159,9 +159,9 @@ module _ (f g : ℕ → Bool) where
       go true h b r = rw (sym (eqb-true k c h)) (one (f k) (g k) b)
       go false h b r = let z = eqb-false k c h in r (le-of-ne k c p z) (omega arith)
 
-pub public-codes : (c : ℕ) → c ≤ 14 → key.isPublic c ≡ (leb 1 c && leb c 11)
+pub public-codes : (c : ℕ) → c ≤ 15 → key.isPublic c ≡ (leb 1 c && leb c 11)
 unfolding agreeing
-public-codes c h = agreeing-at key.isPublic (λ (c : ℕ). leb 1 c && leb c 11) 0 15 refl c (omega arith) (omega arith)
+public-codes c h = agreeing-at key.isPublic (λ (c : ℕ). leb 1 c && leb c 11) 0 16 refl c (omega arith) (omega arith)
 
 -- a key is public where its code is one of these (rule L1)
 pub public-key : (s : List ℕ) → key.isPublic (keyOf s) ≡ (leb 1 (keyOf s) && leb (keyOf s) 11)

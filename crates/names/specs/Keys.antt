@@ -51,6 +51,9 @@ type = 13
 abbrev pub value : ℕ
 value = 14
 
+abbrev pub hostname : ℕ
+hostname = 15
+
 pub record Row : Type 0 where
   pub text : List ℕ
   pub code : ℕ
@@ -59,7 +62,7 @@ pub record Row : Type 0 where
 abbrev pub row : String → ℕ → Bool → Row
 row text code public = record { text = bytes text; code = code; public = public }
 
--- the public keys up to assertions (rule L1), then the other keys of deserialize.rs. A code is the place in the table, from 1
+-- the public keys up to assertions (rule L1), then the other keys of deserialize.rs, and the one that only we know (docs/DIFFERENCES.md). A code is the place in the table, from 1
 abbrev pub table : List Row
 table =
     row "name" name true
@@ -76,6 +79,7 @@ table =
     ∷ row "message" message false
     ∷ row "type" type false
     ∷ row "value" value false
+    ∷ row "hostname" hostname false
     ∷ []
 
 unfoldable pub keys : List (List ℕ)

@@ -26,3 +26,5 @@ pub const MESSAGE: usize = 12;
 pub const TYPE: usize = 13;
 
 pub const VALUE: usize = 14;
+
+pub const HOSTNAME: usize = 15;

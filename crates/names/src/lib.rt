@@ -59,8 +59,8 @@ pub fn key_of(key: &[u8]) -> usize
     ensures { λ r. ⌜ r ≡ keyOf (now (key .entry)) ⌝ }
 {
     code_in(
-        b"nameclassnameuuidtimestamptimetestsfailureserrorsskippeddisabledassertionsmessagetypevalue",
-        b"\x04\x09\x04\x09\x04\x05\x08\x06\x07\x08\x0a\x07\x04\x05",
+        b"nameclassnameuuidtimestamptimetestsfailureserrorsskippeddisabledassertionsmessagetypevaluehostname",
+        b"\x04\x09\x04\x09\x04\x05\x08\x06\x07\x08\x0a\x07\x04\x05\x08",
         key,
     )
 }

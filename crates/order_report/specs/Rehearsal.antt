@@ -92,6 +92,7 @@ suiteOf o =
       counts = countsOf o;
       timestamp = none;
       time = none;
+      hostname = none;
       cases = casesFrom 0 (kindsIn o);
       properties = [];
       systemOut = none;

@@ -48,10 +48,10 @@ abbrev pub holderAt : ℕ → Holder
 holderAt code = getD holders code holder.Case
 
 abbrev pub fields : List TextField
-fields = field.Classname ∷ field.Message ∷ field.Ty ∷ field.Description ∷ field.StackTrace ∷ field.SystemOut ∷ field.SystemErr ∷ []
+fields = field.Classname ∷ field.Message ∷ field.Ty ∷ field.Description ∷ field.StackTrace ∷ field.SystemOut ∷ field.SystemErr ∷ field.Hostname ∷ []
 
 abbrev pub fieldAt : ℕ → TextField
-fieldAt code = getD fields code field.SystemErr
+fieldAt code = getD fields code field.Hostname
 
 abbrev pub numbers : List NumberField
 numbers = number.Assertions ∷ number.Disabled ∷ []

@@ -17,7 +17,7 @@ pub const ELEMENTS: u32 = 5;
 
 pub const HOLDERS: u32 = 2;
 
-pub const FIELDS: u32 = 7;
+pub const FIELDS: u32 = 8;
 
 pub const NUMBERS: u32 = 2;
 
@@ -67,7 +67,8 @@ pub fn field_at(code: u32) -> TextField
         3 => TextField::Description,
         4 => TextField::StackTrace,
         5 => TextField::SystemOut,
-        _ => TextField::SystemErr,
+        6 => TextField::SystemErr,
+        _ => TextField::Hostname,
     }
 }
 

@@ -66,6 +66,7 @@ ofCases cs =
       counts = noCounts;
       timestamp = none;
       time = none;
+      hostname = none;
       cases = cs;
       properties = [];
       systemOut = none;
@@ -163,6 +164,7 @@ fullSuite =
       counts = record { tests = 6; failures = 7; errors = 8; skipped = 9; disabled = some 10 };
       timestamp = some suiteMoment;
       time = some (record { seconds = 1; nanos = 62500000 });
+      hostname = some (bytes "h\"x");
       cases = fullCase ∷ [];
       properties = record { key = bytes "n"; value = bytes "v" } ∷ [];
       systemOut = some (bytes "so");
@@ -189,21 +191,21 @@ fullEvents =
     ∷ "uuid" ≔ "01234567-89ab-cdef-fedc-ba9876543210" ∷ "timestamp" ≔ "2023-02-28T23:59:58.123-05:30" ∷ "time" ≔ "1.235" ∷ [])
     ∷ opens "testsuite" 9 (
     "name" ≔ "s" ∷ "tests" ≔ "6" ∷ "skipped" ≔ "9" ∷ "errors" ≔ "8" ∷ "failures" ≔ "7" ∷ "disabled" ≔ "10"
-    ∷ "timestamp" ≔ "0000-01-01T00:00:00.000+00:00" ∷ "time" ≔ "1.062" ∷ "x" ≔ "y" ∷ [])
+    ∷ "timestamp" ≔ "0000-01-01T00:00:00.000+00:00" ∷ "time" ≔ "1.062" ∷ "hostname" ≔ "h&quot;x" ∷ "x" ≔ "y" ∷ [])
     ∷ opens "properties" 0 []
-    ∷ empties "property" 18 ("name" ≔ "n" ∷ "value" ≔ "v" ∷ [])
+    ∷ empties "property" 19 ("name" ≔ "n" ∷ "value" ≔ "v" ∷ [])
     ∷ closes "properties"
-    ∷ opens "testcase" 20 (
+    ∷ opens "testcase" 21 (
     "name" ≔ "t" ∷ "classname" ≔ "c" ∷ "assertions" ≔ "18446744073709551615"
     ∷ "timestamp" ≔ "9999-12-31T23:59:59.999+23:59" ∷ "time" ≔ "0.188" ∷ "<k>" ≔ "&lt;v&gt;" ∷ "l" ≔ "w" ∷ [])
     ∷ opens "properties" 0 []
-    ∷ empties "property" 27 ("name" ≔ "p" ∷ "value" ≔ "q" ∷ [])
-    ∷ empties "property" 29 ("name" ≔ "" ∷ "value" ≔ "" ∷ [])
+    ∷ empties "property" 28 ("name" ≔ "p" ∷ "value" ≔ "q" ∷ [])
+    ∷ empties "property" 30 ("name" ≔ "" ∷ "value" ≔ "" ∷ [])
     ∷ closes "properties"
-    ∷ opens "error" 31 ("message" ≔ "&lt;m&gt;" ∷ "type" ≔ "&apos;t&apos;" ∷ [])
+    ∷ opens "error" 32 ("message" ≔ "&lt;m&gt;" ∷ "type" ≔ "&apos;t&apos;" ∷ [])
     ∷ says "d &amp; &quot;e&quot;"
     ∷ closes "error"
-    ∷ opens "rerunFailure" 33 ("timestamp" ≔ "2024-02-29T01:02:03.004-23:58" ∷ "time" ≔ "8388608.000" ∷ "message" ≔ "rm" ∷ "type" ≔ "rt" ∷ [])
+    ∷ opens "rerunFailure" 34 ("timestamp" ≔ "2024-02-29T01:02:03.004-23:58" ∷ "time" ≔ "8388608.000" ∷ "message" ≔ "rm" ∷ "type" ≔ "rt" ∷ [])
     ∷ says "rd"
     ∷ breaks
     ∷ opens "stackTrace" 0 []
@@ -216,7 +218,7 @@ fullEvents =
     ∷ says "re"
     ∷ closes "system-err"
     ∷ closes "rerunFailure"
-    ∷ opens "rerunError" 37 ("timestamp" ≔ "0000-01-01T00:00:00.000+00:00" ∷ "time" ≔ "0.000" ∷ "message" ≔ "em" ∷ "type" ≔ "et" ∷ [])
+    ∷ opens "rerunError" 38 ("timestamp" ≔ "0000-01-01T00:00:00.000+00:00" ∷ "time" ≔ "0.000" ∷ "message" ≔ "em" ∷ "type" ≔ "et" ∷ [])
     ∷ says "ed"
     ∷ breaks
     ∷ opens "stackTrace" 0 []
@@ -300,6 +302,7 @@ emptyOutput =
       counts = noCounts;
       timestamp = none;
       time = none;
+      hostname = none;
       cases = [];
       properties = [];
       systemOut = some [];

@@ -8,7 +8,7 @@ use lib.Dec.{eqb}
 use Rattle.names.specs.Keys.{isPublic}
 use Rattle.public_claims.specs.inside.PublicMachine.{Said, notListed, fieldOf, say}
 
--- a key that has none of the fourteen codes
+-- a key that has none of the fifteen codes
 pub record Other (c : ℕ) : Type 0 where
   pub is1 : eqb c 1 ≡ false
   pub is2 : eqb c 2 ≡ false
@@ -24,6 +24,7 @@ pub record Other (c : ℕ) : Type 0 where
   pub is12 : eqb c 12 ≡ false
   pub is13 : eqb c 13 ≡ false
   pub is14 : eqb c 14 ≡ false
+  pub is15 : eqb c 15 ≡ false
 
 pub data Code : ℕ → Type 0 where
   code1 : Code 1
@@ -40,6 +41,7 @@ pub data Code : ℕ → Type 0 where
   code12 : Code 12
   code13 : Code 13
   code14 : Code 14
+  code15 : Code 15
   further : {c : ℕ} → Other c → Code c
 
 choose : (P : ℕ → Type 0) (n c : ℕ) → P n → (eqb c n ≡ false → P c) → P c
@@ -53,8 +55,8 @@ pub codeOf : (c : ℕ) → Code c
 codeOf c =
     choose Code 1 c code1 λ e₁. choose Code 2 c code2 λ e₂. choose Code 3 c code3 λ e₃. choose Code 4 c code4 λ e₄. choose Code 5 c code5 λ e₅.
     choose Code 6 c code6 λ e₆. choose Code 7 c code7 λ e₇. choose Code 8 c code8 λ e₈. choose Code 9 c code9 λ e₉. choose Code 10 c code10 λ f₀.
-    choose Code 11 c code11 λ f₁. choose Code 12 c code12 λ f₂. choose Code 13 c code13 λ f₃. choose Code 14 c code14 λ f₄.
-    further (record { is1 = e₁; is2 = e₂; is3 = e₃; is4 = e₄; is5 = e₅; is6 = e₆; is7 = e₇; is8 = e₈; is9 = e₉; is10 = f₀; is11 = f₁; is12 = f₂; is13 = f₃; is14 = f₄ })
+    choose Code 11 c code11 λ f₁. choose Code 12 c code12 λ f₂. choose Code 13 c code13 λ f₃. choose Code 14 c code14 λ f₄. choose Code 15 c code15 λ f₅.
+    further (record { is1 = e₁; is2 = e₂; is3 = e₃; is4 = e₄; is5 = e₅; is6 = e₆; is7 = e₇; is8 = e₈; is9 = e₉; is10 = f₀; is11 = f₁; is12 = f₂; is13 = f₃; is14 = f₄; is15 = f₅ })
 
 pub field-other : (c : ℕ) → Other c → fieldOf c ≡ notListed
 unfolding fieldOf
@@ -77,4 +79,5 @@ blank-same c code11 v s = refl
 blank-same c code12 v s = refl
 blank-same c code13 v s = refl
 blank-same c code14 v s = refl
+blank-same c code15 v s = refl
 blank-same c (further o) v s = rw (field-other c o)

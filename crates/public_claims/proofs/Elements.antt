@@ -1,5 +1,5 @@
 -- Reading an element adds records that show the public machine's node for it. Assumes nothing.
-use Prim.Native.Nat.{ℕ, _+_, _≤_}
+use Prim.Native.Nat.{ℕ, _+_, _≤_, min}
 use mathlib.Core.Path.{_≡_, refl, sym, ap, ap₂, _∙_, subst}
 use mathlib.Core.List.{List, [], _∷_, _++_, map, append-nil}
 use mathlib.Core.Bool.{Bool, true, false}
@@ -25,12 +25,16 @@ use Rattle.public_claims.specs.inside.PublicMachine.{Sort, aReport, aSui
 use Rattle.public_claims.proofs.Holding.{Holds, accept, bind, needing}
 use Rattle.public_claims.proofs.Codes.{Code, codeOf, blank-same}
 use Rattle.public_claims.proofs.View.{lookAs, looks, sort-main, sort-run}
-use Rattle.public_claims.proofs.Said.{Effect, effect, Base, base-effect, Wide, Shows, Solid}
+use Rattle.public_claims.proofs.Said.{Effect, effect, Base, base-effect, Wide, below-nine as low, Shows, Solid}
 use Rattle.public_claims.proofs.Steps.{report-step, suite-step, case-step, run-step}
 
 -- ---- every role of an element
 two : 2 ≤ 2
 two = omega arith
+
+-- the bit of a suite's host isn't the flaky bit
+host-apart : 9 ≡ min 10 31 → ⊥
+host-apart e = omega arith
 
 module _ (kind : ℕ) where
   counts-wide : Each (Wide kind) countKeys
@@ -38,24 +42,26 @@ module _ (kind : ℕ) where
 
   property-wide : (c : ℕ) → Wide kind (propertyRole c)
   unfolding propertyRole
-  property-wide c = role-each (Wide kind) propertyKeys role.Ignored c ((two, omega arith), ((omega arith, omega arith), tt)) tt
+  property-wide c = role-each (Wide kind) propertyKeys role.Ignored c ((two, low 0 (omega arith)), ((omega arith, low 1 (omega arith)), tt)) tt
 
   status-wide : (b : Bool) (c : ℕ) → Wide kind (statusRole b c)
   unfolding statusRole
-  status-wide true c = role-each (Wide kind) (statusKeys true) role.Ignored c ((two, omega arith), (tt, (tt, ((omega arith, omega arith), tt)))) tt
-  status-wide false c = role-each (Wide kind) (statusKeys false) role.Ignored c ((two, omega arith), (tt, (tt, ((omega arith, omega arith), tt)))) tt
+  status-wide true c = role-each (Wide kind) (statusKeys true) role.Ignored c ((two, low 0 (omega arith)), (tt, (tt, ((omega arith, low 5 (omega arith)), tt)))) tt
+  status-wide false c = role-each (Wide kind) (statusKeys false) role.Ignored c ((two, low 0 (omega arith)), (tt, (tt, ((omega arith, low 5 (omega arith)), tt)))) tt
 
 report-wide : (c : ℕ) → Wide 1 (reportRole c)
 unfolding reportRole
-report-wide c = role-each (Wide 1) reportKeys role.Ignored c ((two, omega arith), (tt, (tt, (tt, counts-wide 1)))) tt
+report-wide c = role-each (Wide 1) reportKeys role.Ignored c ((two, low 0 (omega arith)), (tt, (tt, (tt, counts-wide 1)))) tt
 
 suite-wide : (c : ℕ) → Wide 2 (suiteRole c)
 unfolding suiteRole
-suite-wide c = role-each (Wide 2) suiteKeys role.Extra c ((two, omega arith), (tt, (tt, counts-wide 2))) two
+suite-wide c =
+    role-each (Wide 2) suiteKeys role.Extra c
+    ((two, low 0 (omega arith)), (tt, (tt, (omega arith, (omega arith, (omega arith, (omega arith, ((omega arith, omega arith), ((omega arith, host-apart), tt))))))))) two
 
 case-wide : (c : ℕ) → Wide 3 (caseRole c)
 unfolding caseRole
-case-wide c = role-each (Wide 3) caseKeys role.Extra c ((two, omega arith), (tt, (tt, ((omega arith, omega arith), ((omega arith, omega arith), tt))))) (omega arith)
+case-wide c = role-each (Wide 3) caseKeys role.Extra c ((two, low 0 (omega arith)), (tt, (tt, ((omega arith, low 5 (omega arith)), ((omega arith, omega arith), tt))))) (omega arith)
 
 -- ---- an element's attributes
 abbrev Stepping : ℕ → Sort → Type 0

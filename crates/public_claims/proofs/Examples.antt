@@ -44,6 +44,12 @@ alike : agree short long
 unfolding codeFrom sameBytes keys
 alike = refl
 
+-- suites that differ in their host alone
+hosts-alike : agree (Tag Empty (bytes "testsuite") 0 (named "name" "a" ∷ named "hostname" "box" ∷ []) ∷ [])
+    (Tag Empty (bytes "testsuite") 2 (named "name" "a" ∷ named "hostname" "&" ∷ []) ∷ [])
+unfolding codeFrom sameBytes keys
+hosts-alike = refl
+
 -- ---- events that are read alike and don't agree: one spelling isn't traded for the other
 abbrev emptied : List Event
 emptied = Tag Empty (bytes "property") 0 [] ∷ []
@@ -75,7 +81,12 @@ message-private : isPublicKey (bytes "message") ≡ false
 unfolding codeFrom sameBytes keys
 message-private = refl
 
-unknown-private : isPublicKey (bytes "hostname") ≡ false
+-- a suite's own, which the listing doesn't show
+hostname-private : isPublicKey (bytes "hostname") ≡ false
+unfolding codeFrom sameBytes keys
+hostname-private = refl
+
+unknown-private : isPublicKey (bytes "package") ≡ false
 unfolding codeFrom sameBytes keys
 unknown-private = refl
 

@@ -158,7 +158,7 @@ pub record Base (kind : ℕ) (t : List ℕ) (g : Given) : Type 0 where
 
 -- extras are read by suite and case only
 abbrev pub Wide : ℕ → Role → Type 0
-Wide kind (role.Text o k) = (2 ≤ o) × (k < 9)
+Wide kind (role.Text o k) = (2 ≤ o) × (9 ≡ min k 31 → ⊥)
 Wide kind (role.Count o) = 2 ≤ o
 Wide kind (role.Number o k) = (2 ≤ o) × (k < 9)
 Wide kind role.Uuid = Unit {0}
@@ -186,7 +186,7 @@ kept-time false d r = keeps-all 4 16 18 r
 number-keeps : (k o n : ℕ) (r : List ℕ) → 2 ≤ o → Keeps (min k 31) o (o + 2) r (marked k (putCount o n r))
 number-keeps k o n r h = text-keeps k o (n % 4294967296) (n / 4294967296) r h
 
-below-nine : (k : ℕ) → k < 9 → 9 ≡ min k 31 → ⊥
+pub below-nine : (k : ℕ) → k < 9 → 9 ≡ min k 31 → ⊥
 below-nine k h e = omega arith
 
 module _ {kind : ℕ} {t : List ℕ} {g : Given} (v : List ℕ) (h : Given) (b : Base kind t g) where
@@ -206,7 +206,7 @@ module _ {kind : ℕ} {t : List ℕ} {g : Given} (v : List ℕ) (h : Given) (b :
 
   pub base-effect : (ρ : Role) → Wide kind ρ → Effect kind ρ v g h → Base kind t h
   unfolding Effect
-  base-effect (role.Text o k) w e = grown-base (text-keeps k o _ _ (g .main) (w .0)) (below-nine k (w .1)) (e .0) (valueText v) (e .1) (same-hidden (e .2))
+  base-effect (role.Text o k) w e = grown-base (text-keeps k o _ _ (g .main) (w .0)) (w .1) (e .0) (valueText v) (e .1) (same-hidden (e .2))
   base-effect (role.Count o) w e = grown-base (pair-keeps 1 o _ _ (g .main) w) (λ z. omega arith) (e .0) [] (e .1) (same-hidden (e .2))
   base-effect (role.Number o k) w e = grown-base (number-keeps k o _ (g .main) (w .0)) (below-nine k (w .1)) (e .0) [] (e .1) (same-hidden (e .2))
   base-effect role.Uuid w e = grown-base (uuid-keeps (e .0 .0) (g .main)) (λ z. omega arith) (e .0 .1) [] (e .1) (same-hidden (e .2))

@@ -20,7 +20,7 @@ use Rattle.read_element.specs.Attributes.{Given}
 use Rattle.public_claims.specs.inside.PublicMachine.{Said, Field, theTests, theFailures, theErrors, theSkipped, theDisabled, fieldOf, say, integerValue, aReport, aSuite, aCase, aRun}
 use Rattle.read_report.proofs.Words.{Keeps, keeps-all, pair-keeps, text-keeps, marked-there, marked-first, marked-second, count-there, number-there, text-there}
 use Rattle.public_claims.proofs.View.{keeps-number, keeps-time, keeps-disabled, keeps-counts}
-use Rattle.public_claims.proofs.Codes.{Code, code1, code2, code3, code4, code5, code6, code7, code8, code9, code10, code11, code12, code13, code14, further, Other, field-other}
+use Rattle.public_claims.proofs.Codes.{Code, code1, code2, code3, code4, code5, code6, code7, code8, code9, code10, code11, code12, code13, code14, code15, further, Other, field-other}
 use Rattle.public_claims.proofs.Said.{Effect, Shows, become, stay-first, stay-text, stay-second, quiet-report, quiet-suite, quiet-case, quiet-run, uuid-keeps, moment-keeps}
 
 -- ---- what is stored is shown
@@ -151,6 +151,8 @@ report-step kind c code13 v g h s l e m =
     become aReport (say (fieldOf 13) v s) (e .1) (e .0) (quiet-report (keeps-all 1 4 4 (g .main)) (g .texts) [] s (omega arith) (omega arith) (λ z. omega arith) (λ z. omega arith) m)
 report-step kind c code14 v g h s l e m =
     become aReport (say (fieldOf 14) v s) (e .1) (e .0) (quiet-report (keeps-all 1 4 4 (g .main)) (g .texts) [] s (omega arith) (omega arith) (λ z. omega arith) (λ z. omega arith) m)
+report-step kind c code15 v g h s l e m =
+    become aReport (say (fieldOf 15) v s) (e .1) (e .0) (quiet-report (keeps-all 1 4 4 (g .main)) (g .texts) [] s (omega arith) (omega arith) (λ z. omega arith) (λ z. omega arith) m)
 report-step kind c (further o) v g h s l e m =
     let d : Effect kind role.Ignored v g h = subst (λ (ρ : Role). Effect kind ρ v g h) (report-other c o) e in
     subst (λ (φ : Field). Shows aReport (h .texts) (h .main) (say φ v s)) (sym (field-other c o))
@@ -158,7 +160,7 @@ report-step kind c (further o) v g h s l e m =
 
 suite-other : (c : ℕ) → Other c → suiteRole c ≡ role.Extra
 unfolding suiteRole roleIn
-suite-other c o = rw (o .is1, o .is4, o .is5, o .is6, o .is7, o .is8, o .is9, o .is10)
+suite-other c o = rw (o .is1, o .is4, o .is5, o .is6, o .is7, o .is8, o .is9, o .is10, o .is15)
 
 pub suite-step : (kind c : ℕ) → Code c → (v : List ℕ) (g h : Given) (s : Said) → length (g .main) ≡ 32 → Effect kind (suiteRole c) v g h →
     Shows aSuite (g .texts) (g .main) s → Shows aSuite (h .texts) (h .main) (say (fieldOf c) v s)
@@ -191,6 +193,10 @@ suite-step kind c code13 v g h s l e m =
     become aSuite (say (fieldOf 13) v s) (e .1 .1) (e .0) (quiet-suite (keeps-all 1 4 4 (g .main)) (g .texts) (e .1 .0) s (omega arith) (omega arith) (λ z. omega arith) m)
 suite-step kind c code14 v g h s l e m =
     become aSuite (say (fieldOf 14) v s) (e .1 .1) (e .0) (quiet-suite (keeps-all 1 4 4 (g .main)) (g .texts) (e .1 .0) s (omega arith) (omega arith) (λ z. omega arith) m)
+suite-step kind c code15 v g h s l e m = become aSuite (say (fieldOf 15) v s) (e .1) (e .0) (
+  stay-text (text-keeps 10 28 _ _ (g .main) (omega arith)) (g .texts) (valueText v) (inl (omega arith)) (m .0),
+  keeps-counts (text-keeps 10 28 _ _ (g .main) (omega arith)) (λ z. omega arith) (inl (omega arith)) ∙ m .1,
+)
 suite-step kind c (further o) v g h s l e m =
     let d : Effect kind role.Extra v g h = subst (λ (ρ : Role). Effect kind ρ v g h) (suite-other c o) e in
     subst (λ (φ : Field). Shows aSuite (h .texts) (h .main) (say φ v s)) (sym (field-other c o))
@@ -241,6 +247,8 @@ case-step kind c code13 v g h s l e m =
     become aCase (say (fieldOf 13) v s) (e .1 .1) (e .0) (quiet-case (keeps-all 1 4 4 (g .main)) (g .texts) (e .1 .0) s (omega arith) (inr (omega arith)) (λ z. omega arith) (λ z. omega arith) m)
 case-step kind c code14 v g h s l e m =
     become aCase (say (fieldOf 14) v s) (e .1 .1) (e .0) (quiet-case (keeps-all 1 4 4 (g .main)) (g .texts) (e .1 .0) s (omega arith) (inr (omega arith)) (λ z. omega arith) (λ z. omega arith) m)
+case-step kind c code15 v g h s l e m =
+    become aCase (say (fieldOf 15) v s) (e .1 .1) (e .0) (quiet-case (keeps-all 1 4 4 (g .main)) (g .texts) (e .1 .0) s (omega arith) (inr (omega arith)) (λ z. omega arith) (λ z. omega arith) m)
 case-step kind c (further o) v g h s l e m =
     let d : Effect kind role.Extra v g h = subst (λ (ρ : Role). Effect kind ρ v g h) (case-other c o) e in
     subst (λ (φ : Field). Shows aCase (h .texts) (h .main) (say φ v s)) (sym (field-other c o))
@@ -269,6 +277,7 @@ run-step kind c code12 v g h s l e m =
 run-step kind c code13 v g h s l e m =
     become aRun (say (fieldOf 13) v s) (e .1) (e .0) (quiet-run (text-keeps 5 18 _ _ (g .main) (omega arith)) (g .texts) (valueText v) s (inl (omega arith)) (λ z. omega arith) m)
 run-step kind c code14 v g h s l e m = become aRun (say (fieldOf 14) v s) (e .1) (e .0) (quiet-run (keeps-all 1 4 4 (g .main)) (g .texts) [] s (inr (omega arith)) (λ z. omega arith) m)
+run-step kind c code15 v g h s l e m = become aRun (say (fieldOf 15) v s) (e .1) (e .0) (quiet-run (keeps-all 1 4 4 (g .main)) (g .texts) [] s (inr (omega arith)) (λ z. omega arith) m)
 run-step kind c (further o) v g h s l e m =
     let d : Effect kind role.Ignored v g h = subst (λ (ρ : Role). Effect kind ρ v g h) (run-other c o) e in
     subst (λ (φ : Field). Shows aRun (h .texts) (h .main) (say φ v s)) (sym (field-other c o))

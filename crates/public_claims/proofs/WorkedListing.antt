@@ -67,6 +67,7 @@ lab =
       counts = twoTests;
       timestamp = none;
       time = none;
+      hostname = none;
       cases = caseA ∷ caseB ∷ [];
       properties = [];
       systemOut = none;
@@ -117,7 +118,7 @@ unfolding publicText publicReport nodesRead publicRun publicStep ending acting p
 worked-public = refl
 
 -- eleven keys are public (rule L1), the other three that reading knows aren't
-pub public-keys : map isPublicKey keys ≡ replicate 11 true ++ replicate 3 false
+pub public-keys : map isPublicKey keys ≡ replicate 11 true ++ replicate 4 false
 unfolding keys codeFrom sameBytes
 public-keys = refl
 

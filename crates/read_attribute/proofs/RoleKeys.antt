@@ -27,7 +27,7 @@ role-fits kind key = go (eqb kind 1) (eqb kind 2) (eqb kind 3) (leb kind 5) (leb
   where
     go : (a b c d e : Bool) → roleFits (cond a (reportRole key) (cond b (suiteRole key) (cond c (caseRole key) (cond d (propertyRole key) (statusRole e key)))))
     go true b c d e = role-each roleFits reportKeys role.Ignored key (omega arith, (tt, (tt, (tt, (omega arith, (omega arith, (omega arith, (omega arith, (omega arith, tt))))))))) tt
-    go false true c d e = role-each roleFits suiteKeys role.Extra key (omega arith, (tt, (tt, (omega arith, (omega arith, (omega arith, (omega arith, (omega arith, tt)))))))) tt
+    go false true c d e = role-each roleFits suiteKeys role.Extra key (omega arith, (tt, (tt, (omega arith, (omega arith, (omega arith, (omega arith, (omega arith, (omega arith, tt))))))))) tt
     go false false true d e = role-each roleFits caseKeys role.Extra key (omega arith, (tt, (tt, (omega arith, (omega arith, tt))))) tt
     go false false false true e = role-each roleFits propertyKeys role.Ignored key (omega arith, (omega arith, tt)) tt
     go false false false false true = role-each roleFits (statusKeys true) role.Ignored key (omega arith, (tt, (tt, (omega arith, tt)))) tt

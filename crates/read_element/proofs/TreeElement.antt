@@ -35,9 +35,9 @@ use Rattle.read_element.specs.Attributes.{Given, withMain, readText, pla
 use Rattle.read_element.specs.Attributes.{keep, byRole, among, numbered, readAttributes, complete, Grown, readElement}
 use Rattle.read_element.proofs.TreeOutcome.{Holds, accept, bind, needed, answered, either}
 use Rattle.read_element.proofs.TreeSheet.{text, name, value, pair, named, empty, full-value, untimed, Sorts, Sheet, sheet, goodAt, Grows, good-new, good-more, sheet-more}
-use Rattle.read_element.proofs.TreeSheet.{put-first, put-value, put-second, put-assertions, put-disabled, put-moment, put-time, put-uuid, put-tests, put-failures, put-errors, put-skipped}
+use Rattle.read_element.proofs.TreeSheet.{put-first, put-value, put-second, put-assertions, put-disabled, put-moment, put-time, put-uuid, put-tests, put-failures, put-errors, put-skipped, put-seventh}
 use Rattle.read_element.proofs.TreeGood.{pairSorts}
-use Rattle.read_element.proofs.TreeRoles.{Wide, Suits, as-first, as-value, as-second, as-tests, as-failures, as-errors, as-skipped, as-disabled}
+use Rattle.read_element.proofs.TreeRoles.{Wide, Suits, as-first, as-value, as-second, as-tests, as-failures, as-errors, as-skipped, as-disabled, as-host}
 use Rattle.read_element.proofs.TreeRoles.{as-assertions, as-uuid, as-moment, as-time, as-extra, as-ignored, Class, class-roles, class-blank, class-named}
 use Rattle.refusal.specs.declared.Cause.the-variants as cause
 
@@ -110,12 +110,12 @@ each-changed zero f h (more {x = r} p ps) = more (h r p) ps
 each-changed (suc i) f h (more p ps) = more p (each-changed i f h ps)
 
 pair-put : {texts : List ℕ} {κ : ℕ} {r : List ℕ} (x n : ℕ) → goodAt texts x n ≡ true → Sheet (pairSorts name pair) texts κ r → Sheet (pairSorts name pair) texts κ (putPair 4 x n r)
-pair-put x n q (sheet a b c m d e f g h i pa (full-value o) pt pe pf pg ph pi) = sheet a (valued x n) absent m d e f g h i pa (full-value q) pt pe pf pg ph pi
+pair-put x n q (sheet a b c m d e f g h i j pa (full-value o) pt pe pf pg ph pi pj) = sheet a (valued x n) absent m d e f g h i j pa (full-value q) pt pe pf pg ph pi pj
 
 pair-new : {texts : List ℕ} (κ x n y k : ℕ) → goodAt texts x n ≡ true → goodAt texts y k ≡ true → Sheet (pairSorts name pair) texts κ (putText 4 1 y k (putText 2 0 x n (blank κ)))
 unfolding marked
 pair-new κ x n y k p q =
-    sheet (valued x n) (valued y k) absent none none absent absent absent absent absent (named p) (full-value q) untimed empty empty empty empty empty
+    sheet (valued x n) (valued y k) absent none none absent absent absent absent absent absent (named p) (full-value q) untimed empty empty empty empty empty empty
 
 keep-sheet : {S : Sorts} {κ : ℕ} {texts : List ℕ} (b : Bool) (new old : List ℕ) → (b ≡ true → Sheet S texts κ new) → Sheet S texts κ old → Sheet S texts κ (keep b new old)
 keep-sheet true new old h o = h refl
@@ -206,6 +206,7 @@ module _ {rooms : Rooms} {S : Sorts} {κ used : ℕ} {start : List ℕ} where
   by-role p key x (as-errors q) w = bind (answered (within p key) (integerOf (x .value))) λ n e. accept (with-main _ w (put-errors n q (w .main)))
   by-role p key x (as-skipped q) w = bind (answered (within p key) (integerOf (x .value))) λ n e. accept (with-main _ w (put-skipped n q (w .main)))
   by-role p key x (as-disabled q) w = bind (answered (within p key) (integerOf (x .value))) λ n e. accept (with-main _ w (put-disabled n q (w .main)))
+  by-role p key x (as-host q) w = text-read (within p key) 28 10 (x .value) (λ t r a n h s. put-seventh a n h q s) w
   by-role p key x (as-assertions q) w = bind (answered (within p key) (integerOf (x .value))) λ n e. accept (with-main _ w (put-assertions n q (w .main)))
   by-role p key x (as-uuid q) w = bind (answered (within p key) (uuidOf (x .value))) λ u e. accept (with-main _ w (put-uuid u q (w .main)))
   by-role p key x (as-moment {kept = k} q) w =

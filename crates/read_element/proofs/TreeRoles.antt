@@ -1,7 +1,7 @@
 -- What the attributes of each element may put into its record. Assumes nothing.
 use Prim.Native.Nat.{ℕ}
 use mathlib.Core.Bool.{Bool, true, false, cond, not, _&&_, _||_, false≢true}
-use mathlib.Core.List.{List}
+use mathlib.Core.List.{List, _++_}
 use mathlib.Core.Option.{none}
 use mathlib.Core.Path.{_≡_, refl, sym, _∙_}
 use lib.Dec.{eqb, leb}
@@ -33,6 +33,7 @@ pub data Suits (S : Sorts) (κ : ℕ) : Role → Type 0 where
   as-errors : S .fourth ≡ count → Suits S κ (role.Count 22)
   as-skipped : S .fifth ≡ count → Suits S κ (role.Count 24)
   as-disabled : S .sixth ≡ number → Suits S κ (role.Number 26 8)
+  as-host : S .seventh ≡ text → Suits S κ (role.Text 28 10)
   as-assertions : S .third ≡ number → Suits S κ (role.Number 20 6)
   as-uuid : S .middle ≡ uuid → Suits S κ role.Uuid
   as-moment : {kept : Bool} → (kept ≡ true → S .times ≡ true) → Suits S κ (role.Timestamp kept)
@@ -93,15 +94,18 @@ property-roles : {κ : ℕ} (x : ℕ) → Suits (pairSorts text value) κ (prope
 unfolding propertyRole
 property-roles x = by-key (more (as-first refl) (more (as-value refl) done)) as-ignored x
 
-count-roles : {S : Sorts} {κ : ℕ} → S .second ≡ count → S .third ≡ count → S .fourth ≡ count → S .fifth ≡ count → S .sixth ≡ number → Each (λ x. Suits S κ (x .1)) countKeys
-count-roles a b c d e = more (as-tests a) (more (as-failures b) (more (as-errors c) (more (as-skipped d) (more (as-disabled e) done))))
+count-roles : {S : Sorts} {κ : ℕ} {xs : List (ℕ × Role)} → S .second ≡ count → S .third ≡ count → S .fourth ≡ count → S .fifth ≡ count → S .sixth ≡ number
+    → Each (λ x. Suits S κ (x .1)) xs → Each (λ x. Suits S κ (x .1)) (countKeys ++ xs)
+count-roles a b c d e t = more (as-tests a) (more (as-failures b) (more (as-errors c) (more (as-skipped d) (more (as-disabled e) t))))
 
 -- whatever attribute comes, what it may put suits the record of its element
 pub class-roles : {κ : ℕ} {S T : Sorts} → Class κ S T → (x : ℕ) → Suits S κ (roleOf κ x)
 unfolding roleOf reportRole suiteRole caseRole
 class-roles report x =
-    by-key (more (as-first refl) (more (as-uuid refl) (more (as-moment (λ e. refl)) (more (as-time (λ e. refl)) (count-roles refl refl refl refl refl))))) as-ignored x
-class-roles suite x = by-key (more (as-first refl) (more (as-moment (λ e. refl)) (more (as-time (λ e. refl)) (count-roles refl refl refl refl refl)))) (as-extra suite-wide) x
+    by-key (more (as-first refl) (more (as-uuid refl) (more (as-moment (λ e. refl)) (more (as-time (λ e. refl)) (count-roles refl refl refl refl refl done))))) as-ignored x
+class-roles suite x =
+    by-key (more (as-first refl) (more (as-moment (λ e. refl)) (more (as-time (λ e. refl)) (count-roles refl refl refl refl refl (more (as-host refl) done)))))
+    (as-extra suite-wide) x
 class-roles case x =
     by-key (more (as-first refl) (more (as-moment (λ e. refl)) (more (as-time (λ e. refl)) (more (as-second refl) (more (as-assertions refl) done))))) (as-extra case-wide) x
 class-roles suiteProperty x = property-roles x
@@ -116,22 +120,22 @@ class-roles rerunError x = run-roles x
 
 -- ---- a record with nothing in it
 main-blank : {texts : List ℕ} (κ : ℕ) → Sheet mainSorts texts κ (blank κ)
-main-blank κ = sheet absent absent absent none none absent absent absent absent absent textless without untimed textless textless empty empty empty
+main-blank κ = sheet absent absent absent none none absent absent absent absent absent absent textless without untimed textless textless empty empty empty empty
 
 run-blank : {texts : List ℕ} (κ : ℕ) → Sheet runSorts texts κ (blank κ)
-run-blank κ = sheet absent absent absent none none absent absent absent absent absent textless (two textless textless) (timed refl refl) textless textless textless empty empty
+run-blank κ = sheet absent absent absent none none absent absent absent absent absent absent textless (two textless textless) (timed refl refl) textless textless textless empty empty empty
 
 pair-blank : {texts : List ℕ} (κ : ℕ) → Sheet (pairSorts text value) texts κ (blank κ)
-pair-blank κ = sheet absent absent absent none none absent absent absent absent absent textless (open-value textless) untimed empty empty empty empty empty
+pair-blank κ = sheet absent absent absent none none absent absent absent absent absent absent textless (open-value textless) untimed empty empty empty empty empty empty
 
 pub class-blank : {κ : ℕ} {S T : Sorts} {texts : List ℕ} → Class κ S T → Sheet S texts κ (blank κ)
 class-blank report =
     let z : Cell = constant 0 0 in
-    sheet absent absent absent none none z z z z absent textless idless (timed refl refl) counted counted counted counted numberless
+    sheet absent absent absent none none z z z z absent absent textless idless (timed refl refl) counted counted counted counted numberless empty
 class-blank suite =
     let z : Cell = constant 0 0 in
-    sheet absent absent absent none none z z z z absent textless (two textless textless) (timed refl refl) counted counted counted counted numberless
-class-blank case = sheet absent absent absent none none absent absent absent absent absent textless (two textless textless) (timed refl refl) textless numberless empty empty empty
+    sheet absent absent absent none none z z z z absent absent textless (two textless textless) (timed refl refl) counted counted counted counted numberless textless
+class-blank case = sheet absent absent absent none none absent absent absent absent absent absent textless (two textless textless) (timed refl refl) textless numberless empty empty empty empty
 class-blank suiteProperty = pair-blank 4
 class-blank caseProperty = pair-blank 5
 class-blank failure = main-blank 6
@@ -153,16 +157,16 @@ middle-name (open-value (placed p)) e = full-value p
 
 module _ {texts : List ℕ} {κ : ℕ} where
   name-suite : {r : List ℕ} → Sheet (suiteSorts text) texts κ r → hasBit 0 r ≡ true → Sheet (suiteSorts name) texts κ r
-  name-suite (sheet a b c m d e f g h i pa pb pt pe pf pg ph pi) y =
-      sheet a b c m d e f g h i (fits-name pa (sym (bit-flag 0 (flags a b c m d e f g i)) ∙ y)) pb pt pe pf pg ph pi
+  name-suite (sheet a b c m d e f g h i j pa pb pt pe pf pg ph pi pj) y =
+      sheet a b c m d e f g h i j (fits-name pa (sym (bit-flag 0 (flags a b c m d e f g i j)) ∙ y)) pb pt pe pf pg ph pi pj
 
   name-case : {r : List ℕ} → Sheet (caseSorts text) texts κ r → hasBit 0 r ≡ true → Sheet (caseSorts name) texts κ r
-  name-case (sheet a b c m d e f g h i pa pb pt pe pf pg ph pi) y =
-      sheet a b c m d e f g h i (fits-name pa (sym (bit-flag 0 (flags a b c m d e f g i)) ∙ y)) pb pt pe pf pg ph pi
+  name-case (sheet a b c m d e f g h i j pa pb pt pe pf pg ph pi pj) y =
+      sheet a b c m d e f g h i j (fits-name pa (sym (bit-flag 0 (flags a b c m d e f g i j)) ∙ y)) pb pt pe pf pg ph pi pj
 
   name-pair : {r : List ℕ} → Sheet (pairSorts text value) texts κ r → hasBit 0 r ≡ true → hasBit 1 r ≡ true → Sheet (pairSorts name pair) texts κ r
-  name-pair (sheet a b c m d e f g h i pa pb pt pe pf pg ph pi) y z =
-      sheet a b c m d e f g h i (fits-name pa (sym (bit-flag 0 (flags a b c m d e f g i)) ∙ y)) (middle-name pb (sym (bit-flag 1 (flags a b c m d e f g i)) ∙ z)) pt pe pf pg ph pi
+  name-pair (sheet a b c m d e f g h i j pa pb pt pe pf pg ph pi pj) y z =
+      sheet a b c m d e f g h i j (fits-name pa (sym (bit-flag 0 (flags a b c m d e f g i j)) ∙ y)) (middle-name pb (sym (bit-flag 1 (flags a b c m d e f g i j)) ∙ z)) pt pe pf pg ph pi pj
 
 pub class-named : {κ : ℕ} {S T : Sorts} {texts r : List ℕ} → Class κ S T → (not (leb 2 κ && leb κ 5) || hasBit 0 r) ≡ true → (not (leb 4 κ && leb κ 5) || hasBit 1 r) ≡ true
     → Sheet S texts κ r → Sheet T texts κ r

@@ -102,37 +102,38 @@ pub record Sorts : Type 0 where
   pub fourth : Sort
   pub fifth : Sort
   pub sixth : Sort
+  pub seventh : Sort
 
 -- ---- a record of 32 words
-abbrev pub flags : (a b c : Cell) (m : Option Moment) (d : Option Duration) (e f g i : Cell) → List Bool
-flags a b c m d e f g i = isGiven a ∷ isGiven b ∷ isGiven c ∷ isSome m ∷ isSome d ∷ isGiven e ∷ isGiven f ∷ isGiven g ∷ isGiven i ∷ false ∷ []
+abbrev pub flags : (a b c : Cell) (m : Option Moment) (d : Option Duration) (e f g i j : Cell) → List Bool
+flags a b c m d e f g i j = isGiven a ∷ isGiven b ∷ isGiven c ∷ isSome m ∷ isSome d ∷ isGiven e ∷ isGiven f ∷ isGiven g ∷ isGiven i ∷ false ∷ isGiven j ∷ []
 
-abbrev pub rest : (a b c : Cell) (m : Option Moment) (d : Option Duration) (e f g h i : Cell) → List ℕ
-rest a b c m d e f g h i =
+abbrev pub rest : (a b c : Cell) (m : Option Moment) (d : Option Duration) (e f g h i j : Cell) → List ℕ
+rest a b c m d e f g h i j =
     firstWord 0 a ∷ secondWord a ∷ firstWord 0 b ∷ secondWord b ∷ firstWord 0 c ∷ secondWord c
     ∷ momentOrZero m .year ∷ momentOrZero m .month ∷ momentOrZero m .day ∷ momentOrZero m .hour
     ∷ momentOrZero m .minute ∷ momentOrZero m .second ∷ momentOrZero m .nanos ∷ momentOrZero m .offset
     ∷ timeOrZero d .seconds ∷ timeOrZero d .nanos
     ∷ firstWord 0 e ∷ secondWord e ∷ firstWord 0 f ∷ secondWord f ∷ firstWord 0 g ∷ secondWord g
-    ∷ firstWord 0 h ∷ secondWord h ∷ firstWord 0 i ∷ secondWord i ∷ 0 ∷ 0 ∷ 0 ∷ 0 ∷ []
+    ∷ firstWord 0 h ∷ secondWord h ∷ firstWord 0 i ∷ secondWord i ∷ firstWord 0 j ∷ secondWord j ∷ 0 ∷ 0 ∷ []
 
 pub data Sheet (S : Sorts) (texts : List ℕ) (κ : ℕ) : List ℕ → Type 0 where
-  sheet : (a b c : Cell) (m : Option Moment) (d : Option Duration) (e f g h i : Cell)
+  sheet : (a b c : Cell) (m : Option Moment) (d : Option Duration) (e f g h i j : Cell)
       → Fits texts (S .first) a → InMiddle texts (S .middle) b c → Timed (S .times) m d
-      → Fits texts (S .second) e → Fits texts (S .third) f → Fits texts (S .fourth) g → Fits texts (S .fifth) h → Fits texts (S .sixth) i
-      → Sheet S texts κ (κ ∷ flagsOf (flags a b c m d e f g i) ∷ rest a b c m d e f g h i)
+      → Fits texts (S .second) e → Fits texts (S .third) f → Fits texts (S .fourth) g → Fits texts (S .fifth) h → Fits texts (S .sixth) i → Fits texts (S .seventh) j
+      → Sheet S texts κ (κ ∷ flagsOf (flags a b c m d e f g i j) ∷ rest a b c m d e f g h i j)
 
 -- a record's kind, from its parts
 pub sheet-kind : {S : Sorts} {texts : List ℕ} {κ : ℕ} {r : List ℕ} → Sheet S texts κ r → kindOf r ≡ κ
-sheet-kind (sheet a b c m d e f g h i pa pb pt pe pf pg ph pi) = refl
+sheet-kind (sheet a b c m d e f g h i j pa pb pt pe pf pg ph pi pj) = refl
 
 -- a record has 32 words
 pub sheet-size : {S : Sorts} {texts : List ℕ} {κ : ℕ} {r : List ℕ} → Sheet S texts κ r → length r ≡ 32
-sheet-size (sheet a b c m d e f g h i pa pb pt pe pf pg ph pi) = refl
+sheet-size (sheet a b c m d e f g h i j pa pb pt pe pf pg ph pi pj) = refl
 
 -- its flaky bit isn't set
 pub sheet-plain : {S : Sorts} {texts : List ℕ} {κ : ℕ} {r : List ℕ} → Sheet S texts κ r → hasBit 9 r ≡ false
-sheet-plain (sheet a b c m d e f g h i pa pb pt pe pf pg ph pi) = bit-flag 9 (flags a b c m d e f g i)
+sheet-plain (sheet a b c m d e f g h i j pa pb pt pe pf pg ph pi pj) = bit-flag 9 (flags a b c m d e f g i j)
 
 -- ---- texts that grow
 module _ {s t : List ℕ} (w : Grows s t) where
@@ -155,8 +156,8 @@ module _ {s t : List ℕ} (w : Grows s t) where
 
   -- a record stays good when the texts grow
   pub sheet-more : {S : Sorts} {κ : ℕ} {r : List ℕ} → Sheet S s κ r → Sheet S t κ r
-  sheet-more (sheet a b c m d e f g h i pa pb pt pe pf pg ph pi) =
-      sheet a b c m d e f g h i (fits-more pa) (middle-more pb) pt (fits-more pe) (fits-more pf) (fits-more pg) (fits-more ph) (fits-more pi)
+  sheet-more (sheet a b c m d e f g h i j pa pb pt pe pf pg ph pi pj) =
+      sheet a b c m d e f g h i j (fits-more pa) (middle-more pb) pt (fits-more pe) (fits-more pf) (fits-more pg) (fits-more ph) (fits-more pi) (fits-more pj)
 
 -- ---- what is put into it
 into : {texts : List ℕ} {x y : Sort} {c : Cell} → x ≡ y → Fits texts y c → Fits texts x c
@@ -211,92 +212,99 @@ new-time {x} {m} {d} t q h p = subst (λ (s : Bool). Timed s m (some t)) (sym q)
 
 module _ {S : Sorts} {texts : List ℕ} {κ : ℕ} where
   pub put-first : {r : List ℕ} (x n : ℕ) → goodAt texts x n ≡ true → S .first ≡ text → Sheet S texts κ r → Sheet S texts κ (putText 2 0 x n r)
-  put-first x n h' q (sheet a b c m d e f g h i pa pb pt pe pf pg ph pi) =
-      subst (Sheet S texts κ) (sym (marked-flags κ 0 (flags a b c m d e f g i) (rest (valued x n) b c m d e f g h i) (lit≤ tt) (lit≤ tt)))
-      (sheet (valued x n) b c m d e f g h i (into q (placed h')) pb pt pe pf pg ph pi)
+  put-first x n h' q (sheet a b c m d e f g h i j pa pb pt pe pf pg ph pi pj) =
+      subst (Sheet S texts κ) (sym (marked-flags κ 0 (flags a b c m d e f g i j) (rest (valued x n) b c m d e f g h i j) (lit≤ tt) (lit≤ tt)))
+      (sheet (valued x n) b c m d e f g h i j (into q (placed h')) pb pt pe pf pg ph pi pj)
 
   -- standard output may be put where the kind has outputs
   pub put-out : {r : List ℕ} (x n : ℕ) → goodAt texts x n ≡ true → S .middle ≡ outputs → Sheet S texts κ r → Sheet S texts κ (putText 4 1 x n r)
-  put-out x n h' q (sheet a b c m d e f g h i pa pb pt pe pf pg ph pi) =
-      subst (Sheet S texts κ) (sym (marked-flags κ 1 (flags a b c m d e f g i) (rest a (valued x n) c m d e f g h i) (lit≤ tt) (lit≤ tt)))
-      (sheet a (valued x n) c m d e f g h i pa (new-out q h' pb) pt pe pf pg ph pi)
+  put-out x n h' q (sheet a b c m d e f g h i j pa pb pt pe pf pg ph pi pj) =
+      subst (Sheet S texts κ) (sym (marked-flags κ 1 (flags a b c m d e f g i j) (rest a (valued x n) c m d e f g h i j) (lit≤ tt) (lit≤ tt)))
+      (sheet a (valued x n) c m d e f g h i j pa (new-out q h' pb) pt pe pf pg ph pi pj)
 
   pub put-value : {r : List ℕ} (x n : ℕ) → goodAt texts x n ≡ true → S .middle ≡ value → Sheet S texts κ r → Sheet S texts κ (putText 4 1 x n r)
-  put-value x n h' q (sheet a b c m d e f g h i pa pb pt pe pf pg ph pi) =
-      subst (Sheet S texts κ) (sym (marked-flags κ 1 (flags a b c m d e f g i) (rest a (valued x n) c m d e f g h i) (lit≤ tt) (lit≤ tt)))
-      (sheet a (valued x n) c m d e f g h i pa (new-value q h' pb) pt pe pf pg ph pi)
+  put-value x n h' q (sheet a b c m d e f g h i j pa pb pt pe pf pg ph pi pj) =
+      subst (Sheet S texts κ) (sym (marked-flags κ 1 (flags a b c m d e f g i j) (rest a (valued x n) c m d e f g h i j) (lit≤ tt) (lit≤ tt)))
+      (sheet a (valued x n) c m d e f g h i j pa (new-value q h' pb) pt pe pf pg ph pi pj)
 
   -- standard error may be put where the kind has outputs
   pub put-err : {r : List ℕ} (x n : ℕ) → goodAt texts x n ≡ true → S .middle ≡ outputs → Sheet S texts κ r → Sheet S texts κ (putText 6 2 x n r)
-  put-err x n h' q (sheet a b c m d e f g h i pa pb pt pe pf pg ph pi) =
-      subst (Sheet S texts κ) (sym (marked-flags κ 2 (flags a b c m d e f g i) (rest a b (valued x n) m d e f g h i) (lit≤ tt) (lit≤ tt)))
-      (sheet a b (valued x n) m d e f g h i pa (new-err q h' pb) pt pe pf pg ph pi)
+  put-err x n h' q (sheet a b c m d e f g h i j pa pb pt pe pf pg ph pi pj) =
+      subst (Sheet S texts κ) (sym (marked-flags κ 2 (flags a b c m d e f g i j) (rest a b (valued x n) m d e f g h i j) (lit≤ tt) (lit≤ tt)))
+      (sheet a b (valued x n) m d e f g h i j pa (new-err q h' pb) pt pe pf pg ph pi pj)
 
   pub put-second : {r : List ℕ} (x n : ℕ) → goodAt texts x n ≡ true → S .second ≡ text → Sheet S texts κ r → Sheet S texts κ (putText 18 5 x n r)
-  put-second x n h' q (sheet a b c m d e f g h i pa pb pt pe pf pg ph pi) =
-      subst (Sheet S texts κ) (sym (marked-flags κ 5 (flags a b c m d e f g i) (rest a b c m d (valued x n) f g h i) (lit≤ tt) (lit≤ tt)))
-      (sheet a b c m d (valued x n) f g h i pa pb pt (into q (placed h')) pf pg ph pi)
+  put-second x n h' q (sheet a b c m d e f g h i j pa pb pt pe pf pg ph pi pj) =
+      subst (Sheet S texts κ) (sym (marked-flags κ 5 (flags a b c m d e f g i j) (rest a b c m d (valued x n) f g h i j) (lit≤ tt) (lit≤ tt)))
+      (sheet a b c m d (valued x n) f g h i j pa pb pt (into q (placed h')) pf pg ph pi pj)
 
   -- a text may be put at word 20 where the kind has one there: descriptions
   pub put-third : {r : List ℕ} (x n : ℕ) → goodAt texts x n ≡ true → S .third ≡ text → Sheet S texts κ r → Sheet S texts κ (putText 20 6 x n r)
-  put-third x n h' q (sheet a b c m d e f g h i pa pb pt pe pf pg ph pi) =
-      subst (Sheet S texts κ) (sym (marked-flags κ 6 (flags a b c m d e f g i) (rest a b c m d e (valued x n) g h i) (lit≤ tt) (lit≤ tt)))
-      (sheet a b c m d e (valued x n) g h i pa pb pt pe (into q (placed h')) pg ph pi)
+  put-third x n h' q (sheet a b c m d e f g h i j pa pb pt pe pf pg ph pi pj) =
+      subst (Sheet S texts κ) (sym (marked-flags κ 6 (flags a b c m d e f g i j) (rest a b c m d e (valued x n) g h i j) (lit≤ tt) (lit≤ tt)))
+      (sheet a b c m d e (valued x n) g h i j pa pb pt pe (into q (placed h')) pg ph pi pj)
 
   -- a text may be put at word 22 where the kind has one there: stack traces
   pub put-fourth : {r : List ℕ} (x n : ℕ) → goodAt texts x n ≡ true → S .fourth ≡ text → Sheet S texts κ r → Sheet S texts κ (putText 22 7 x n r)
-  put-fourth x n h' q (sheet a b c m d e f g h i pa pb pt pe pf pg ph pi) =
-      subst (Sheet S texts κ) (sym (marked-flags κ 7 (flags a b c m d e f g i) (rest a b c m d e f (valued x n) h i) (lit≤ tt) (lit≤ tt)))
-      (sheet a b c m d e f (valued x n) h i pa pb pt pe pf (into q (placed h')) ph pi)
+  put-fourth x n h' q (sheet a b c m d e f g h i j pa pb pt pe pf pg ph pi pj) =
+      subst (Sheet S texts κ) (sym (marked-flags κ 7 (flags a b c m d e f g i j) (rest a b c m d e f (valued x n) h i j) (lit≤ tt) (lit≤ tt)))
+      (sheet a b c m d e f (valued x n) h i j pa pb pt pe pf (into q (placed h')) ph pi pj)
+
+  -- a text may be put at word 28 where the kind has one there: a suite's host
+  pub put-seventh : {r : List ℕ} (x n : ℕ) → goodAt texts x n ≡ true → S .seventh ≡ text → Sheet S texts κ r → Sheet S texts κ (putText 28 10 x n r)
+  put-seventh x n h' q (sheet a b c m d e f g h i j pa pb pt pe pf pg ph pi pj) =
+      subst (Sheet S texts κ) (sym (marked-flags κ 10 (flags a b c m d e f g i j) (rest a b c m d e f g h i (valued x n)) (lit≤ tt) (lit≤ tt)))
+      (sheet a b c m d e f g h i (valued x n) pa pb pt pe pf pg ph pi (into q (placed h')))
 
   pub put-assertions : {r : List ℕ} (n : ℕ) → S .third ≡ number → Sheet S texts κ r → Sheet S texts κ (marked 6 (putCount 20 n r))
-  put-assertions n q (sheet a b c m d e f g h i pa pb pt pe pf pg ph pi) =
-      subst (Sheet S texts κ) (sym (marked-flags κ 6 (flags a b c m d e f g i) (rest a b c m d e (valued (n % 4294967296) (n / 4294967296)) g h i) (lit≤ tt) (lit≤ tt)))
-      (sheet a b c m d e (valued (n % 4294967296) (n / 4294967296)) g h i pa pb pt pe (into q numbered) pg ph pi)
+  put-assertions n q (sheet a b c m d e f g h i j pa pb pt pe pf pg ph pi pj) =
+      subst (Sheet S texts κ) (sym (marked-flags κ 6 (flags a b c m d e f g i j) (rest a b c m d e (valued (n % 4294967296) (n / 4294967296)) g h i j) (lit≤ tt) (lit≤ tt)))
+      (sheet a b c m d e (valued (n % 4294967296) (n / 4294967296)) g h i j pa pb pt pe (into q numbered) pg ph pi pj)
 
   pub put-disabled : {r : List ℕ} (n : ℕ) → S .sixth ≡ number → Sheet S texts κ r → Sheet S texts κ (marked 8 (putCount 26 n r))
-  put-disabled n q (sheet a b c m d e f g h i pa pb pt pe pf pg ph pi) =
-      subst (Sheet S texts κ) (sym (marked-flags κ 8 (flags a b c m d e f g i) (rest a b c m d e f g h (valued (n % 4294967296) (n / 4294967296))) (lit≤ tt) (lit≤ tt)))
-      (sheet a b c m d e f g h (valued (n % 4294967296) (n / 4294967296)) pa pb pt pe pf pg ph (into q numbered))
+  put-disabled n q (sheet a b c m d e f g h i j pa pb pt pe pf pg ph pi pj) =
+      subst (Sheet S texts κ) (sym (marked-flags κ 8 (flags a b c m d e f g i j) (rest a b c m d e f g h (valued (n % 4294967296) (n / 4294967296)) j) (lit≤ tt) (lit≤ tt)))
+      (sheet a b c m d e f g h (valued (n % 4294967296) (n / 4294967296)) j pa pb pt pe pf pg ph (into q numbered) pj)
 
   pub put-moment : {r : List ℕ} (t : Moment) → inRange t ≡ true → S .times ≡ true → Sheet S texts κ r → Sheet S texts κ (putMoment t r)
-  put-moment t h' q (sheet a b c m d e f g h i pa pb pt pe pf pg ph pi) =
-      subst (Sheet S texts κ) (sym (marked-flags κ 3 (flags a b c m d e f g i) (rest a b c (some t) d e f g h i) (lit≤ tt) (lit≤ tt)))
-      (sheet a b c (some t) d e f g h i pa pb (new-moment t q h' pt) pe pf pg ph pi)
+  put-moment t h' q (sheet a b c m d e f g h i j pa pb pt pe pf pg ph pi pj) =
+      subst (Sheet S texts κ) (sym (marked-flags κ 3 (flags a b c m d e f g i j) (rest a b c (some t) d e f g h i j) (lit≤ tt) (lit≤ tt)))
+      (sheet a b c (some t) d e f g h i j pa pb (new-moment t q h' pt) pe pf pg ph pi pj)
 
   pub put-time : {r : List ℕ} (t : ℕ × ℕ) → fitsTime (some (record { seconds = t .0; nanos = t .1 })) ≡ true → S .times ≡ true → Sheet S texts κ r → Sheet S texts κ (putTime t r)
-  put-time t h' q (sheet a b c m d e f g h i pa pb pt pe pf pg ph pi) =
-      subst (Sheet S texts κ) (sym (marked-flags κ 4 (flags a b c m d e f g i) (rest a b c m (some (record { seconds = t .0; nanos = t .1 })) e f g h i) (lit≤ tt) (lit≤ tt)))
-      (sheet a b c m (some (record { seconds = t .0; nanos = t .1 })) e f g h i pa pb (new-time (record { seconds = t .0; nanos = t .1 }) q h' pt) pe pf pg ph pi)
+  put-time t h' q (sheet a b c m d e f g h i j pa pb pt pe pf pg ph pi pj) =
+      subst (Sheet S texts κ) (sym (marked-flags κ 4 (flags a b c m d e f g i j) (rest a b c m (some (record { seconds = t .0; nanos = t .1 })) e f g h i j) (lit≤ tt) (lit≤ tt)))
+      (sheet a b c m (some (record { seconds = t .0; nanos = t .1 })) e f g h i j pa pb (new-time (record { seconds = t .0; nanos = t .1 }) q h' pt) pe pf pg ph pi pj)
 
   pub put-uuid : {r : List ℕ} (w : Words) → S .middle ≡ uuid → Sheet S texts κ r → Sheet S texts κ (putUuid w r)
-  put-uuid w q (sheet a b c m d e f g h i pa pb pt pe pf pg ph pi) =
+  put-uuid w q (sheet a b c m d e f g h i j pa pb pt pe pf pg ph pi pj) =
       subst (Sheet S texts κ)
-      (sym (marked-flags κ 1 (flags a b c m d e f g i) (rest a (valued (w .a) (w .b)) (constant (w .c) (w .d)) m d e f g h i) (lit≤ tt) (lit≤ tt)
-      ∙ ap (λ (u : Bool). κ ∷ flagsOf (isGiven a ∷ true ∷ u ∷ isSome m ∷ isSome d ∷ isGiven e ∷ isGiven f ∷ isGiven g ∷ isGiven i ∷ false ∷ [])
-      ∷ rest a (valued (w .a) (w .b)) (constant (w .c) (w .d)) m d e f g h i) (middle-hidden q pb)))
-      (sheet a (valued (w .a) (w .b)) (constant (w .c) (w .d)) m d e f g h i pa (new-id q) pt pe pf pg ph pi)
+      (sym (marked-flags κ 1 (flags a b c m d e f g i j) (rest a (valued (w .a) (w .b)) (constant (w .c) (w .d)) m d e f g h i j) (lit≤ tt) (lit≤ tt)
+      ∙ ap (λ (u : Bool). κ ∷ flagsOf (isGiven a ∷ true ∷ u ∷ isSome m ∷ isSome d ∷ isGiven e ∷ isGiven f ∷ isGiven g ∷ isGiven i ∷ false ∷ isGiven j ∷ [])
+      ∷ rest a (valued (w .a) (w .b)) (constant (w .c) (w .d)) m d e f g h i j) (middle-hidden q pb)))
+      (sheet a (valued (w .a) (w .b)) (constant (w .c) (w .d)) m d e f g h i j pa (new-id q) pt pe pf pg ph pi pj)
 
   pub put-tests : {r : List ℕ} (n : ℕ) → S .second ≡ count → Sheet S texts κ r → Sheet S texts κ (putCount 18 n r)
-  put-tests n q (sheet a b c m d e f g h i pa pb pt pe pf pg ph pi) =
+  put-tests n q (sheet a b c m d e f g h i j pa pb pt pe pf pg ph pi pj) =
       subst (Sheet S texts κ)
-      (sym (ap (λ (u : Bool). κ ∷ flagsOf (isGiven a ∷ isGiven b ∷ isGiven c ∷ isSome m ∷ isSome d ∷ u ∷ isGiven f ∷ isGiven g ∷ isGiven i ∷ false ∷ [])
-      ∷ rest a b c m d (constant (n % 4294967296) (n / 4294967296)) f g h i) (count-hidden q pe)))
-      (sheet a b c m d (constant (n % 4294967296) (n / 4294967296)) f g h i pa pb pt (into q counted) pf pg ph pi)
+      (sym (ap (λ (u : Bool). κ ∷ flagsOf (isGiven a ∷ isGiven b ∷ isGiven c ∷ isSome m ∷ isSome d ∷ u ∷ isGiven f ∷ isGiven g ∷ isGiven i ∷ false ∷ isGiven j ∷ [])
+      ∷ rest a b c m d (constant (n % 4294967296) (n / 4294967296)) f g h i j) (count-hidden q pe)))
+      (sheet a b c m d (constant (n % 4294967296) (n / 4294967296)) f g h i j pa pb pt (into q counted) pf pg ph pi pj)
 
   pub put-failures : {r : List ℕ} (n : ℕ) → S .third ≡ count → Sheet S texts κ r → Sheet S texts κ (putCount 20 n r)
-  put-failures n q (sheet a b c m d e f g h i pa pb pt pe pf pg ph pi) =
+  put-failures n q (sheet a b c m d e f g h i j pa pb pt pe pf pg ph pi pj) =
       subst (Sheet S texts κ)
-      (sym (ap (λ (u : Bool). κ ∷ flagsOf (isGiven a ∷ isGiven b ∷ isGiven c ∷ isSome m ∷ isSome d ∷ isGiven e ∷ u ∷ isGiven g ∷ isGiven i ∷ false ∷ [])
-      ∷ rest a b c m d e (constant (n % 4294967296) (n / 4294967296)) g h i) (count-hidden q pf)))
-      (sheet a b c m d e (constant (n % 4294967296) (n / 4294967296)) g h i pa pb pt pe (into q counted) pg ph pi)
+      (sym (ap (λ (u : Bool). κ ∷ flagsOf (isGiven a ∷ isGiven b ∷ isGiven c ∷ isSome m ∷ isSome d ∷ isGiven e ∷ u ∷ isGiven g ∷ isGiven i ∷ false ∷ isGiven j ∷ [])
+      ∷ rest a b c m d e (constant (n % 4294967296) (n / 4294967296)) g h i j) (count-hidden q pf)))
+      (sheet a b c m d e (constant (n % 4294967296) (n / 4294967296)) g h i j pa pb pt pe (into q counted) pg ph pi pj)
 
   pub put-errors : {r : List ℕ} (n : ℕ) → S .fourth ≡ count → Sheet S texts κ r → Sheet S texts κ (putCount 22 n r)
-  put-errors n q (sheet a b c m d e f g h i pa pb pt pe pf pg ph pi) =
+  put-errors n q (sheet a b c m d e f g h i j pa pb pt pe pf pg ph pi pj) =
       subst (Sheet S texts κ)
-      (sym (ap (λ (u : Bool). κ ∷ flagsOf (isGiven a ∷ isGiven b ∷ isGiven c ∷ isSome m ∷ isSome d ∷ isGiven e ∷ isGiven f ∷ u ∷ isGiven i ∷ false ∷ [])
-      ∷ rest a b c m d e f (constant (n % 4294967296) (n / 4294967296)) h i) (count-hidden q pg)))
-      (sheet a b c m d e f (constant (n % 4294967296) (n / 4294967296)) h i pa pb pt pe pf (into q counted) ph pi)
+      (sym (ap (λ (u : Bool). κ ∷ flagsOf (isGiven a ∷ isGiven b ∷ isGiven c ∷ isSome m ∷ isSome d ∷ isGiven e ∷ isGiven f ∷ u ∷ isGiven i ∷ false ∷ isGiven j ∷ [])
+      ∷ rest a b c m d e f (constant (n % 4294967296) (n / 4294967296)) h i j) (count-hidden q pg)))
+      (sheet a b c m d e f (constant (n % 4294967296) (n / 4294967296)) h i j pa pb pt pe pf (into q counted) ph pi pj)
 
   pub put-skipped : {r : List ℕ} (n : ℕ) → S .fifth ≡ count → Sheet S texts κ r → Sheet S texts κ (putCount 24 n r)
-  put-skipped n q (sheet a b c m d e f g h i pa pb pt pe pf pg ph pi) = sheet a b c m d e f g (constant (n % 4294967296) (n / 4294967296)) i pa pb pt pe pf pg (into q counted) pi
+  put-skipped n q (sheet a b c m d e f g h i j pa pb pt pe pf pg ph pi pj) =
+      sheet a b c m d e f g (constant (n % 4294967296) (n / 4294967296)) i j pa pb pt pe pf pg (into q counted) pi pj

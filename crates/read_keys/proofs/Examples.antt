@@ -22,6 +22,19 @@ property-value : roleOf kind.caseProperty key.value ≡ Text 4 1
 unfolding roleIn propertyRole roleOf
 property-value = refl
 
+-- a suite's own key, and an extra's on a case
+suite-hostname : roleOf kind.suite key.hostname ≡ Text 28 10
+unfolding roleIn suiteRole roleOf
+suite-hostname = refl
+
+case-hostname : roleOf kind.case key.hostname ≡ Extra
+unfolding roleIn caseRole roleOf
+case-hostname = refl
+
+report-hostname : roleOf kind.report key.hostname ≡ Ignored
+unfolding roleIn reportRole roleOf
+report-hostname = refl
+
 -- a key that reading doesn't know
 report-other : roleOf kind.report 0 ≡ Ignored
 unfolding roleIn reportRole roleOf

@@ -64,8 +64,8 @@ module _ (k : ℕ) (p : isPublic k ≡ false) where
   unfolding reportRole roleIn
   private-report = private-in reportKeys Ignored
 
-  pub private-suite : suiteRole k ≡ Extra
-  unfolding suiteRole roleIn
+  private-suite : suiteRole k ≡ roleIn (privateOf suiteKeys) Extra k
+  unfolding suiteRole
   private-suite = private-in suiteKeys Extra
 
   pub private-case : caseRole k ≡ Extra
@@ -81,11 +81,12 @@ module _ (k : ℕ) (p : isPublic k ≡ false) where
   private-status true = private-in (statusKeys true) Ignored
   private-status false = private-in (statusKeys false) Ignored
 
--- where the value under a private key goes: a status element's message or type, a property's value, an extra, nowhere
+-- where the value under a private key goes: a status element's message or type, a property's value, a suite's host, an extra, nowhere
 pub data Private (kind : ℕ) : Role → Type 0 where
   message : 6 ≤ kind → Private kind (Text 2 0)
   type : 6 ≤ kind → Private kind (Text 18 5)
   value : 4 ≤ kind → kind ≤ 5 → Private kind (Text 4 1)
+  host : kind ≡ 2 → Private kind (Text 28 10)
   extra : 2 ≤ kind → kind ≤ 3 → Private kind Extra
   ignored : Private kind Ignored
 
@@ -96,7 +97,7 @@ private-role kind k h p = go (eqb kind 1) (eqb kind 2) (eqb kind 3) (leb kind 5)
     go : (a b c d : Bool) → eqb kind 1 ≡ a → eqb kind 2 ≡ b → eqb kind 3 ≡ c → leb kind 5 ≡ d
         → Private kind (cond a (reportRole k) (cond b (suiteRole k) (cond c (caseRole k) (cond d (propertyRole k) (statusRole (leb 9 kind) k)))))
     go true b c d ea eb ec ed = rw (private-report k p) ignored
-    go false true c d ea eb ec ed = let z : kind ≡ 2 = eqb-true kind 2 eb in rw (private-suite k p) (extra (omega arith) (omega arith))
+    go false true c d ea eb ec ed = let z : kind ≡ 2 = eqb-true kind 2 eb in rw (private-suite k p) (role-each (Private kind) (privateOf suiteKeys) Extra k (host z, tt) (extra (omega arith) (omega arith)))
     go false false true d ea eb ec ed = let z : kind ≡ 3 = eqb-true kind 3 ec in rw (private-case k p) (extra (omega arith) (omega arith))
     go false false false true ea eb ec ed =
         let least : 4 ≤ kind = omega (arith, eqb-false kind 1 ea, eqb-false kind 2 eb, eqb-false kind 3 ec) in

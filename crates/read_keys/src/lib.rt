@@ -6,6 +6,7 @@ use names::key::CLASSNAME;
 use names::key::DISABLED;
 use names::key::ERRORS;
 use names::key::FAILURES;
+use names::key::HOSTNAME;
 use names::key::MESSAGE;
 use names::key::NAME;
 use names::key::SKIPPED;
@@ -63,6 +64,7 @@ fn suite_role(key: usize) -> Role
         ERRORS => Role::Count(word::ERRORS),
         SKIPPED => Role::Count(word::SKIPPED),
         DISABLED => Role::Number(word::DISABLED, bit::DISABLED),
+        HOSTNAME => Role::Text(word::HOSTNAME, bit::HOSTNAME),
         _ => Role::Extra,
     }
 }

@@ -52,39 +52,43 @@ module _ (texts z : List ℕ) where
 
   -- the parts of a record
   first-same : {S : Sorts} {κ : ℕ} {r : List ℕ} → S .first ≡ text → Sheet S texts κ r → SameGiven r 0 2
-  first-same {κ = κ} q (sheet a b c m d e f g h i pa pb pt pe pf pg ph pi) =
-      given-same (κ ∷ flagsOf (flags a b c m d e f g i) ∷ rest a b c m d e f g h i) 0 2 (as-text q pa) (bit-flag 0 (flags a b c m d e f g i)) refl refl
+  first-same {κ = κ} q (sheet a b c m d e f g h i j pa pb pt pe pf pg ph pi pj) =
+      given-same (κ ∷ flagsOf (flags a b c m d e f g i j) ∷ rest a b c m d e f g h i j) 0 2 (as-text q pa) (bit-flag 0 (flags a b c m d e f g i j)) refl refl
 
   second-same : {S : Sorts} {κ : ℕ} {r : List ℕ} → S .second ≡ text → Sheet S texts κ r → SameGiven r 5 18
-  second-same {κ = κ} q (sheet a b c m d e f g h i pa pb pt pe pf pg ph pi) =
-      given-same (κ ∷ flagsOf (flags a b c m d e f g i) ∷ rest a b c m d e f g h i) 5 18 (as-text q pe) (bit-flag 5 (flags a b c m d e f g i)) refl refl
+  second-same {κ = κ} q (sheet a b c m d e f g h i j pa pb pt pe pf pg ph pi pj) =
+      given-same (κ ∷ flagsOf (flags a b c m d e f g i j) ∷ rest a b c m d e f g h i j) 5 18 (as-text q pe) (bit-flag 5 (flags a b c m d e f g i j)) refl refl
 
   third-same : {S : Sorts} {κ : ℕ} {r : List ℕ} → S .third ≡ text → Sheet S texts κ r → SameGiven r 6 20
-  third-same {κ = κ} q (sheet a b c m d e f g h i pa pb pt pe pf pg ph pi) =
-      given-same (κ ∷ flagsOf (flags a b c m d e f g i) ∷ rest a b c m d e f g h i) 6 20 (as-text q pf) (bit-flag 6 (flags a b c m d e f g i)) refl refl
+  third-same {κ = κ} q (sheet a b c m d e f g h i j pa pb pt pe pf pg ph pi pj) =
+      given-same (κ ∷ flagsOf (flags a b c m d e f g i j) ∷ rest a b c m d e f g h i j) 6 20 (as-text q pf) (bit-flag 6 (flags a b c m d e f g i j)) refl refl
 
   fourth-same : {S : Sorts} {κ : ℕ} {r : List ℕ} → S .fourth ≡ text → Sheet S texts κ r → SameGiven r 7 22
-  fourth-same {κ = κ} q (sheet a b c m d e f g h i pa pb pt pe pf pg ph pi) =
-      given-same (κ ∷ flagsOf (flags a b c m d e f g i) ∷ rest a b c m d e f g h i) 7 22 (as-text q pg) (bit-flag 7 (flags a b c m d e f g i)) refl refl
+  fourth-same {κ = κ} q (sheet a b c m d e f g h i j pa pb pt pe pf pg ph pi pj) =
+      given-same (κ ∷ flagsOf (flags a b c m d e f g i j) ∷ rest a b c m d e f g h i j) 7 22 (as-text q pg) (bit-flag 7 (flags a b c m d e f g i j)) refl refl
+
+  seventh-same : {S : Sorts} {κ : ℕ} {r : List ℕ} → S .seventh ≡ text → Sheet S texts κ r → SameGiven r 10 28
+  seventh-same {κ = κ} q (sheet a b c m d e f g h i j pa pb pt pe pf pg ph pi pj) =
+      given-same (κ ∷ flagsOf (flags a b c m d e f g i j) ∷ rest a b c m d e f g h i j) 10 28 (as-text q pj) (bit-flag 10 (flags a b c m d e f g i j)) refl refl
 
   named-same : {S : Sorts} {κ : ℕ} {r : List ℕ} → S .first ≡ name → Sheet S texts κ r → SameText r 2 × SameGiven r 0 2
-  named-same {κ = κ} q (sheet a b c m d e f g h i pa pb pt pe pf pg ph pi) =
-      go (subst (λ (s : Sort). Fits texts s a) q pa) (κ ∷ flagsOf (flags a b c m d e f g i) ∷ rest a b c m d e f g h i) refl refl
+  named-same {κ = κ} q (sheet a b c m d e f g h i j pa pb pt pe pf pg ph pi pj) =
+      go (subst (λ (s : Sort). Fits texts s a) q pa) (κ ∷ flagsOf (flags a b c m d e f g i j) ∷ rest a b c m d e f g h i j) refl refl
     where
       go : {x : Cell} → Fits texts name x → (r : List ℕ) → getD r 2 0 ≡ firstWord 0 x → getD r 3 0 ≡ secondWord x → SameText r 2 × SameGiven r 0 2
       go (named {a = u} {n = v} t) r p w = let e = placed-same r 2 u v t p w in (e, ap (given (hasBit 0 r)) e)
 
   outputs-same : {S : Sorts} {κ : ℕ} {r : List ℕ} → S .middle ≡ outputs → Sheet S texts κ r → SameGiven r 1 4 × SameGiven r 2 6
-  outputs-same {κ = κ} q (sheet a b c m d e f g h i pa pb pt pe pf pg ph pi) = go (subst (λ (s : Middle). InMiddle texts s b c) q pb)
-      (κ ∷ flagsOf (flags a b c m d e f g i) ∷ rest a b c m d e f g h i) (bit-flag 1 (flags a b c m d e f g i)) refl refl (bit-flag 2 (flags a b c m d e f g i)) refl refl
+  outputs-same {κ = κ} q (sheet a b c m d e f g h i j pa pb pt pe pf pg ph pi pj) = go (subst (λ (s : Middle). InMiddle texts s b c) q pb)
+      (κ ∷ flagsOf (flags a b c m d e f g i j) ∷ rest a b c m d e f g h i j) (bit-flag 1 (flags a b c m d e f g i j)) refl refl (bit-flag 2 (flags a b c m d e f g i j)) refl refl
     where
       go : {x y : Cell} → InMiddle texts outputs x y → (r : List ℕ) → hasBit 1 r ≡ isGiven x → getD r 4 0 ≡ firstWord 0 x → getD r 5 0 ≡ secondWord x
           → hasBit 2 r ≡ isGiven y → getD r 6 0 ≡ firstWord 0 y → getD r 7 0 ≡ secondWord y → SameGiven r 1 4 × SameGiven r 2 6
       go (two u v) r p q s t w l = (given-same r 1 4 u p q s, given-same r 2 6 v t w l)
 
   value-same : {S : Sorts} {κ : ℕ} {r : List ℕ} → S .middle ≡ pair → Sheet S texts κ r → SameText r 4
-  value-same {κ = κ} q (sheet a b c m d e f g h i pa pb pt pe pf pg ph pi) =
-      go (subst (λ (s : Middle). InMiddle texts s b c) q pb) (κ ∷ flagsOf (flags a b c m d e f g i) ∷ rest a b c m d e f g h i) refl refl
+  value-same {κ = κ} q (sheet a b c m d e f g h i j pa pb pt pe pf pg ph pi pj) =
+      go (subst (λ (s : Middle). InMiddle texts s b c) q pb) (κ ∷ flagsOf (flags a b c m d e f g i j) ∷ rest a b c m d e f g h i j) refl refl
     where
       go : {x y : Cell} → InMiddle texts pair x y → (r : List ℕ) → getD r 4 0 ≡ firstWord 0 x → getD r 5 0 ≡ secondWord x → SameText r 4
       go (full-value {a = u} {n = v} t) r p w = placed-same r 4 u v t p w
@@ -230,6 +234,7 @@ module _ (texts z : List ℕ) where
       let s = kept-at 2 (lit≤ tt) k (eqb-true (kindOf (b .head)) 2 e) .1 in
       let n = named-same texts z refl s in
       let o = outputs-same texts z refl s in
+      let v = seventh-same texts z refl s in
       let c = map-same (caseOf (texts ++ z)) (caseOf texts) (each-on (λ d q. case-same d (q .0) (q .1) (q .2)) (branches-each isCase h)) in
       let x = pairs-same 13 (lit≤ tt) refl refl h in
       let p = pairs-same 4 (lit≤ tt) refl refl h in
@@ -238,6 +243,7 @@ module _ (texts z : List ℕ) where
         counts = counts (b .head);
         timestamp = timestamp (b .head);
         time = time (b .head);
+        hostname = v i;
         cases = c i;
         properties = p i;
         systemOut = o .0 i;

@@ -26,7 +26,7 @@ use Rattle.read_element.specs.Outcome.{Place, within, Rooms, fits}
 use Rattle.read_element.specs.Attributes.{Given, withMain, readText, placeOf, extraKind, oldExtra, newExtra, readExtra, keep, byRole, among, numbered, readAttributes, complete, Grown, readElement}
 use Rattle.read_element.proofs.TreeOutcome.{Holds, accept, bind, needed, answered, either}
 use Rattle.read_element.proofs.TreeSheet.{Sorts, text, value}
-use Rattle.read_element.proofs.TreeRoles.{Wide, Suits, as-first, as-value, as-second, as-tests, as-failures, as-errors, as-skipped, as-disabled}
+use Rattle.read_element.proofs.TreeRoles.{Wide, Suits, as-first, as-value, as-second, as-tests, as-failures, as-errors, as-skipped, as-disabled, as-host}
 use Rattle.read_element.proofs.TreeRoles.{as-assertions, as-uuid, as-moment, as-time, as-extra, as-ignored, Class, report, suite, case, suiteProperty}
 use Rattle.read_element.proofs.TreeRoles.{caseProperty, failure, error, skipped, flakyFailure, flakyError, rerunFailure, rerunError, class-roles}
 use Rattle.read_element.proofs.TreeElement.{Few, no-extras, extras-of, each-changed}
@@ -116,6 +116,7 @@ module _ (rooms : Rooms) {κ : ℕ} (used : ℕ) where
   by-role p key x {g} (as-errors q) w = bind (answered (within p key) (integerOf (x .value))) λ n e. accept (with-main _ w (count-kind 22 n (lit≤ tt) (g .main)))
   by-role p key x {g} (as-skipped q) w = bind (answered (within p key) (integerOf (x .value))) λ n e. accept (with-main _ w (count-kind 24 n (lit≤ tt) (g .main)))
   by-role p key x {g} (as-disabled q) w = bind (answered (within p key) (integerOf (x .value))) λ n e. accept (with-main _ w (number-kind 26 8 n (lit≤ tt) (g .main)))
+  by-role p key x (as-host q) w = text-read (within p key) 28 10 (x .value) (lit≤ tt) w
   by-role p key x {g} (as-assertions q) w = bind (answered (within p key) (integerOf (x .value))) λ n e. accept (with-main _ w (number-kind 20 6 n (lit≤ tt) (g .main)))
   by-role p key x {g} (as-uuid q) w = bind (answered (within p key) (uuidOf (x .value))) λ u e. accept (with-main _ w (uuid-kind u (g .main)))
   by-role p key x {g} (as-moment {kept = k} q) w =

@@ -83,7 +83,7 @@ caseWith s ps o e =
     record { name = bytes "c"; classname = none; assertions = none; timestamp = none; time = none; status = s; systemOut = o; systemErr = e; extra = []; properties = ps }
 
 abbrev suiteWith : List TestCase → List Pair → (systemOut systemErr : Option Text) → List Pair → TestSuite
-suiteWith cs ps o e xs = record { name = bytes "s"; counts = zero; timestamp = none; time = none; cases = cs; properties = ps; systemOut = o; systemErr = e; extra = xs }
+suiteWith cs ps o e xs = record { name = bytes "s"; counts = zero; timestamp = none; time = none; hostname = none; cases = cs; properties = ps; systemOut = o; systemErr = e; extra = xs }
 
 abbrev reportWith : List TestSuite → Report
 reportWith ss = record { name = none; uuid = none; timestamp = none; time = none; counts = zero; suites = ss }
@@ -438,7 +438,7 @@ whole-report = gives (holding (bytes "testsuites") (name (bytes "r") ∷ attribu
 abbrev whole-suite : Case
 whole-suite = suiteGives (inReport (holding (bytes "testsuite")
     (name (bytes "s") ∷ attribute (bytes "tests") (bytes "1") ∷ attribute (bytes "failures") (bytes "2") ∷ attribute (bytes "errors") (bytes "3") ∷ attribute (bytes "skipped") (bytes "4")
-    ∷ attribute (bytes "disabled") (bytes "5") ∷ attribute (bytes "uuid") (bytes "u") ∷ times)
+    ∷ attribute (bytes "disabled") (bytes "5") ∷ attribute (bytes "hostname") (bytes "h&lt;") ∷ attribute (bytes "uuid") (bytes "u") ∷ times)
     (holding (bytes "properties") [] (property (bytes "a") (bytes "1") ∷ []) ++ texted (bytes "system-out") (bytes "x") ++ texted (bytes "system-err") (bytes "y")
     ++ (alone (bytes "testcase") (name (bytes "c") ∷ []) ∷ holding (bytes "testcase") (name (bytes "c") ∷ []) (alone (bytes "skipped") [] ∷ [])))))
     (record {
@@ -446,12 +446,64 @@ whole-suite = suiteGives (inReport (holding (bytes "testsuite")
       counts = record { tests = 1; failures = 2; errors = 3; skipped = 4; disabled = some 5 };
       timestamp = some moment;
       time = some twoSeconds;
+      hostname = some (bytes "h<");
       cases = caseWith (success []) [] none none ∷ caseWith (skipped bare) [] none none ∷ [];
       properties = pair (bytes "a") (bytes "1") ∷ [];
       systemOut = some (bytes "x");
       systemErr = some (bytes "y");
       extra = pair (bytes "uuid") (bytes "u") ∷ [];
     })
+
+-- a suite's host
+abbrev aHost : List ℕ → Attribute
+aHost v = attribute (bytes "hostname") v
+
+abbrev hosted : List Attribute → List Event
+hosted xs = inReport (alone (bytes "testsuite") (name (bytes "s") ∷ xs) ∷ [])
+
+-- a key that is cleaned to it is an extra's, beside it
+abbrev host-beside : Case
+host-beside = suiteGives (hosted (aHost (bytes "a") ∷ attribute (bytes "host&#110;ame") (bytes "b") ∷ []))
+    (record {
+      name = bytes "s";
+      counts = zero;
+      timestamp = none;
+      time = none;
+      hostname = some (bytes "a");
+      cases = [];
+      properties = [];
+      systemOut = none;
+      systemErr = none;
+      extra = pair (bytes "hostname") (bytes "b") ∷ [];
+    })
+
+-- it is an extra's on a case, and passed over on a report (rule A7)
+abbrev host-elsewhere : Case
+host-elsewhere = suiteGives (holding (bytes "testsuites") (aHost (bytes "a") ∷ [])
+    (holding (bytes "testsuite") (name (bytes "s") ∷ []) (alone (bytes "testcase") (name (bytes "c") ∷ aHost (bytes "b") ∷ []) ∷ [])))
+    (suiteWith (record {
+      name = bytes "c";
+      classname = none;
+      assertions = none;
+      timestamp = none;
+      time = none;
+      status = success [];
+      systemOut = none;
+      systemErr = none;
+      extra = pair (bytes "hostname") (bytes "b") ∷ [];
+      properties = [];
+    } ∷ []) [] none none [])
+
+-- its path has the Attribute, whose code is 16 (rule A11)
+abbrev bad-host : Case
+bad-host = names (hosted (aHost (bytes "&") ∷ [])) 16
+
+-- it takes no record, and room for its text alone (rules M2 and M4)
+abbrev host-room : Case
+host-room = tells (record { records = some 2; text = some 2; scratch = some 0 }) (hosted (aHost (bytes "a") ∷ [])) none
+
+abbrev no-host-room : Case
+no-host-room = tells (record { records = some 2; text = some 1; scratch = some 0 }) (hosted (aHost (bytes "a") ∷ [])) (some cause.TextFull)
 
 abbrev late-suite-parts : Case
 late-suite-parts = suiteGives (inSuite (alone (bytes "testcase") (name (bytes "c") ∷ []) ∷ texted (bytes "system-err") (bytes "y")
@@ -585,7 +637,7 @@ examples = list-replaced ∷ empty-list-replaces ∷ case-list ∷ outputs-repla
     ∷ unnamed-suite ∷ unnamed-case ∷ mark-first ∷ repeated ∷ bad-time ∷ room-kept ∷ room-enough ∷ replaced-extra-room ∷ extra-room ∷ scratch-apart ∷ scratch-behind
     ∷ bad-disabled ∷ bad-assertions ∷ bad-value ∷ bad-type ∷ bad-timestamp ∷ bad-extra ∷ bad-extra-key
     ∷ decoded ∷ no-value ∷ status-extra ∷ extra-record ∷ record-first ∷ run-moment ∷ suites-in-order ∷ output-room ∷ name-first
-    ∷ whole-report ∷ whole-suite ∷ late-suite-parts ∷ whole-case ∷ whole-run ∷ whole-main ∷ main-output ∷ main-first ∷ filtered-description ∷ bad-report-timestamp
+    ∷ whole-report ∷ whole-suite ∷ host-beside ∷ host-elsewhere ∷ bad-host ∷ host-room ∷ no-host-room ∷ late-suite-parts ∷ whole-case ∷ whole-run ∷ whole-main ∷ main-output ∷ main-first ∷ filtered-description ∷ bad-report-timestamp
     ∷ bad-report-time ∷ bad-key ∷ bad-message ∷ named-status ∷ key-first ∷ extra-path ∷ repeated-later ∷ second-extra ∷ decoded-room ∷ description-room
     ∷ pieces-shared ∷ scratch-back ∷ faulty-second ∷ behind-text ∷ text-outside ∷ unclosed ∷ closed ∷ fault-behind ∷ []
 
@@ -605,4 +657,4 @@ examples-hold =
     (one refl (one refl (one refl (one refl (one refl (one refl (one refl (one refl (one refl (one refl (one refl (one refl (one refl (one refl (one refl (one refl
     (one refl (one refl (one refl (one refl (one refl (one refl (one refl (one refl (one refl (one refl (one refl (one refl (one refl (one refl (one refl (one refl
     (one refl (one refl (one refl (one refl (one refl (one refl (one refl (one refl (one refl
-    (one refl (one refl (one refl (one refl (one refl (one refl none-left))))))))))))))))))))))))))))))))))))))))))))))))))))))))))))))))))))))))))))))
+    (one refl (one refl (one refl (one refl (one refl (one refl (one refl (one refl (one refl (one refl (one refl none-left)))))))))))))))))))))))))))))))))))))))))))))))))))))))))))))))))))))))))))))))))))

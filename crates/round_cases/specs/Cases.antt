@@ -64,6 +64,7 @@ oneSuite disabled out extra =
       counts = record { tests = 0; failures = 0; errors = 0; skipped = 0; disabled = disabled };
       timestamp = none;
       time = none;
+      hostname = none;
       cases = [];
       properties = [];
       systemOut = out;
@@ -153,6 +154,7 @@ fullSuite =
       counts = record { tests = 6; failures = 7; errors = 8; skipped = 9; disabled = some 10 };
       timestamp = some moment;
       time = some (record { seconds = 1; nanos = 500000000 });
+      hostname = some (bytes "b<x");
       cases = fullCase ∷ [];
       properties = record { key = bytes "n"; value = bytes "v" } ∷ [];
       systemOut = some (bytes "so");

@@ -15,7 +15,7 @@ use Rattle.round_cases.specs.Cases.{Case, kept, at, newYear, firstRun, s
 -- timestamp, time, outputs, extras, cases
 abbrev pub aSuite : Option Moment → Option Duration → Option Text → Option Text → List Pair → List TestCase → TestSuite
 aSuite m d out err extra cases =
-    record { name = bytes "s"; counts = noCounts; timestamp = m; time = d; cases = cases; properties = []; systemOut = out; systemErr = err; extra = extra }
+    record { name = bytes "s"; counts = noCounts; timestamp = m; time = d; hostname = none; cases = cases; properties = []; systemOut = out; systemErr = err; extra = extra }
 
 abbrev pub aCase : Option Moment → Option Duration → Option Text → Option Text → List Pair → TestCase
 aCase m d out err extra =
@@ -58,7 +58,7 @@ ofCase c = ofSuite (ofCases (c ∷ []))
 
 abbrev pub suiteNamed : Text → TestSuite
 suiteNamed n =
-    record { name = n; counts = noCounts; timestamp = none; time = none; cases = []; properties = []; systemOut = none; systemErr = none; extra = [] }
+    record { name = n; counts = noCounts; timestamp = none; time = none; hostname = none; cases = []; properties = []; systemOut = none; systemErr = none; extra = [] }
 
 abbrev pub statused : TestCaseStatus → Report
 statused s = ofCase (ofStatus s)

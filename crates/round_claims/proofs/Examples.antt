@@ -28,7 +28,7 @@ abbrev called : List TestSuite → Report
 called ss = record { name = some (bytes "r"); uuid = none; timestamp = none; time = none; counts = noCounts; suites = ss }
 
 abbrev suiteCalled : Text → TestSuite
-suiteCalled n = record { name = n; counts = noCounts; timestamp = none; time = none; cases = []; properties = []; systemOut = none; systemErr = none; extra = [] }
+suiteCalled n = record { name = n; counts = noCounts; timestamp = none; time = none; hostname = none; cases = []; properties = []; systemOut = none; systemErr = none; extra = [] }
 
 -- ---- one record and one byte
 one-fits : Placed (called []) 32 1

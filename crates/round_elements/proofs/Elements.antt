@@ -74,19 +74,23 @@ module _ (p : Place) (j : ℕ) (records : List (List ℕ)) (texts : List ℕ) wh
       → WholeTime (s .time) → WholeMoment (s .timestamp) → goodKeys suiteKeys (keysOf (s .extra)) ≡ true
       → Opened kind.suite (λ t x. SuiteShown t x s) (s .extra) records texts (readElement unlimited p kind.suite j (suiteAttributes s) records texts)
   suite-opened s f e d m k =
-      let x : ℕ = length texts in
       let named : List ℕ = texts ++ s .name in
+      let hosted : List ℕ = stored (ofText (s .hostname)) in
+      let x : ℕ = length texts in
+      let y : ℕ = length named in
       let ks : List (List ℕ) = keysOf (s .extra) in
-      let r : List ℕ = filled (suiteFilled x s) named .main in
-      let w : ExtrasRead p (length records) kind.suite (filled (suiteFilled x s) named) [] (s .extra) =
-      extras-read suite-extra (filled (suiteFilled x s) named) [] (s .extra) noPairs (keys-good suiteKeys ks k)
-      (good-pairs kind.suiteExtra (s .extra) e) (fresh-start ks (keys-distinct suiteKeys ks k)) in
+      let start : Given = filled (suiteFilled x y s) (named ++ hosted) in
+      let r : List ℕ = start .main in
+      let w : ExtrasRead p (length records) kind.suite start [] (s .extra) =
+      extras-read suite-extra start [] (s .extra) noPairs (keys-good suiteKeys ks k) (good-pairs kind.suiteExtra (s .extra) e) (fresh-start ks (keys-distinct suiteKeys ks k)) in
       let g : Given = record { main = r; extras = w .rows; texts = w .texts } in
-      opened p j (suiteAttributes s) g (s .name ++ w .added)
+      opened p j (suiteAttributes s) g (s .name ++ (hosted ++ w .added))
       (suite-filled texts s (fitting (suiteRow s) f) d m (record { reads = w .reads }) .reads .run [] j (keys-fresh suiteKeys ks suite-keys k))
-      (complete-suite p g (bit-flag 0 (presence (suiteFilled x s))))
-      (w .grown ∙ append-assoc texts (s .name) (w .added))
-      (subst (λ (t : List ℕ). SuiteShown t r s) (sym (w .grown)) (suite-later named (w .added) r (suite-shown x s (stands-new texts (some (s .name))))))
+      (complete-suite p g (bit-flag 0 (presence (suiteFilled x y s))))
+      (w .grown ∙ append-assoc named hosted (w .added) ∙ append-assoc texts (s .name) (hosted ++ w .added))
+      (subst (λ (t : List ℕ). SuiteShown t r s) (sym (w .grown))
+      (suite-later (named ++ hosted) (w .added) r
+      (suite-shown x y s (stands-more named hosted x (some (s .name)) (stands-new texts (some (s .name)))) (stands-new named (s .hostname)))))
       (w .shown)
 
   -- a case's attributes as they are written are read into records that show the case and its extras

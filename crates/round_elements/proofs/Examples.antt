@@ -51,6 +51,7 @@ reportOf c =
             counts = noTests;
             timestamp = none;
             time = none;
+            hostname = none;
             cases = c ∷ [];
             properties = [];
             systemOut = none;

@@ -22,7 +22,7 @@ use Rattle.round_elements.specs.Plain.{keysOf, suiteKeys, caseKeys}
 use Rattle.round_elements.specs.inside.PlainCase.{WholeTime, WholeMoment}
 use Rattle.round_elements.proofs.Rows.{blankRow}
 use Rattle.round_elements.proofs.Steps.{filled, Filling, fill-end, fill-last, fill-first, fill-value, fill-second, fill-tests, fill-failures}
-use Rattle.round_elements.proofs.Steps.{fill-errors, fill-skipped, fill-assertions, fill-disabled, fill-uuid, fill-moment, fill-time}
+use Rattle.round_elements.proofs.Steps.{fill-errors, fill-skipped, fill-assertions, fill-disabled, fill-uuid, fill-moment, fill-time, fill-seventh}
 use Rattle.round_elements.proofs.Shown.{reportFilled, suiteFilled, caseFilled, runFilled, mainFilled, pairFilled}
 use Rattle.round_elements.proofs.Fits.{Fitting}
 use Rattle.round_elements.proofs.Opening.{PropertyRoles, StatusRoles, RunRoles}
@@ -57,7 +57,7 @@ module _ {p : Place} {used : ℕ} (texts : List ℕ) where
 
   -- up to the extras
   pub suite-filled : {o : Outcome Given} (s : TestSuite) → Fitting (suiteRow s) → WholeTime (s .time) → WholeMoment (s .timestamp)
-      → Filling p used kind.suite (keysOf (s .extra)) (map extraAttribute (s .extra)) (suiteFilled (length texts) s) (texts ++ s .name) o
+      → Filling p used kind.suite (keysOf (s .extra)) (map extraAttribute (s .extra)) (suiteFilled (length texts) (length (texts ++ s .name)) s) ((texts ++ s .name) ++ stored (ofText (s .hostname))) o
       → Filling p used kind.suite (suiteKeys ++ keysOf (s .extra)) (suiteAttributes s) (blankRow kind.suite) texts o
   unfolding roleOf suiteRole roleIn keys codeFrom sameBytes
   suite-filled s f d m w =
@@ -68,7 +68,8 @@ module _ {p : Place} {used : ℕ} (texts : List ℕ) where
       (fill-failures (bytes "failures") (s .counts .failures) refl (f .third) refl
       (fill-disabled (bytes "disabled") (s .counts .disabled) refl (f .sixth) refl
       (fill-moment (s .timestamp) refl (f .timestamp) m refl
-      (fill-time (s .time) refl (f .time) d refl w)))))))
+      (fill-time (s .time) refl (f .time) d refl
+      (fill-seventh (bytes "hostname") (s .hostname) refl (f .seventh) refl w))))))))
 
   pub case-filled : {o : Outcome Given} (c : TestCase) → Fitting (caseRow c) → WholeTime (c .time) → WholeMoment (c .timestamp)
       → Filling p used kind.case (keysOf (c .extra)) (map extraAttribute (c .extra)) (caseFilled (length texts) (length (texts ++ c .name)) c) ((texts ++ c .name) ++ stored (ofText (c .classname))) o

@@ -14,6 +14,7 @@ pub record Fitting (r : Row) : Type 0 where
   pub fourth : fitsCell (r .fourth) ≡ true
   pub fifth : fitsCell (r .fifth) ≡ true
   pub sixth : fitsCell (r .sixth) ≡ true
+  pub seventh : fitsCell (r .seventh) ≡ true
   pub timestamp : fitsMoment (r .timestamp) ≡ true
   pub time : fitsTime (r .time) ≡ true
 
@@ -27,26 +28,28 @@ every-tail c cs e = and-right (fitsCell c) (every fitsCell cs) e
 pub fitting : (r : Row) → fitsRow r ≡ true → Fitting r
 unfolding fitsRow
 fitting r f =
-    let cells : Bool = every fitsCell (r .first ∷ r .out ∷ r .err ∷ r .second ∷ r .third ∷ r .fourth ∷ r .fifth ∷ r .sixth ∷ []) in
+    let cells : Bool = every fitsCell (r .first ∷ r .out ∷ r .err ∷ r .second ∷ r .third ∷ r .fourth ∷ r .fifth ∷ r .sixth ∷ r .seventh ∷ []) in
     let times : Bool = fitsMoment (r .timestamp) && fitsTime (r .time) in
     let a = and-left cells times f in
     let t = and-right cells times f in
-    let b = every-tail (r .first) (r .out ∷ r .err ∷ r .second ∷ r .third ∷ r .fourth ∷ r .fifth ∷ r .sixth ∷ []) a in
-    let c = every-tail (r .out) (r .err ∷ r .second ∷ r .third ∷ r .fourth ∷ r .fifth ∷ r .sixth ∷ []) b in
-    let d = every-tail (r .err) (r .second ∷ r .third ∷ r .fourth ∷ r .fifth ∷ r .sixth ∷ []) c in
-    let e = every-tail (r .second) (r .third ∷ r .fourth ∷ r .fifth ∷ r .sixth ∷ []) d in
-    let g = every-tail (r .third) (r .fourth ∷ r .fifth ∷ r .sixth ∷ []) e in
-    let h = every-tail (r .fourth) (r .fifth ∷ r .sixth ∷ []) g in
-    let i = every-tail (r .fifth) (r .sixth ∷ []) h in
+    let b = every-tail (r .first) (r .out ∷ r .err ∷ r .second ∷ r .third ∷ r .fourth ∷ r .fifth ∷ r .sixth ∷ r .seventh ∷ []) a in
+    let c = every-tail (r .out) (r .err ∷ r .second ∷ r .third ∷ r .fourth ∷ r .fifth ∷ r .sixth ∷ r .seventh ∷ []) b in
+    let d = every-tail (r .err) (r .second ∷ r .third ∷ r .fourth ∷ r .fifth ∷ r .sixth ∷ r .seventh ∷ []) c in
+    let e = every-tail (r .second) (r .third ∷ r .fourth ∷ r .fifth ∷ r .sixth ∷ r .seventh ∷ []) d in
+    let g = every-tail (r .third) (r .fourth ∷ r .fifth ∷ r .sixth ∷ r .seventh ∷ []) e in
+    let h = every-tail (r .fourth) (r .fifth ∷ r .sixth ∷ r .seventh ∷ []) g in
+    let i = every-tail (r .fifth) (r .sixth ∷ r .seventh ∷ []) h in
+    let j = every-tail (r .sixth) (r .seventh ∷ []) i in
     record {
-      first = every-head (r .first) (r .out ∷ r .err ∷ r .second ∷ r .third ∷ r .fourth ∷ r .fifth ∷ r .sixth ∷ []) a;
-      out = every-head (r .out) (r .err ∷ r .second ∷ r .third ∷ r .fourth ∷ r .fifth ∷ r .sixth ∷ []) b;
-      err = every-head (r .err) (r .second ∷ r .third ∷ r .fourth ∷ r .fifth ∷ r .sixth ∷ []) c;
-      second = every-head (r .second) (r .third ∷ r .fourth ∷ r .fifth ∷ r .sixth ∷ []) d;
-      third = every-head (r .third) (r .fourth ∷ r .fifth ∷ r .sixth ∷ []) e;
-      fourth = every-head (r .fourth) (r .fifth ∷ r .sixth ∷ []) g;
-      fifth = every-head (r .fifth) (r .sixth ∷ []) h;
-      sixth = every-head (r .sixth) [] i;
+      first = every-head (r .first) (r .out ∷ r .err ∷ r .second ∷ r .third ∷ r .fourth ∷ r .fifth ∷ r .sixth ∷ r .seventh ∷ []) a;
+      out = every-head (r .out) (r .err ∷ r .second ∷ r .third ∷ r .fourth ∷ r .fifth ∷ r .sixth ∷ r .seventh ∷ []) b;
+      err = every-head (r .err) (r .second ∷ r .third ∷ r .fourth ∷ r .fifth ∷ r .sixth ∷ r .seventh ∷ []) c;
+      second = every-head (r .second) (r .third ∷ r .fourth ∷ r .fifth ∷ r .sixth ∷ r .seventh ∷ []) d;
+      third = every-head (r .third) (r .fourth ∷ r .fifth ∷ r .sixth ∷ r .seventh ∷ []) e;
+      fourth = every-head (r .fourth) (r .fifth ∷ r .sixth ∷ r .seventh ∷ []) g;
+      fifth = every-head (r .fifth) (r .sixth ∷ r .seventh ∷ []) h;
+      sixth = every-head (r .sixth) (r .seventh ∷ []) i;
+      seventh = every-head (r .seventh) [] j;
       timestamp = and-left (fitsMoment (r .timestamp)) (fitsTime (r .time)) t;
       time = and-right (fitsMoment (r .timestamp)) (fitsTime (r .time)) t;
     }

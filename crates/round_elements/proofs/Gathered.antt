@@ -9,7 +9,7 @@ use lib.ListN.{length}
 use Rattle.tree_record.specs.Words as word
 use Rattle.tree_record.specs.Bits as bit
 use Rattle.tree_report.specs.Report.{Text, FlakyOrRerun, TestRerun, Reason, TestCase, TestSuite}
-use Rattle.tree_report.specs.Fields.{hasBit, given, textAt, first, systemOut, systemErr, second, description, stackTrace, timestamp, time, counts, assertions}
+use Rattle.tree_report.specs.Fields.{hasBit, given, textAt, first, systemOut, systemErr, second, description, stackTrace, hostname, timestamp, time, counts, assertions}
 use Rattle.tree_put.specs.Put.{putText}
 use Rattle.round_elements.specs.inside.Opened.{Lasting, Blank, SuiteShown, CaseShown, RunShown, MainShown}
 use Rattle.round_elements.specs.inside.Held.{SuiteHeld, CaseHeld, RunHeld, MainHeld}
@@ -36,6 +36,7 @@ module _ {texts r : List ℕ} where
     counts = h .counts;
     timestamp = h .timestamp;
     time = h .time;
+    hostname = h .hostname;
     out = unset texts r bit.out word.out (h .out);
     err = unset texts r bit.err word.err (h .err);
   }
@@ -87,6 +88,7 @@ module _ {texts r : List ℕ} (u : List ℕ) where
     counts = h .counts;
     timestamp = h .timestamp;
     time = h .time;
+    hostname = lasting-more texts u (λ t. hostname t r) (h .hostname);
     out = lasting-more texts u (λ t. systemOut t r) (h .out);
     err = lasting-more texts u (λ t. systemErr t r) (h .err);
   }
@@ -152,6 +154,7 @@ module _ (texts r v : List ℕ) where
         counts = k .counts ∙ h .counts;
         timestamp = k .common .timestamp ∙ h .timestamp;
         time = k .common .time ∙ h .time;
+        hostname = lasting-kept texts v (λ t. hostname t r) (λ t. hostname t (put word.out bit.out)) (k .hostname) (h .hostname);
         out = later-text word.out bit.out texts v r (h .blank .long) (lit< tt) (lit< tt);
         err = lasting-kept texts v (λ t. systemErr t r) (λ t. systemErr t (put word.out bit.out)) (k .err) (h .err);
       }
@@ -166,6 +169,7 @@ module _ (texts r v : List ℕ) where
         counts = k .counts ∙ h .counts;
         timestamp = k .common .timestamp ∙ h .timestamp;
         time = k .common .time ∙ h .time;
+        hostname = lasting-kept texts v (λ t. hostname t r) (λ t. hostname t (put word.err bit.err)) (k .hostname) (h .hostname);
         out = lasting-kept texts v (λ t. systemOut t r) (λ t. systemOut t (put word.err bit.err)) (k .out) (h .out);
         err = later-text word.err bit.err texts v r (h .blank .long) (lit< tt) (lit< tt);
       }

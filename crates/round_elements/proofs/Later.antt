@@ -13,7 +13,7 @@ use Rattle.tree_record.specs.Words as word
 use Rattle.tree_record.specs.Bits as bit
 use Rattle.tree_record.proofs.Marks.{marked-other, marked-bit, marked-bits}
 use Rattle.tree_report.specs.Report.{Text}
-use Rattle.tree_report.specs.Fields.{kindOf, hasBit, given, textAt, numberAt, first, systemOut, systemErr, second, description, stackTrace, timestamp, time, counts, assertions}
+use Rattle.tree_report.specs.Fields.{kindOf, hasBit, given, textAt, numberAt, first, systemOut, systemErr, second, description, stackTrace, hostname, timestamp, time, counts, assertions}
 use Rattle.tree_report.specs.Encode.{every}
 use Rattle.tree_report.proofs.EncodeLists.{and-left, and-right}
 use Rattle.tree_put.specs.Put.{putPair, putText}
@@ -139,6 +139,7 @@ pub record OutKept (r r′ : List ℕ) : Type 0 where
   pub common : Kept r r′
   pub counts : counts r′ ≡ counts r
   pub assertions : assertions r′ ≡ assertions r
+  pub hostname : (t : List ℕ) → hostname t r′ ≡ hostname t r
   pub err : (t : List ℕ) → systemErr t r′ ≡ systemErr t r
   pub description : (t : List ℕ) → description t r′ ≡ description t r
   pub stackTrace : (t : List ℕ) → stackTrace t r′ ≡ stackTrace t r
@@ -148,6 +149,7 @@ pub record ErrKept (r r′ : List ℕ) : Type 0 where
   pub common : Kept r r′
   pub counts : counts r′ ≡ counts r
   pub assertions : assertions r′ ≡ assertions r
+  pub hostname : (t : List ℕ) → hostname t r′ ≡ hostname t r
   pub out : (t : List ℕ) → systemOut t r′ ≡ systemOut t r
   pub description : (t : List ℕ) → description t r′ ≡ description t r
   pub stackTrace : (t : List ℕ) → stackTrace t r′ ≡ stackTrace t r
@@ -191,6 +193,7 @@ module _ (a n : ℕ) (r : List ℕ) where
         common = common-kept (text-length 4 1 a n r) b refl refl;
         counts = counts-kept b refl refl;
         assertions = assertions-kept b refl refl refl;
+        hostname = given-kept b 10 28 refl refl refl;
         err = given-kept b 2 6 refl refl refl;
         description = given-kept b 6 20 refl refl refl;
         stackTrace = given-kept b 7 22 refl refl refl;
@@ -203,6 +206,7 @@ module _ (a n : ℕ) (r : List ℕ) where
         common = common-kept (text-length 6 2 a n r) b refl refl;
         counts = counts-kept b refl refl;
         assertions = assertions-kept b refl refl refl;
+        hostname = given-kept b 10 28 refl refl refl;
         out = given-kept b 1 4 refl refl refl;
         description = given-kept b 6 20 refl refl refl;
         stackTrace = given-kept b 7 22 refl refl refl;

@@ -6,7 +6,7 @@ use mathlib.Core.Path.{_≡_, refl, ap, _∙_}
 use lib.ListN.{length, getD, take, drop}
 use lib.Seq.{take-at, drop-append-seam}
 use Rattle.tree_report.specs.Report.{Text, Pair, TestCase, TestSuite, Report}
-use Rattle.tree_report.specs.Fields.{hasBit, given, textAt, first, second}
+use Rattle.tree_report.specs.Fields.{hasBit, given, textAt, first, second, hostname}
 use Rattle.tree_report.specs.ReportOf.{pairOf}
 use Rattle.tree_report.specs.inside.Cells.{isGiven, firstWord, secondWord, stored, ofText}
 use Rattle.tree_record.specs.Words as word
@@ -59,6 +59,7 @@ module _ (s u r : List ℕ) where
     counts = h .counts;
     timestamp = h .timestamp;
     time = h .time;
+    hostname = lasting-more s u (λ t. hostname t r) (h .hostname);
     out = h .out;
     err = h .err;
   }

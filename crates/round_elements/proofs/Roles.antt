@@ -40,6 +40,7 @@ module _ (k : List ℕ) where
         not-code k 7 (not-in k suiteKeys 3 (lit< tt) e),
         not-code k 8 (not-in k suiteKeys 2 (lit< tt) e),
         not-code k 9 (not-in k suiteKeys 5 (lit< tt) e),
+        not-code k 14 (not-in k suiteKeys 8 (lit< tt) e),
       ) refl
 
   pub case-extra : isIn k caseKeys ≡ false → roleOf 3 (keyOf k) ≡ role.Extra

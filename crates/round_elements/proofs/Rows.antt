@@ -20,7 +20,7 @@ behind r =
     ∷ momentOrZero (r .timestamp) .minute ∷ momentOrZero (r .timestamp) .second ∷ momentOrZero (r .timestamp) .nanos ∷ momentOrZero (r .timestamp) .offset
     ∷ timeOrZero (r .time) .seconds ∷ timeOrZero (r .time) .nanos
     ∷ firstWord 0 (r .second) ∷ secondWord (r .second) ∷ firstWord 0 (r .third) ∷ secondWord (r .third) ∷ firstWord 0 (r .fourth) ∷ secondWord (r .fourth)
-    ∷ firstWord 0 (r .fifth) ∷ secondWord (r .fifth) ∷ firstWord 0 (r .sixth) ∷ secondWord (r .sixth) ∷ 0 ∷ 0 ∷ 0 ∷ 0 ∷ []
+    ∷ firstWord 0 (r .fifth) ∷ secondWord (r .fifth) ∷ firstWord 0 (r .sixth) ∷ secondWord (r .sixth) ∷ firstWord 0 (r .seventh) ∷ secondWord (r .seventh) ∷ 0 ∷ 0 ∷ []
 
 abbrev pub words : Row → List ℕ
 words r = r .kind ∷ flagsOf (presence r) ∷ behind r
@@ -38,6 +38,7 @@ blankRow κ = record {
   fourth = absent;
   fifth = absent;
   sixth = absent;
+  seventh = absent;
   isFlaky = false;
 }
 
@@ -55,6 +56,7 @@ withFirst c r = record {
   fourth = r .fourth;
   fifth = r .fifth;
   sixth = r .sixth;
+  seventh = r .seventh;
   isFlaky = r .isFlaky;
 }
 
@@ -71,6 +73,7 @@ withMiddle c d r = record {
   fourth = r .fourth;
   fifth = r .fifth;
   sixth = r .sixth;
+  seventh = r .seventh;
   isFlaky = r .isFlaky;
 }
 
@@ -87,6 +90,7 @@ withTimestamp m r = record {
   fourth = r .fourth;
   fifth = r .fifth;
   sixth = r .sixth;
+  seventh = r .seventh;
   isFlaky = r .isFlaky;
 }
 
@@ -103,6 +107,7 @@ withTime d r = record {
   fourth = r .fourth;
   fifth = r .fifth;
   sixth = r .sixth;
+  seventh = r .seventh;
   isFlaky = r .isFlaky;
 }
 
@@ -119,6 +124,7 @@ withSecond c r = record {
   fourth = r .fourth;
   fifth = r .fifth;
   sixth = r .sixth;
+  seventh = r .seventh;
   isFlaky = r .isFlaky;
 }
 
@@ -135,6 +141,7 @@ withThird c r = record {
   fourth = r .fourth;
   fifth = r .fifth;
   sixth = r .sixth;
+  seventh = r .seventh;
   isFlaky = r .isFlaky;
 }
 
@@ -151,6 +158,7 @@ withFourth c r = record {
   fourth = c;
   fifth = r .fifth;
   sixth = r .sixth;
+  seventh = r .seventh;
   isFlaky = r .isFlaky;
 }
 
@@ -167,6 +175,7 @@ withFifth c r = record {
   fourth = r .fourth;
   fifth = c;
   sixth = r .sixth;
+  seventh = r .seventh;
   isFlaky = r .isFlaky;
 }
 
@@ -183,6 +192,24 @@ withSixth c r = record {
   fourth = r .fourth;
   fifth = r .fifth;
   sixth = c;
+  seventh = r .seventh;
+  isFlaky = r .isFlaky;
+}
+
+abbrev pub withSeventh : Cell → Row → Row
+withSeventh c r = record {
+  kind = r .kind;
+  first = r .first;
+  out = r .out;
+  err = r .err;
+  timestamp = r .timestamp;
+  time = r .time;
+  second = r .second;
+  third = r .third;
+  fourth = r .fourth;
+  fifth = r .fifth;
+  sixth = r .sixth;
+  seventh = c;
   isFlaky = r .isFlaky;
 }
 
@@ -196,6 +223,9 @@ module _ (r : Row) where
 
   pub put-second : (x n : ℕ) → putText 18 5 x n (words r) ≡ words (withSecond (valued x n) r)
   put-second x n = marked-flags (r .kind) 5 (presence r) (behind (withSecond (valued x n) r)) (lit≤ tt) (lit≤ tt)
+
+  pub put-seventh : (x n : ℕ) → putText 28 10 x n (words r) ≡ words (withSeventh (valued x n) r)
+  put-seventh x n = marked-flags (r .kind) 10 (presence r) (behind (withSeventh (valued x n) r)) (lit≤ tt) (lit≤ tt)
 
   pub put-assertions : (n : ℕ) → marked 6 (putCount 20 n (words r)) ≡ words (withThird (ofNumber (some n)) r)
   put-assertions n = marked-flags (r .kind) 6 (presence r) (behind (withThird (ofNumber (some n)) r)) (lit≤ tt) (lit≤ tt)

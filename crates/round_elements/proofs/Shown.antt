@@ -31,11 +31,12 @@ reportFilled x p = record {
   fourth = ofCount (p .counts .errors);
   fifth = ofCount (p .counts .skipped);
   sixth = ofNumber (p .counts .disabled);
+  seventh = absent;
   isFlaky = false;
 }
 
-abbrev pub suiteFilled : ℕ → TestSuite → Row
-suiteFilled x s = record {
+abbrev pub suiteFilled : ℕ → ℕ → TestSuite → Row
+suiteFilled x y s = record {
   kind = kind.suite;
   first = textCell x (some (s .name));
   out = absent;
@@ -47,6 +48,7 @@ suiteFilled x s = record {
   fourth = ofCount (s .counts .errors);
   fifth = ofCount (s .counts .skipped);
   sixth = ofNumber (s .counts .disabled);
+  seventh = textCell y (s .hostname);
   isFlaky = false;
 }
 
@@ -63,6 +65,7 @@ caseFilled x y c = record {
   fourth = absent;
   fifth = absent;
   sixth = absent;
+  seventh = absent;
   isFlaky = false;
 }
 
@@ -79,6 +82,7 @@ runFilled κ x y e = record {
   fourth = absent;
   fifth = absent;
   sixth = absent;
+  seventh = absent;
   isFlaky = false;
 }
 
@@ -95,6 +99,7 @@ mainFilled κ x y m = record {
   fourth = absent;
   fifth = absent;
   sixth = absent;
+  seventh = absent;
   isFlaky = false;
 }
 
@@ -111,6 +116,7 @@ pairFilled κ x y p = record {
   fourth = absent;
   fifth = absent;
   sixth = absent;
+  seventh = absent;
   isFlaky = false;
 }
 
@@ -141,10 +147,10 @@ report-shown {t} x p h =
       counts = counts-shown r c (count (c .tests)) (count (c .failures)) (count (c .errors)) (count (c .skipped)) (number-back 0 r 8 26 (c .disabled) (bit-flag 8 bs) (refl, refl, refl));
     }
 
-pub suite-shown : {t : List ℕ} (x : ℕ) (s : TestSuite) → Stands t x (some (s .name)) → SuiteShown t (words (suiteFilled x s)) s
-suite-shown {t} x s h =
-    let r : List ℕ = words (suiteFilled x s) in
-    let bs : List Bool = presence (suiteFilled x s) in
+pub suite-shown : {t : List ℕ} (x y : ℕ) (s : TestSuite) → Stands t x (some (s .name)) → Stands t y (s .hostname) → SuiteShown t (words (suiteFilled x y s)) s
+suite-shown {t} x y s h k =
+    let r : List ℕ = words (suiteFilled x y s) in
+    let bs : List Bool = presence (suiteFilled x y s) in
     let c : Counts = s .counts in
     record {
       blank = record { long = refl; kind = refl };
@@ -152,6 +158,7 @@ suite-shown {t} x s h =
       counts = counts-shown r c (count (c .tests)) (count (c .failures)) (count (c .errors)) (count (c .skipped)) (number-back 0 r 8 26 (c .disabled) (bit-flag 8 bs) (refl, refl, refl));
       timestamp = moment-back r (s .timestamp) (bit-flag 3 bs) refl refl .back;
       time = time-back r (s .time) (bit-flag 4 bs) (refl, refl, refl) .back;
+      hostname = text-shown t r 10 28 y (s .hostname) (bit-flag 10 bs) refl refl k;
       out = bit-flag 1 bs;
       err = bit-flag 2 bs;
     }

@@ -29,8 +29,8 @@ use Rattle.write_report.specs.Written.{attribute, textual, numeric, optional, s
 use Rattle.round_elements.specs.inside.PlainCase.{wholeTime, wholeMoment, WholeTime, WholeMoment}
 use Rattle.round_elements.proofs.Reading.{Reads, read-end, read-skip, read-role, read-last}
 use Rattle.round_elements.proofs.Values.{role-text, role-count, role-number, role-uuid, role-moment, role-time}
-use Rattle.round_elements.proofs.Rows.{words, withFirst, withMiddle, withTimestamp, withTime, withSecond, withThird, withFourth, withFifth, withSixth, put-first, put-value}
-use Rattle.round_elements.proofs.Rows.{put-second, put-assertions, put-disabled, put-moment, put-time, put-uuid, put-tests, put-failures, put-errors, put-skipped}
+use Rattle.round_elements.proofs.Rows.{words, withFirst, withMiddle, withTimestamp, withTime, withSecond, withThird, withFourth, withFifth, withSixth, withSeventh, put-first, put-value}
+use Rattle.round_elements.proofs.Rows.{put-second, put-assertions, put-disabled, put-moment, put-time, put-uuid, put-tests, put-failures, put-errors, put-skipped, put-seventh}
 
 -- a text of this length, or none, at x
 abbrev pub textCell : ℕ → Option Text → Cell
@@ -82,6 +82,10 @@ module _ {p : Place} {used κ : ℕ} {ks : List (List ℕ)} {xs : List Attribute
   pub fill-second : (key : List ℕ) (t : Option Text) → roleOf κ (keyOf key) ≡ role.Text 18 5 → fitsCell (ofText t) ≡ true → r .second ≡ absent
       → Filling p used κ ks xs (withSecond (textCell (length texts) t) r) (texts ++ stored (ofText t)) o → Filling p used κ (key ∷ ks) (optional (textual key) t ++ xs) r texts o
   fill-second key t e f z w = text-step 18 5 (λ c. withSecond c r) key t e f (put-second r) (ap (λ (c : Cell). withSecond c r) (sym z)) w
+
+  pub fill-seventh : (key : List ℕ) (t : Option Text) → roleOf κ (keyOf key) ≡ role.Text 28 10 → fitsCell (ofText t) ≡ true → r .seventh ≡ absent
+      → Filling p used κ ks xs (withSeventh (textCell (length texts) t) r) (texts ++ stored (ofText t)) o → Filling p used κ (key ∷ ks) (optional (textual key) t ++ xs) r texts o
+  fill-seventh key t e f z w = text-step 28 10 (λ c. withSeventh c r) key t e f (put-seventh r) (ap (λ (c : Cell). withSeventh c r) (sym z)) w
 
   -- ---- counts
   count-step : {s : Row} (i : ℕ) (key : List ℕ) (n : ℕ) → roleOf κ (keyOf key) ≡ role.Count i → fitsCell (ofCount n) ≡ true → putCount i n (words r) ≡ words s

@@ -116,6 +116,7 @@ module _ {texts main : List ℕ} {extras properties rows : List (List ℕ)} (s :
             let counts = h .counts in
             let timestamp = h .timestamp in
             let time = h .time in
+            let hostname = h .hostname z in
             let extra = ap (map (pairOf (texts ++ z))) only-extras ∙ pairs-back z x in
             let properties = ap (map (pairOf (texts ++ z))) only-properties ∙ pairs-back z p in
             let cases = ap (map (caseOf (texts ++ z))) only-cases ∙ cases-read z c in
@@ -124,6 +125,7 @@ module _ {texts main : List ℕ} {extras properties rows : List (List ℕ)} (s :
               counts = counts i;
               timestamp = timestamp i;
               time = time i;
+              hostname = hostname i;
               cases = cases i;
               properties = properties i;
               systemOut = out i;

@@ -14,7 +14,7 @@ use Rattle.tree_report.specs.Report.{FlakyOrRerun, TestSuite, Report}
 use Rattle.tree_report.specs.Fields.{kindOf, hasBit, given, textAt, numberAt, momentOf, first, uuid, timestamp, time, counts}
 use Rattle.tree_report.specs.Layout.{filled, goodText, zeroAt}
 use Rattle.tree_report.specs.inside.Parts.{goodTextAt, slot, textSlot, momentSlot, timeSlot, onlyBits, reportBits, suiteBits}
-use Rattle.tree_report.specs.inside.Parts.{caseBits, bitsFor, goodCommon, goodOutputs, goodCounts, goodReport, goodSuite, goodCase, goodOther}
+use Rattle.tree_report.specs.inside.Parts.{caseBits, bitsFor, goodCommon, goodOutputs, disabledSlot, goodCounts, goodHost, goodReport, goodSuite, goodCase, goodOther}
 use Rattle.tree_report.specs.ReportOf.{Branch, pairOf, reasonOf, runOf, caseOf, suiteOf}
 use Rattle.tree_report.specs.inside.Cells.{Row, written, ofText, ofNumber, ofCount, uuidFront, uuidBack, fitsCell, fitsMoment, fitsTime, fitsRow}
 use Rattle.tree_report.specs.inside.Cells.{pairRow, mainRow, runRow, caseRow, suiteRow, reportRow}
@@ -33,10 +33,14 @@ passes [] t e i = refl
 passes (b ∷ bs) t e zero = and-left b (conjunction bs t) e
 passes (b ∷ bs) t e (suc i) = passes bs t (and-right b (conjunction bs t) e) i
 
+last-passes : (bs : List Bool) (t : Bool) → conjunction bs t ≡ true → t ≡ true
+last-passes [] t e = e
+last-passes (b ∷ bs) t e = last-passes bs t (and-right b (conjunction bs t) e)
+
 fits-row : (r : Row) → Fitting r → fitsRow r ≡ true
 unfolding fitsRow
 fits-row r f =
-    both (both (f .first) (both (f .out) (both (f .err) (both (f .second) (both (f .third) (both (f .fourth) (both (f .fifth) (both (f .sixth) refl))))))))
+    both (both (f .first) (both (f .out) (both (f .err) (both (f .second) (both (f .third) (both (f .fourth) (both (f .fifth) (both (f .sixth) (both (f .seventh) refl)))))))))
     (both (f .timestamp) (f .time))
 
 -- ---- words of 32 bits
@@ -122,6 +126,12 @@ module _ (text : List ℕ) (good : goodText text ≡ true) (r : List ℕ) where
   outputs e =
       (and-left (textSlot texts r bit.out word.out) (textSlot texts r bit.err word.err) e, and-right (textSlot texts r bit.out word.out) (textSlot texts r bit.err word.err) e)
 
+  hosted : goodHost texts r ≡ true → textSlot texts r bit.hostname word.hostname ≡ true
+  unfolding goodHost
+  hosted e =
+      let own : Bool = textSlot texts r bit.hostname word.hostname in
+      and-left own (zeroAt r 30 2) (and-right (disabledSlot r) (own && zeroAt r 30 2) e)
+
   -- ---- the report, a suite, a case
   pub report-row : Narrow r → goodReport texts r ≡ true → (suites : List TestSuite)
       → fitsRow (reportRow (record { name = first text r; uuid = uuid r; timestamp = timestamp r; time = time r; counts = counts r; suites = suites })) ≡ true
@@ -139,6 +149,7 @@ module _ (text : List ℕ) (good : goodText text ≡ true) (r : List ℕ) where
         fourth = count-fits r n word.errors;
         fifth = count-fits r n word.skipped;
         sixth = number-fits r n bit.disabled word.disabled;
+        seventh = refl;
         timestamp = c .moment;
         time = c .time;
       })
@@ -146,7 +157,9 @@ module _ (text : List ℕ) (good : goodText text ≡ true) (r : List ℕ) where
   pub suite-row : Narrow r → goodSuite texts r ≡ true → (rs : List (List ℕ)) → fitsRow (suiteRow (suiteOf text (record { head = r; below = rs }))) ≡ true
   suite-row n e rs =
       let b : Branch = record { head = r; below = rs } in
-      let g = passes (onlyBits suiteBits r ∷ hasBit bit.name r ∷ goodCommon texts r ∷ goodOutputs texts r ∷ []) (goodCounts r) (sym (suite-good texts r) ∙ e) in
+      let tests : List Bool = onlyBits suiteBits r ∷ hasBit bit.name r ∷ goodCommon texts r ∷ goodOutputs texts r ∷ [] in
+      let whole = sym (suite-good texts r) ∙ e in
+      let g = passes tests (goodHost texts r) whole in
       let c = common (g 2) in
       let o = outputs (g 3) in
       fits-row (suiteRow (suiteOf text b))
@@ -159,6 +172,7 @@ module _ (text : List ℕ) (good : goodText text ≡ true) (r : List ℕ) where
         fourth = count-fits r n word.errors;
         fifth = count-fits r n word.skipped;
         sixth = number-fits r n bit.disabled word.disabled;
+        seventh = text-cell bit.hostname word.hostname (hosted (last-passes tests (goodHost texts r) whole));
         timestamp = c .moment;
         time = c .time;
       })
@@ -181,6 +195,7 @@ module _ (text : List ℕ) (good : goodText text ≡ true) (r : List ℕ) where
         fourth = refl;
         fifth = refl;
         sixth = refl;
+        seventh = refl;
         timestamp = c .moment;
         time = c .time;
       })
@@ -218,6 +233,7 @@ module _ (text : List ℕ) (good : goodText text ≡ true) (r : List ℕ) where
         fourth = refl;
         fifth = refl;
         sixth = refl;
+        seventh = refl;
         timestamp = refl;
         time = refl;
       })
@@ -235,6 +251,7 @@ module _ (text : List ℕ) (good : goodText text ≡ true) (r : List ℕ) where
         fourth = refl;
         fifth = refl;
         sixth = refl;
+        seventh = refl;
         timestamp = refl;
         time = refl;
       })
@@ -252,6 +269,7 @@ module _ (text : List ℕ) (good : goodText text ≡ true) (r : List ℕ) where
         fourth = text-cell bit.stackTrace word.stackTrace (c .stackTrace);
         fifth = refl;
         sixth = refl;
+        seventh = refl;
         timestamp = c .common .moment;
         time = c .common .time;
       })

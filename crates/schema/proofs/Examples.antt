@@ -110,6 +110,7 @@ aSuite =
       counts = sums;
       timestamp = some moment;
       time = some (record { seconds = 7; nanos = 500 });
+      hostname = some (bytes "hos");
       cases = [];
       properties = [];
       systemOut = some (bytes "out");
@@ -119,7 +120,7 @@ aSuite =
 
 suite-words
     : recordAt kind.suite 10 suite (suiteFields aSuite)
-    ≡ 2 ∷ 287 ∷ 10 ∷ 1 ∷ 11 ∷ 3 ∷ 14 ∷ 4 ∷ 2024 ∷ 2 ∷ 29 ∷ 1 ∷ 2 ∷ 3 ∷ 4 ∷ 1439 ∷ 7 ∷ 500 ∷ 1 ∷ 1 ∷ 12 ∷ 0 ∷ 13 ∷ 0 ∷ 14 ∷ 0 ∷ 15 ∷ zeros 5
+    ≡ 2 ∷ 1311 ∷ 10 ∷ 1 ∷ 11 ∷ 3 ∷ 14 ∷ 4 ∷ 2024 ∷ 2 ∷ 29 ∷ 1 ∷ 2 ∷ 3 ∷ 4 ∷ 1439 ∷ 7 ∷ 500 ∷ 1 ∷ 1 ∷ 12 ∷ 0 ∷ 13 ∷ 0 ∷ 14 ∷ 0 ∷ 15 ∷ 0 ∷ 18 ∷ 3 ∷ zeros 2
 unfolding recordAt encode
 suite-words = refl
 
@@ -173,10 +174,10 @@ pair-words = refl
 
 -- ---- the suite read back, and records that are no layout's
 abbrev words : List ℕ
-words = 2 ∷ 287 ∷ 10 ∷ 1 ∷ 11 ∷ 3 ∷ 14 ∷ 4 ∷ 2024 ∷ 2 ∷ 29 ∷ 1 ∷ 2 ∷ 3 ∷ 4 ∷ 1439 ∷ 7 ∷ 500 ∷ 1 ∷ 1 ∷ 12 ∷ 0 ∷ 13 ∷ 0 ∷ 14 ∷ 0 ∷ 15 ∷ zeros 5
+words = 2 ∷ 1311 ∷ 10 ∷ 1 ∷ 11 ∷ 3 ∷ 14 ∷ 4 ∷ 2024 ∷ 2 ∷ 29 ∷ 1 ∷ 2 ∷ 3 ∷ 4 ∷ 1439 ∷ 7 ∷ 500 ∷ 1 ∷ 1 ∷ 12 ∷ 0 ∷ 13 ∷ 0 ∷ 14 ∷ 0 ∷ 15 ∷ 0 ∷ 18 ∷ 3 ∷ zeros 2
 
 abbrev texts : List ℕ
-texts = bytes "0123456789souterro"
+texts = bytes "0123456789souterrohos"
 
 suite-shown : suiteOf (fieldsOf suite texts words) [] [] [] ≡ aSuite
 suite-shown = refl
@@ -186,22 +187,22 @@ unfolding good inRange monthLength isLeap
 suite-layout = refl
 
 -- a presence bit that no row has
-bit-outside : good suite texts (set words 1 799) ≡ false
+bit-outside : good suite texts (set words 1 1823) ≡ false
 unfolding good inRange monthLength isLeap
 bit-outside = refl
 
 -- a word that no row has
-word-outside : good suite texts (set words 28 1) ≡ false
+word-outside : good suite texts (set words 30 1) ≡ false
 unfolding good inRange monthLength isLeap
 word-outside = refl
 
 -- without its name
-no-name : good suite texts (set words 1 286) ≡ false
+no-name : good suite texts (set words 1 1310) ≡ false
 unfolding good inRange monthLength isLeap
 no-name = refl
 
 -- a text that ends behind the texts
-past-end : good suite texts (set words 7 5) ≡ false
+past-end : good suite texts (set words 29 4) ≡ false
 unfolding good inRange monthLength isLeap
 past-end = refl
 

@@ -27,7 +27,7 @@ reportOf f suites =
 abbrev pub suiteFields : TestSuite → Fields Text suite
 suiteFields s =
     let c = s .counts in
-    (s .name, (s .systemOut, (s .systemErr, (s .timestamp, (s .time, (c .tests, (c .failures, (c .errors, (c .skipped, (c .disabled, tt))))))))))
+    (s .name, (s .systemOut, (s .systemErr, (s .timestamp, (s .time, (c .tests, (c .failures, (c .errors, (c .skipped, (c .disabled, (s .hostname, tt)))))))))))
 
 abbrev pub suiteOf : Fields Text suite → List TestCase → List Pair → List Pair → TestSuite
 suiteOf f cases properties extra =
@@ -37,6 +37,7 @@ suiteOf f cases properties extra =
       counts = record { tests = c .0; failures = c .1 .0; errors = c .1 .1 .0; skipped = c .1 .1 .1 .0; disabled = c .1 .1 .1 .1 .0 };
       timestamp = f .1 .1 .1 .0;
       time = f .1 .1 .1 .1 .0;
+      hostname = c .1 .1 .1 .1 .1 .0;
       cases = cases;
       properties = properties;
       systemOut = f .1 .0;

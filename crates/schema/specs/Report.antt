@@ -70,6 +70,7 @@ pub record TestSuite : Type 0 where
   pub counts : Counts
   pub timestamp : Option Moment
   pub time : Option Duration
+  pub hostname : Option Text
   pub cases : List TestCase
   pub properties : List Pair
   pub systemOut : Option Text

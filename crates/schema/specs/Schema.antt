@@ -63,6 +63,7 @@ suite =
     ∷ row key.errors number 22 always 4
     ∷ row key.skipped number 24 always 3
     ∷ row key.disabled number 26 (may 8) 6
+    ∷ row key.hostname text 28 (may 10) 9
     ∷ []
 
 abbrev pub case : List Row

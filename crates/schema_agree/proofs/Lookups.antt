@@ -12,7 +12,7 @@ use Rattle.tree_record.specs.Kinds as kind
 use Rattle.write_items.specs.inside.Slots as code
 use Rattle.write_items.specs.inside.Values.{reportName, codesOf, keyName, offsetOf}
 use Rattle.build_draft.specs.declared.TextField.{TextField}
-use Rattle.build_draft.specs.declared.TextField.the-variants.{Classname, Message, Ty, Description, StackTrace, SystemOut, SystemErr}
+use Rattle.build_draft.specs.declared.TextField.the-variants.{Classname, Message, Ty, Description, StackTrace, SystemOut, SystemErr, Hostname}
 use Rattle.build_draft.specs.Parts.{countsIn, hasText, wordFor, bitFor, hasTimes}
 use Rattle.names.specs.Keys.{keys}
 use Rattle.schema.specs.Schema.{Row, report, suite, case, main, skipped, run, property, extra, tableOf}
@@ -29,10 +29,10 @@ report-bits = refl
 
 suite-places
     : wordsIn suite
-    ≡ word.name ∷ word.out ∷ word.err ∷ word.timestamp ∷ word.time ∷ word.tests ∷ word.failures ∷ word.errors ∷ word.skipped ∷ word.disabled ∷ []
+    ≡ word.name ∷ word.out ∷ word.err ∷ word.timestamp ∷ word.time ∷ word.tests ∷ word.failures ∷ word.errors ∷ word.skipped ∷ word.disabled ∷ word.hostname ∷ []
 suite-places = refl
 
-suite-bits : bitsBy 32 suite ≡ bit.name ∷ bit.out ∷ bit.err ∷ bit.timestamp ∷ bit.time ∷ 32 ∷ 32 ∷ 32 ∷ 32 ∷ bit.disabled ∷ []
+suite-bits : bitsBy 32 suite ≡ bit.name ∷ bit.out ∷ bit.err ∷ bit.timestamp ∷ bit.time ∷ 32 ∷ 32 ∷ 32 ∷ 32 ∷ bit.disabled ∷ bit.hostname ∷ []
 suite-bits = refl
 
 case-places : wordsIn case ≡ word.name ∷ word.out ∷ word.err ∷ word.timestamp ∷ word.time ∷ word.classname ∷ word.assertions ∷ []
@@ -79,8 +79,8 @@ tables = report ∷ suite ∷ case ∷ main ∷ skipped ∷ run ∷ property ∷
 -- the byte strings of `write_document`, `write_suite`, `write_case`, `write_status` (twice), `write_run` and `write_status`
 pub code-strings
     : map codesOf tables
-    ≡ (15 ∷ 6 ∷ 9 ∷ 7 ∷ 8 ∷ 10 ∷ 3 ∷ 4 ∷ 5 ∷ [])
-    ∷ (1 ∷ 6 ∷ 9 ∷ 8 ∷ 7 ∷ 10 ∷ 4 ∷ 5 ∷ [])
+    ≡ (16 ∷ 6 ∷ 9 ∷ 7 ∷ 8 ∷ 10 ∷ 3 ∷ 4 ∷ 5 ∷ [])
+    ∷ (1 ∷ 6 ∷ 9 ∷ 8 ∷ 7 ∷ 10 ∷ 4 ∷ 5 ∷ 15 ∷ [])
     ∷ (1 ∷ 2 ∷ 11 ∷ 4 ∷ 5 ∷ [])
     ∷ (12 ∷ 13 ∷ [])
     ∷ (12 ∷ 13 ∷ [])
@@ -106,7 +106,7 @@ unfolding offsetOf
 code-words-agree = refl
 
 -- what stands for no bit is none, and a report's name has no other key's code
-pub always-free : map (λ (xs : List Row). isAmong code.always (bitsBy 32 xs)) tables ≡ map (λ (xs : List Row). false) tables
+pub always-free : map (λ (xs : List Row). isAmong code.always (bitsBy 33 xs)) tables ≡ map (λ (xs : List Row). false) tables
 always-free = refl
 
 pub report-name-free : textIn key.table reportName ≡ []
@@ -125,6 +125,7 @@ keyFor Description = 0
 keyFor StackTrace = 0
 keyFor SystemOut = 0
 keyFor SystemErr = 0
+keyFor Hostname = key.hostname
 
 text-kinds : (f : TextField) → map (λ (n : ℕ). hasText n f) kinds ≡ map (λ (n : ℕ). hasRow (tableOf n) (keyFor f) (wordFor f) (bitFor f)) kinds
 text-kinds Classname = refl
@@ -134,6 +135,7 @@ text-kinds Description = refl
 text-kinds StackTrace = refl
 text-kinds SystemOut = refl
 text-kinds SystemErr = refl
+text-kinds Hostname = refl
 
 times-kinds
     : map hasTimes kinds

@@ -38,7 +38,7 @@ abbrev free : ℕ → List Row → ℕ
 free n [] = n
 free n (x ∷ xs) = free (behind x) xs
 
-pub free-words : map (free 2) (report ∷ suite ∷ case ∷ main ∷ skipped ∷ run ∷ property ∷ extra ∷ []) ≡ 28 ∷ 28 ∷ 22 ∷ 22 ∷ 22 ∷ 24 ∷ 6 ∷ 6 ∷ []
+pub free-words : map (free 2) (report ∷ suite ∷ case ∷ main ∷ skipped ∷ run ∷ property ∷ extra ∷ []) ≡ 28 ∷ 30 ∷ 22 ∷ 22 ∷ 22 ∷ 24 ∷ 6 ∷ 6 ∷ []
 free-words = refl
 
 -- ---- texts that are read from an element's content: the kinds of records that have one, at its word with its bit

@@ -10,7 +10,7 @@ use Rattle.tree_record.specs.Kinds as kind
 use Rattle.tree_record.specs.Words as word
 use Rattle.tree_report.specs.Report.{failure, error}
 use Rattle.tree_report.specs.Fields.{kindOf, hasBit, given, isSuite, isCase, isMain, isRun, isSuiteExtra, isSuiteProperty, isCaseExtra, isCaseProperty}
-use Rattle.tree_report.specs.Fields.{textAt, first, systemOut, systemErr, second, description, stackTrace, uuid, timestamp, time, counts, assertions}
+use Rattle.tree_report.specs.Fields.{textAt, first, systemOut, systemErr, second, description, stackTrace, hostname, uuid, timestamp, time, counts, assertions}
 use Rattle.schema.specs.Records.{isSome}
 use Rattle.tree_report.specs.ReportOf as tree
 use Rattle.schema.specs.Schema.{main}
@@ -37,6 +37,7 @@ module _ (texts : List ℕ) where
         counts = counts (b .head);
         timestamp = timestamp (b .head);
         time = time (b .head);
+        hostname = hostname texts (b .head);
         cases = map (tree.caseOf texts) (tree.branches isCase (b .below));
         properties = tree.pairsOf texts isSuiteProperty (b .below);
         systemOut = systemOut texts (b .head);

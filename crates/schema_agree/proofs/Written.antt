@@ -18,7 +18,7 @@ report-names = refl
 -- errors before failures, other than on the report
 pub suite-names
     : namesIn suite
-    ≡ bytes "name" ∷ bytes "tests" ∷ bytes "skipped" ∷ bytes "errors" ∷ bytes "failures" ∷ bytes "disabled" ∷ bytes "timestamp" ∷ bytes "time" ∷ []
+    ≡ bytes "name" ∷ bytes "tests" ∷ bytes "skipped" ∷ bytes "errors" ∷ bytes "failures" ∷ bytes "disabled" ∷ bytes "timestamp" ∷ bytes "time" ∷ bytes "hostname" ∷ []
 suite-names = refl
 
 pub case-names : namesIn case ≡ bytes "name" ∷ bytes "classname" ∷ bytes "assertions" ∷ bytes "timestamp" ∷ bytes "time" ∷ []

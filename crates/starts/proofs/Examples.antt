@@ -63,7 +63,7 @@ noCounts = record { tests = 0; failures = 0; errors = 0; skipped = 0; disabled =
 
 abbrev suiteOf : Option Moment → List TestCase → TestSuite
 suiteOf t cs =
-    record { name = []; counts = noCounts; timestamp = t; time = none; cases = cs; properties = []; systemOut = none; systemErr = none; extra = [] }
+    record { name = []; counts = noCounts; timestamp = t; time = none; hostname = none; cases = cs; properties = []; systemOut = none; systemErr = none; extra = [] }
 
 abbrev reportOf : Option Moment → List TestSuite → Report
 reportOf t ss = record { name = none; uuid = none; timestamp = t; time = none; counts = noCounts; suites = ss }

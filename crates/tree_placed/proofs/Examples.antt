@@ -28,6 +28,7 @@ suiteA = record {
   counts = noCounts;
   timestamp = none;
   time = none;
+  hostname = none;
   cases = [];
   properties = [];
   systemOut = none;
@@ -55,10 +56,10 @@ unfolding recordOf
 records-words = refl
 
 stand-b : InTexts texts placedB
-stand-b = record { first = (refl, refl); out = tt; err = tt; second = tt; third = tt; fourth = tt }
+stand-b = record { first = (refl, refl); out = tt; err = tt; second = tt; third = tt; fourth = tt; seventh = tt }
 
 stand-a : InTexts texts placedA
-stand-a = record { first = (refl, refl); out = tt; err = tt; second = tt; third = tt; fourth = tt }
+stand-a = record { first = (refl, refl); out = tt; err = tt; second = tt; third = tt; fourth = tt; seventh = tt }
 
 stand : Each (InTexts texts) records
 stand = more stand-b (more stand-a done)

@@ -74,6 +74,7 @@ in-texts-more texts v u {p} h = record {
   second = stands-more texts v u (p .places .second) (p .row .second) (h .second);
   third = stands-more texts v u (p .places .third) (p .row .third) (h .third);
   fourth = stands-more texts v u (p .places .fourth) (p .row .fourth) (h .fourth);
+  seventh = stands-more texts v u (p .places .seventh) (p .row .seventh) (h .seventh);
 }
 
 -- the texts of all records stand where they stood when UTF-8 is put behind the texts

@@ -14,7 +14,7 @@ use Rattle.tree_report.specs.inside.Cells.{isGiven, isSome, firstWord, secondWo
 use Rattle.tree_put.specs.Put.{blank, putText, putCount, putUuid, putMoment, putTime}
 use Rattle.tree_placed.specs.inside.Placed.{Placed, recordOf}
 use Rattle.tree_placed.specs.inside.Changed.{blankPlaced, withKind, withMiddle, withTimestamp, withTime, withSecond, withThird, withFourth}
-use Rattle.tree_placed.specs.inside.Changed.{withFifth, withSixth, withFlaky, onRow, firstText, outText, errText, secondText, thirdText, fourthText}
+use Rattle.tree_placed.specs.inside.Changed.{withFifth, withSixth, withFlaky, onRow, firstText, outText, errText, secondText, thirdText, fourthText, seventhText}
 use Rattle.tree_placed.proofs.Flags.{marked-flags, unmarked-flags}
 
 -- the words behind kind and presence bits
@@ -33,7 +33,8 @@ behind p =
     ∷ firstWord (p .places .fourth) (p .row .fourth) ∷ secondWord (p .row .fourth)
     ∷ firstWord 0 (p .row .fifth) ∷ secondWord (p .row .fifth)
     ∷ firstWord 0 (p .row .sixth) ∷ secondWord (p .row .sixth)
-    ∷ 0 ∷ 0 ∷ 0 ∷ 0 ∷ []
+    ∷ firstWord (p .places .seventh) (p .row .seventh) ∷ secondWord (p .row .seventh)
+    ∷ 0 ∷ 0 ∷ []
 
 -- a placed record has 32 words
 pub record-length : (p : Placed) → length (recordOf p) ≡ 32
@@ -77,6 +78,11 @@ module _ (p : Placed) where
   unfolding recordOf
   put-fourth x v = marked-flags (p .row .kind) 7 (presence (p .row)) (behind (fourthText x v p)) (lit≤ tt) (lit≤ tt)
 
+  -- the store of a text at word 28 is the row with that seventh text
+  pub put-seventh : (x : ℕ) (v : Text) → putText 28 10 x (length v) (recordOf p) ≡ recordOf (seventhText x v p)
+  unfolding recordOf
+  put-seventh x v = marked-flags (p .row .kind) 10 (presence (p .row)) (behind (seventhText x v p)) (lit≤ tt) (lit≤ tt)
+
   -- ---- a value with a presence bit
   -- a timestamp's store is the row with that timestamp
   pub put-moment : (m : Moment) → putMoment m (recordOf p) ≡ recordOf (onRow (withTimestamp (some m)) p)
@@ -106,7 +112,7 @@ module _ (p : Placed) where
       marked-flags (p .row .kind) 1 (presence (p .row)) (behind (onRow (withMiddle (uuidFront (some w)) (uuidBack (some w))) p)) (lit≤ tt) (lit≤ tt)
       ∙ ap (λ (b : Bool). p .row .kind
       ∷ flagsOf (isGiven (p .row .first) ∷ true ∷ b ∷ isSome (p .row .timestamp) ∷ isSome (p .row .time)
-      ∷ isGiven (p .row .second) ∷ isGiven (p .row .third) ∷ isGiven (p .row .fourth) ∷ isGiven (p .row .sixth) ∷ p .row .isFlaky ∷ [])
+      ∷ isGiven (p .row .second) ∷ isGiven (p .row .third) ∷ isGiven (p .row .fourth) ∷ isGiven (p .row .sixth) ∷ p .row .isFlaky ∷ isGiven (p .row .seventh) ∷ [])
       ∷ behind (onRow (withMiddle (uuidFront (some w)) (uuidBack (some w))) p)) e
 
   -- a count of tests stored is the row with that count
@@ -115,7 +121,7 @@ module _ (p : Placed) where
   put-tests n e =
       ap (λ (b : Bool). p .row .kind
       ∷ flagsOf (isGiven (p .row .first) ∷ isGiven (p .row .out) ∷ isGiven (p .row .err) ∷ isSome (p .row .timestamp) ∷ isSome (p .row .time)
-      ∷ b ∷ isGiven (p .row .third) ∷ isGiven (p .row .fourth) ∷ isGiven (p .row .sixth) ∷ p .row .isFlaky ∷ [])
+      ∷ b ∷ isGiven (p .row .third) ∷ isGiven (p .row .fourth) ∷ isGiven (p .row .sixth) ∷ p .row .isFlaky ∷ isGiven (p .row .seventh) ∷ [])
       ∷ behind (onRow (withSecond (ofCount n)) p)) e
 
   -- a count of failures stored is the row with that count
@@ -124,7 +130,7 @@ module _ (p : Placed) where
   put-failures n e =
       ap (λ (b : Bool). p .row .kind
       ∷ flagsOf (isGiven (p .row .first) ∷ isGiven (p .row .out) ∷ isGiven (p .row .err) ∷ isSome (p .row .timestamp) ∷ isSome (p .row .time)
-      ∷ isGiven (p .row .second) ∷ b ∷ isGiven (p .row .fourth) ∷ isGiven (p .row .sixth) ∷ p .row .isFlaky ∷ [])
+      ∷ isGiven (p .row .second) ∷ b ∷ isGiven (p .row .fourth) ∷ isGiven (p .row .sixth) ∷ p .row .isFlaky ∷ isGiven (p .row .seventh) ∷ [])
       ∷ behind (onRow (withThird (ofCount n)) p)) e
 
   -- a count of errors stored is the row with that count
@@ -133,7 +139,7 @@ module _ (p : Placed) where
   put-errors n e =
       ap (λ (b : Bool). p .row .kind
       ∷ flagsOf (isGiven (p .row .first) ∷ isGiven (p .row .out) ∷ isGiven (p .row .err) ∷ isSome (p .row .timestamp) ∷ isSome (p .row .time)
-      ∷ isGiven (p .row .second) ∷ isGiven (p .row .third) ∷ b ∷ isGiven (p .row .sixth) ∷ p .row .isFlaky ∷ [])
+      ∷ isGiven (p .row .second) ∷ isGiven (p .row .third) ∷ b ∷ isGiven (p .row .sixth) ∷ p .row .isFlaky ∷ isGiven (p .row .seventh) ∷ [])
       ∷ behind (onRow (withFourth (ofCount n)) p)) e
 
   -- a count of skipped tests stored is the row with that count

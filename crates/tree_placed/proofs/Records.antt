@@ -42,7 +42,8 @@ startIn q w =
     (cond (eqb w 6) (q .err)
     (cond (eqb w 18) (q .second)
     (cond (eqb w 20) (q .third)
-    (cond (eqb w 22) (q .fourth) 0)))))
+    (cond (eqb w 22) (q .fourth)
+    (cond (eqb w 28) (q .seventh) 0))))))
 
 -- ---- presence
 given-text : (v : Option Text) → isGiven (ofText v) ≡ isSome v
@@ -108,7 +109,7 @@ report-bits : (r : Report) → flagsOf (presence (reportRow r)) ≡ flagsOf (mar
 report-bits r = rw (given-text (r .name), given-uuid (r .uuid), back-hidden (r .uuid), given-number (r .counts .disabled)) refl
 
 suite-bits : (s : TestSuite) → flagsOf (presence (suiteRow s)) ≡ flagsOf (marksFrom Text 0 table.suite (named.suiteFields s))
-suite-bits s = rw (given-text (s .systemOut), given-text (s .systemErr), given-number (s .counts .disabled)) refl
+suite-bits s = rw (given-text (s .systemOut), given-text (s .systemErr), given-number (s .counts .disabled), given-text (s .hostname)) refl
 
 case-bits : (c : TestCase) → flagsOf (presence (caseRow c)) ≡ flagsOf (marksFrom Text 0 table.case (named.caseFields c))
 case-bits c = rw (given-text (c .systemOut), given-text (c .systemErr), given-text (c .classname), given-number (c .assertions)) refl
@@ -150,8 +151,18 @@ suite-placing s =
       words = λ q.
           let bits = flags-by q table.suite (named.suiteFields s) (flagsOf (presence (suiteRow s))) (suite-bits s) in
           λ i. kind.suite ∷ bits i ∷ q .first ∷ length (s .name) ∷ text-words 1 (q .out) (s .systemOut) (text-words 2 (q .err) (s .systemErr) (moment-words 3 0 (s .timestamp)
-          (time-words 4 0 (s .time) (counted (c .tests) (counted (c .failures) (counted (c .errors) (counted (c .skipped) (number-words 8 0 (c .disabled) 0 (zeros 4) i))))) i) i) i) i;
-      stand = λ texts q h. (h .first, (stands-text texts (q .out) (s .systemOut) (h .out), (stands-text texts (q .err) (s .systemErr) (h .err), (tt, (tt, (tt, (tt, (tt, (tt, (tt, tt))))))))));
+          (time-words 4 0 (s .time) (counted (c .tests) (counted (c .failures) (counted (c .errors) (counted (c .skipped)
+          (number-words 8 0 (c .disabled) 0 (text-words 10 (q .seventh) (s .hostname) (zeros 2) i) i))))) i) i) i) i;
+      stand = λ texts q h. (
+        h .first,
+        (
+          stands-text texts (q .out) (s .systemOut) (h .out),
+          (
+            stands-text texts (q .err) (s .systemErr) (h .err),
+            (tt, (tt, (tt, (tt, (tt, (tt, (tt, (stands-text texts (q .seventh) (s .hostname) (h .seventh), tt)))))))),
+          ),
+        ),
+      );
     }
 
 pub case-placing : (c : TestCase) → Placing (row.caseRow c) (caseRow c)

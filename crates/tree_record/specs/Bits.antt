@@ -49,3 +49,6 @@ disabled = 8
 -- a failure or error without runs whose kind is Flaky
 abbrev pub flaky : ℕ
 flaky = 9
+
+abbrev pub hostname : ℕ
+hostname = 10

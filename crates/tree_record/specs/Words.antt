@@ -90,6 +90,10 @@ skipped = 24
 abbrev pub disabled : ℕ
 disabled = 26
 
+-- of a suite
+abbrev pub hostname : ℕ
+hostname = 28
+
 -- of a case
 abbrev pub classname : ℕ
 classname = 18

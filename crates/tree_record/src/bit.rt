@@ -31,3 +31,5 @@ pub const DISABLED: u32 = 8;
 
 // A failure or error without runs whose kind is Flaky.
 pub const FLAKY: u32 = 9;
+
+pub const HOSTNAME: u32 = 10;

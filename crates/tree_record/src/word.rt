@@ -61,6 +61,9 @@ pub const SKIPPED: usize = 24;
 
 pub const DISABLED: usize = 26;
 
+// Of a suite.
+pub const HOSTNAME: usize = 28;
+
 // Of a case.
 pub const CLASSNAME: usize = 18;
 

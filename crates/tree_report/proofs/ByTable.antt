@@ -8,7 +8,7 @@ use lib.Dec.{eqb}
 use lib.ListN.{getD}
 use Rattle.tree_report.specs.Fields.{hasBit}
 use Rattle.tree_report.specs.Layout.{zeroAt}
-use Rattle.tree_report.specs.inside.Parts.{slot, textSlot, onlyBits, goodReport, goodSuite, goodCase, reportBits, suiteBits, caseBits, goodCommon, goodOutputs, goodCounts, goodTextAt, bitsOf}
+use Rattle.tree_report.specs.inside.Parts.{slot, textSlot, onlyBits, goodReport, goodSuite, goodCase, reportBits, suiteBits, caseBits, goodCommon, goodOutputs, goodCounts, goodHost, goodTextAt, bitsOf}
 use Rattle.schema.specs.Schema.{report, suite, case, text, time, timestamp, number, uuid, may}
 use Rattle.schema.specs.Records.{good, goodSlot, goodFrom, goodValue, valueAt, isSet, bitsIn}
 
@@ -48,14 +48,14 @@ module _ (texts r : List ℕ) where
       ∙ report-parts (eqb (getD r 1 0) (bitsOf reportBits r)) (goodSlot texts r (may 0) text 2) (goodSlot texts r (may 1) uuid 4)
       (goodSlot texts r (may 3) timestamp 8) (goodSlot texts r (may 4) time 16) (goodSlot texts r (may 8) number 26 && zeroAt r 28 4)
 
-  pub suite-good : goodSuite texts r ≡ (onlyBits suiteBits r && (hasBit 0 r && (goodCommon texts r && (goodOutputs texts r && goodCounts r))))
-  unfolding good goodSuite goodCommon goodOutputs goodCounts goodTextAt
+  pub suite-good : goodSuite texts r ≡ (onlyBits suiteBits r && (hasBit 0 r && (goodCommon texts r && (goodOutputs texts r && goodHost texts r))))
+  unfolding good goodSuite goodCommon goodOutputs goodHost goodTextAt
   suite-good =
       let e : bitsIn suite r ≡ bitsOf suiteBits r = omega arith in
       ap (λ (n : ℕ). eqb (getD r 1 0) n && goodFrom texts r 2 suite) e
       ∙ parts (eqb (getD r 1 0) (bitsOf suiteBits r)) (isSet 0 r) (goodValue texts text (valueAt text r 2)) (zeroAt r 2 2)
       (goodSlot texts r (may 1) text 4) (goodSlot texts r (may 2) text 6) (goodSlot texts r (may 3) timestamp 8) (goodSlot texts r (may 4) time 16)
-      (goodSlot texts r (may 8) number 26 && zeroAt r 28 4)
+      (goodSlot texts r (may 8) number 26 && (goodSlot texts r (may 10) text 28 && zeroAt r 30 2))
 
   pub case-good : goodCase texts r
       ≡ (onlyBits caseBits r && (hasBit 0 r && (goodCommon texts r && (goodOutputs texts r && (textSlot texts r 5 18 && (slot (hasBit 6 r) true (zeroAt r 20 2) && zeroAt r 22 10))))))

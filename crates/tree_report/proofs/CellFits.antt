@@ -97,11 +97,11 @@ module _ (s : TestSuite) where
   suite-fits =
       (λ i. (soundValue text (s .name) && (fits-text 1 (s .systemOut) i && (fits-text 2 (s .systemErr) i
       && (fits-count (s .counts .tests) i && (fits-count (s .counts .failures) i && (fits-count (s .counts .errors) i
-      && (fits-count (s .counts .skipped) i && (fits-number 8 (s .counts .disabled) i && true))))))))
+      && (fits-count (s .counts .skipped) i && (fits-number 8 (s .counts .disabled) i && (fits-text 10 (s .hostname) i && true)))))))))
       && (fits-moment 3 (s .timestamp) i && fits-time 4 (s .time) i))
       ∙ moved (soundValue text (s .name)) (soundSlot (may 1) text (s .systemOut)) (soundSlot (may 2) text (s .systemErr))
       (soundValue number (s .counts .tests) && (soundValue number (s .counts .failures) && (soundValue number (s .counts .errors)
-      && (soundValue number (s .counts .skipped) && (soundSlot (may 8) number (s .counts .disabled) && true)))))
+      && (soundValue number (s .counts .skipped) && (soundSlot (may 8) number (s .counts .disabled) && (soundSlot (may 10) text (s .hostname) && true))))))
       (soundSlot (may 3) timestamp (s .timestamp)) (soundSlot (may 4) time (s .time))
 
 module _ (r : Report) where

@@ -46,6 +46,7 @@ flakyFailure = record {
     counts = record { tests = 18446744073709551615; failures = 1; errors = 0; skipped = 0; disabled = some 0 };
     timestamp = none;
     time = none;
+    hostname = none;
     cases = record {
       name = 0x63 ∷ [];
       classname = none;

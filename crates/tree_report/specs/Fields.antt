@@ -60,6 +60,9 @@ description text r = given (hasBit bit.description r) (textAt text r word.descri
 abbrev pub stackTrace : List ℕ → List ℕ → Option Text
 stackTrace text r = given (hasBit bit.stackTrace r) (textAt text r word.stackTrace)
 
+abbrev pub hostname : List ℕ → List ℕ → Option Text
+hostname text r = given (hasBit bit.hostname r) (textAt text r word.hostname)
+
 -- A UUID is four words, its first bytes first
 abbrev pub uuid : List ℕ → Option Words
 uuid r =

@@ -78,8 +78,8 @@ module _ (r : List ℕ) where
   pub report-bits : eqb (getD r 1 0) (getD r 1 0 % 4 + getD r 1 0 / 8 % 4 * 8 + getD r 1 0 / 256 % 2 * 256) ≡ onlyBits reportBits r
   report-bits = ap (eqb (getD r 1 0)) (omega (arith, bits-run 0 2 (omega arith), bits-run 3 2 (omega arith), bits-run 8 1 (omega arith)))
 
-  pub suite-bits : eqb (getD r 1 0) (getD r 1 0 % 32 + getD r 1 0 / 256 % 2 * 256) ≡ onlyBits suiteBits r
-  suite-bits = ap (eqb (getD r 1 0)) (omega (arith, bits-run 0 5 (omega arith), bits-run 8 1 (omega arith)))
+  pub suite-bits : eqb (getD r 1 0) (getD r 1 0 % 32 + getD r 1 0 / 256 % 2 * 256 + getD r 1 0 / 1024 % 2 * 1024) ≡ onlyBits suiteBits r
+  suite-bits = ap (eqb (getD r 1 0)) (omega (arith, bits-run 0 5 (omega arith), bits-run 8 1 (omega arith), bits-run 10 1 (omega arith)))
 
   -- a failure or error; skipped
   pub main-bits : eqb (getD r 1 0) (getD r 1 0 % 2 + getD r 1 0 / 32 % 4 * 32 + getD r 1 0 / 512 % 2 * 512) ≡ onlyBits mainBits r

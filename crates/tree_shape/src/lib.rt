@@ -13,7 +13,7 @@ ghost use Prim.Native.Nat.{_≤_};
 ghost use lib.ListN.{length};
 ghost use Rattle.tree_report.specs.Fields.{kindOf};
 ghost use Rattle.tree_report.specs.Layout.{goodRecord};
-ghost use Rattle.tree_report.specs.inside.Parts.{onlyBits, bitsFor, goodCommon, goodOutputs, goodCounts, goodReport, goodSuite, goodCase, goodOther};
+ghost use Rattle.tree_report.specs.inside.Parts.{onlyBits, bitsFor, goodCommon, goodOutputs, goodCounts, goodHost, goodReport, goodSuite, goodCase, goodOther};
 ghost use Rattle.tree_shape.specs.inside.Records.{isRecord};
 
 fn good_common(texts: &[u8], r: &[u32]) -> bool
@@ -37,6 +37,15 @@ fn good_counts(r: &[u32]) -> bool
     free_slot(r, bit::DISABLED, word::DISABLED, 2) & is_zero(&r[28..32])
 }
 
+// What stands behind a suite's counts, and their last.
+fn good_host(texts: &[u8], r: &[u32]) -> bool
+    requires { ⌜ 32 ≤ length (now r) ⌝ }
+    ensures { λ b. ⌜ b ≡ goodHost (now (texts .entry)) (now (r .entry)) ⌝ }
+{
+    free_slot(r, bit::DISABLED, word::DISABLED, 2)
+        & (text_slot(texts, r, bit::HOSTNAME, word::HOSTNAME) & is_zero(&r[30..32]))
+}
+
 fn good_report(texts: &[u8], r: &[u32]) -> bool
     requires { ⌜ 32 ≤ length (now r) ⌝ }
     ensures { λ b. ⌜ b ≡ goodReport (now (texts .entry)) (now (r .entry)) ⌝ }
@@ -52,11 +61,11 @@ fn good_suite(texts: &[u8], r: &[u32]) -> bool
     ensures { λ b. ⌜ b ≡ goodSuite (now (texts .entry)) (now (r .entry)) ⌝ }
 {
     let bits = r[word::BITS];
-    // From name to time, disabled.
-    let only = bits == bits % 32 + bits / 256 % 2 * 256;
+    // From name to time, disabled, hostname.
+    let only = bits == bits % 32 + bits / 256 % 2 * 256 + bits / 1024 % 2 * 1024;
     only
         & (has_bit(r, bit::NAME)
-            & (good_common(texts, r) & (good_outputs(texts, r) & good_counts(r))))
+            & (good_common(texts, r) & (good_outputs(texts, r) & good_host(texts, r))))
 }
 
 fn good_case(texts: &[u8], r: &[u32]) -> bool

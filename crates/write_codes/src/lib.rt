@@ -10,10 +10,10 @@ ghost use Rattle.write_items.specs.inside.Values.{offsetOf};
 ghost use Rattle.write_items.specs.inside.Slots.{bitOf};
 
 // No presence bit: the value is always there.
-pub const ALWAYS: u32 = 10;
+pub const ALWAYS: u32 = 32;
 
 // The code of a report's name, which may be missing.
-const REPORT_NAME: usize = 15;
+const REPORT_NAME: usize = 16;
 
 // Where the value under a key stands in a record.
 pub fn offset_of_key(code: u8) -> usize
@@ -35,6 +35,9 @@ pub fn offset_of_key(code: u8) -> usize
     }
     if c == key::DISABLED {
         return word::DISABLED;
+    }
+    if c == key::HOSTNAME {
+        return word::HOSTNAME;
     }
     if c == key::VALUE {
         word::VALUE
@@ -65,6 +68,9 @@ pub fn bit_of(code: u8) -> u32
     }
     if c == key::ASSERTIONS {
         return bit::ASSERTIONS;
+    }
+    if c == key::HOSTNAME {
+        return bit::HOSTNAME;
     }
     if c == key::DISABLED {
         bit::DISABLED

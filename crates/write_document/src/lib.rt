@@ -43,7 +43,7 @@ fn put_head(
         r,
         START,
         tag::TESTSUITES as u8,
-        b"\x0f\x06\x09\x07\x08\x0a\x03\x04\x05",
+        b"\x10\x06\x09\x07\x08\x0a\x03\x04\x05",
         0,
     )
 }

@@ -12,7 +12,7 @@ use Rattle.uuid.specs.declared.Words.{Words}
 use Rattle.table.specs.Event.{Attribute}
 use Rattle.tree_record.specs.Bits as bit
 use Rattle.tree_record.specs.Words as word
-use Rattle.tree_report.specs.Fields.{given, hasBit, textAt, numberAt, momentOf, first, second, uuid, timestamp, time, counts, assertions}
+use Rattle.tree_report.specs.Fields.{given, hasBit, textAt, numberAt, momentOf, first, second, hostname, uuid, timestamp, time, counts, assertions}
 use Rattle.write_moment.specs.Written.{timestampText}
 use Rattle.write_uuid.specs.Written.{uuidText}
 use Rattle.write_report.specs.Written.{attribute, textual, numeric, optional, stamped, timed}
@@ -59,6 +59,10 @@ module _ (text r : List ℕ) (tail : List Attribute) (cs : List ℕ) {rest : Lis
   classname-slot : slots text r (key.classname ∷ cs) ++ tail ≡ optional (textual (bytes "classname")) (second text r) ++ rest
   unfolding isPresent bitOf keyName keys valueOf offsetOf
   classname-slot = may-miss (textual (bytes "classname")) (textAt text r word.classname) (slotOf text r key.classname) (slots text r cs) tail rest h (hasBit bit.classname r) refl
+
+  hostname-slot : slots text r (key.hostname ∷ cs) ++ tail ≡ optional (textual (bytes "hostname")) (hostname text r) ++ rest
+  unfolding isPresent bitOf keyName keys valueOf offsetOf
+  hostname-slot = may-miss (textual (bytes "hostname")) (textAt text r word.hostname) (slotOf text r key.hostname) (slots text r cs) tail rest h (hasBit bit.hostname r) refl
 
   assertions-slot : slots text r (key.assertions ∷ cs) ++ tail ≡ optional (numeric (bytes "assertions")) (assertions r) ++ rest
   unfolding isPresent bitOf keyName keys valueOf offsetOf
@@ -113,14 +117,16 @@ module _ (text r : List ℕ) (tail : List Attribute) where
       ++ (numeric (bytes "failures") (counts r .failures)
       ++ (optional (numeric (bytes "disabled")) (counts r .disabled)
       ++ (stamped (timestamp r)
-      ++ (timed (time r) ++ tail)))))))
+      ++ (timed (time r)
+      ++ (optional (textual (bytes "hostname")) (hostname text r) ++ tail))))))))
   suite-slots =
-      name-slot text r tail (key.tests ∷ key.skipped ∷ key.errors ∷ key.failures ∷ key.disabled ∷ key.timestamp ∷ key.time ∷ [])
-      (tests-slot text r tail (key.skipped ∷ key.errors ∷ key.failures ∷ key.disabled ∷ key.timestamp ∷ key.time ∷ [])
-      (skipped-slot text r tail (key.errors ∷ key.failures ∷ key.disabled ∷ key.timestamp ∷ key.time ∷ [])
-      (errors-slot text r tail (key.failures ∷ key.disabled ∷ key.timestamp ∷ key.time ∷ [])
-      (failures-slot text r tail (key.disabled ∷ key.timestamp ∷ key.time ∷ [])
-      (disabled-slot text r tail (key.timestamp ∷ key.time ∷ []) moment-last)))))
+      name-slot text r tail (key.tests ∷ key.skipped ∷ key.errors ∷ key.failures ∷ key.disabled ∷ key.timestamp ∷ key.time ∷ key.hostname ∷ [])
+      (tests-slot text r tail (key.skipped ∷ key.errors ∷ key.failures ∷ key.disabled ∷ key.timestamp ∷ key.time ∷ key.hostname ∷ [])
+      (skipped-slot text r tail (key.errors ∷ key.failures ∷ key.disabled ∷ key.timestamp ∷ key.time ∷ key.hostname ∷ [])
+      (errors-slot text r tail (key.failures ∷ key.disabled ∷ key.timestamp ∷ key.time ∷ key.hostname ∷ [])
+      (failures-slot text r tail (key.disabled ∷ key.timestamp ∷ key.time ∷ key.hostname ∷ [])
+      (disabled-slot text r tail (key.timestamp ∷ key.time ∷ key.hostname ∷ [])
+      (timestamp-slot text r tail (key.time ∷ key.hostname ∷ []) (time-slot text r tail (key.hostname ∷ []) (hostname-slot text r tail [] refl))))))))
 
 module _ (text r : List ℕ) where
   pub report-slots : slots text r reportCodes

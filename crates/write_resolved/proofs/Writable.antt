@@ -89,7 +89,8 @@ marked-suite s =
     (each-append (marked-numeric (bytes "failures") (s .counts .failures))
     (each-append (marked-number (bytes "disabled") (s .counts .disabled))
     (each-append (marked-stamp (s .timestamp))
-    (each-append (marked-time (s .time)) (marked-extra (s .extra)))))))))
+    (each-append (marked-time (s .time))
+    (each-append (marked-text (bytes "hostname") (s .hostname)) (marked-extra (s .extra))))))))))
 
 marked-report : (r : Report) → Each Marked (reportAttributes r)
 marked-report r =

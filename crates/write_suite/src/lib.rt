@@ -66,7 +66,7 @@ fn is_childless(r: &[u32], words: &[u32]) -> bool
     (property == 0) & (case == 0)
 }
 
-// A suite's tag with name, tests, skipped, errors, failures, disabled, timestamp and time, and its extras (rule W2).
+// A suite's tag with name, tests, skipped, errors, failures, disabled, timestamp, time and hostname, and its extras (rule W2).
 fn put_opening(
     events: &mut [u32],
     attributes: &mut [u32],
@@ -90,7 +90,7 @@ fn put_opening(
         r,
         opens,
         tag::TESTSUITE as u8,
-        b"\x01\x06\x09\x08\x07\x0a\x04\x05",
+        b"\x01\x06\x09\x08\x07\x0a\x04\x05\x0f",
         extras,
     );
     put_rows(

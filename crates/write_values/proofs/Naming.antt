@@ -44,10 +44,10 @@ pub tag-cut : (c : ℕ)
 tag-cut c = rw (add-one c) (tag-at c)
 
 abbrev key-starts : List ℕ
-key-starts = 0 ∷ 0 ∷ 4 ∷ 13 ∷ 17 ∷ 26 ∷ 30 ∷ 35 ∷ 43 ∷ 49 ∷ 56 ∷ 64 ∷ 74 ∷ 81 ∷ 85 ∷ 90 ∷ 94 ∷ []
+key-starts = 0 ∷ 0 ∷ 4 ∷ 13 ∷ 17 ∷ 26 ∷ 30 ∷ 35 ∷ 43 ∷ 49 ∷ 56 ∷ 64 ∷ 74 ∷ 81 ∷ 85 ∷ 90 ∷ 98 ∷ 102 ∷ []
 
 key-at : (c : ℕ) → take (getD key-starts (suc c) 0 - getD key-starts c 0)
-    (drop (getD key-starts c 0) (bytes "nameclassnameuuidtimestamptimetestsfailureserrorsskippeddisabledassertionsmessagetypevaluename")) ≡ keyName c
+    (drop (getD key-starts c 0) (bytes "nameclassnameuuidtimestamptimetestsfailureserrorsskippeddisabledassertionsmessagetypevaluehostnamename")) ≡ keyName c
 unfolding keyName keys
 key-at zero = refl
 key-at (suc zero) = refl
@@ -66,19 +66,20 @@ key-at (suc (suc (suc (suc (suc (suc (suc (suc (suc (suc (suc (suc (suc zero))))
 key-at (suc (suc (suc (suc (suc (suc (suc (suc (suc (suc (suc (suc (suc (suc zero)))))))))))))) = refl
 key-at (suc (suc (suc (suc (suc (suc (suc (suc (suc (suc (suc (suc (suc (suc (suc zero))))))))))))))) = refl
 key-at (suc (suc (suc (suc (suc (suc (suc (suc (suc (suc (suc (suc (suc (suc (suc (suc zero)))))))))))))))) = refl
-key-at (suc (suc (suc (suc (suc (suc (suc (suc (suc (suc (suc (suc (suc (suc (suc (suc (suc n))))))))))))))))) = refl
+key-at (suc (suc (suc (suc (suc (suc (suc (suc (suc (suc (suc (suc (suc (suc (suc (suc (suc zero))))))))))))))))) = refl
+key-at (suc (suc (suc (suc (suc (suc (suc (suc (suc (suc (suc (suc (suc (suc (suc (suc (suc (suc n)))))))))))))))))) = refl
 
-pub key-cut : (c : ℕ) → cutAt (bytes "nameclassnameuuidtimestamptimetestsfailureserrorsskippeddisabledassertionsmessagetypevaluename") key-starts c ≡ keyName c
+pub key-cut : (c : ℕ) → cutAt (bytes "nameclassnameuuidtimestamptimetestsfailureserrorsskippeddisabledassertionsmessagetypevaluehostnamename") key-starts c ≡ keyName c
 key-cut c = rw (add-one c) (key-at c)
 
 -- ---- keys with what stands around them
 abbrev pub key-text-starts : List ℕ
-key-text-starts = 0 ∷ 3 ∷ 10 ∷ 22 ∷ 29 ∷ 41 ∷ 48 ∷ 56 ∷ 67 ∷ 76 ∷ 86 ∷ 97 ∷ 110 ∷ 120 ∷ 127 ∷ 135 ∷ 142 ∷ []
+key-text-starts = 0 ∷ 3 ∷ 10 ∷ 22 ∷ 29 ∷ 41 ∷ 48 ∷ 56 ∷ 67 ∷ 76 ∷ 86 ∷ 97 ∷ 110 ∷ 120 ∷ 127 ∷ 135 ∷ 146 ∷ 153 ∷ []
 
 abbrev pub key-texts : List ℕ
-key-texts = bytes " =\" name=\" classname=\" uuid=\" timestamp=\" time=\" tests=\" failures=\" errors=\" skipped=\" disabled=\" assertions=\" message=\" type=\" value=\" name=\""
+key-texts = bytes " =\" name=\" classname=\" uuid=\" timestamp=\" time=\" tests=\" failures=\" errors=\" skipped=\" disabled=\" assertions=\" message=\" type=\" value=\" hostname=\" name=\""
 
-pub key-text-cut : (c : ℕ) → cutAt key-texts key-text-starts (cond (ltb c 16) c 0) ≡ keyText (keyName c)
+pub key-text-cut : (c : ℕ) → cutAt key-texts key-text-starts (cond (ltb c 17) c 0) ≡ keyText (keyName c)
 unfolding keyName keys
 key-text-cut zero = refl
 key-text-cut (suc zero) = refl
@@ -96,5 +97,6 @@ key-text-cut (suc (suc (suc (suc (suc (suc (suc (suc (suc (suc (suc (suc zero)))
 key-text-cut (suc (suc (suc (suc (suc (suc (suc (suc (suc (suc (suc (suc (suc zero))))))))))))) = refl
 key-text-cut (suc (suc (suc (suc (suc (suc (suc (suc (suc (suc (suc (suc (suc (suc zero)))))))))))))) = refl
 key-text-cut (suc (suc (suc (suc (suc (suc (suc (suc (suc (suc (suc (suc (suc (suc (suc zero))))))))))))))) = refl
-key-text-cut (suc (suc (suc (suc (suc (suc (suc (suc (suc (suc (suc (suc (suc (suc (suc (suc n)))))))))))))))) =
-    rw (le-ltb (suc (suc (suc (suc (suc (suc (suc (suc (suc (suc (suc (suc (suc (suc (suc (suc n)))))))))))))))) 16 (omega arith)) refl
+key-text-cut (suc (suc (suc (suc (suc (suc (suc (suc (suc (suc (suc (suc (suc (suc (suc (suc zero)))))))))))))))) = refl
+key-text-cut (suc (suc (suc (suc (suc (suc (suc (suc (suc (suc (suc (suc (suc (suc (suc (suc (suc n))))))))))))))))) =
+    rw (le-ltb (suc (suc (suc (suc (suc (suc (suc (suc (suc (suc (suc (suc (suc (suc (suc (suc (suc n))))))))))))))))) 17 (omega arith)) refl

@@ -87,8 +87,8 @@ fn put_any_key(bytes: &mut [u8], k: Stored, code: u8) -> Stored
     put_named(
         bytes,
         k,
-        b"nameclassnameuuidtimestamptimetestsfailureserrorsskippeddisabledassertionsmessagetypevaluename",
-        b"\x00\x00\x04\x0d\x11\x1a\x1e\x23\x2b\x31\x38\x40\x4a\x51\x55\x5a\x5e",
+        b"nameclassnameuuidtimestamptimetestsfailureserrorsskippeddisabledassertionsmessagetypevaluehostnamename",
+        b"\x00\x00\x04\x0d\x11\x1a\x1e\x23\x2b\x31\x38\x40\x4a\x51\x55\x5a\x62\x66",
         code,
     )
 }
@@ -109,9 +109,9 @@ fn put_key_name(bytes: &mut [u8], k: Stored, code: u8) -> Stored
 }
 
 fn known(code: u8) -> u8
-    ensures { λ r. ⌜ r ≡ cond (ltb code 16) code 0 ⌝ }
+    ensures { λ r. ⌜ r ≡ cond (ltb code 17) code 0 ⌝ }
 {
-    if code < 16 { code } else { 0 }
+    if code < 17 { code } else { 0 }
 }
 
 // A key with what stands around it in the XML form, ready made; no key has the code 0.
@@ -121,8 +121,8 @@ fn put_key_text(bytes: &mut [u8], k: Stored, code: u8) -> Stored
     put_named(
         bytes,
         k,
-        b" =\" name=\" classname=\" uuid=\" timestamp=\" time=\" tests=\" failures=\" errors=\" skipped=\" disabled=\" assertions=\" message=\" type=\" value=\" name=\"",
-        b"\x00\x03\x0a\x16\x1d\x29\x30\x38\x43\x4c\x56\x61\x6e\x78\x7f\x87\x8e",
+        b" =\" name=\" classname=\" uuid=\" timestamp=\" time=\" tests=\" failures=\" errors=\" skipped=\" disabled=\" assertions=\" message=\" type=\" value=\" hostname=\" name=\"",
+        b"\x00\x03\x0a\x16\x1d\x29\x30\x38\x43\x4c\x56\x61\x6e\x78\x7f\x87\x92\x99",
         known(code),
     )
 }

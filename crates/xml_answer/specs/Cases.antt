@@ -23,7 +23,7 @@ reportOf name n suites = record { name = name; uuid = none; timestamp = none; ti
 
 abbrev suiteOf : Text → ℕ → List TestCase → List Pair → List Pair → Option Text → Option Text → TestSuite
 suiteOf name n cases extra properties out err =
-    record { name = name; counts = counts n; timestamp = none; time = none; cases = cases; properties = properties; systemOut = out; systemErr = err; extra = extra }
+    record { name = name; counts = counts n; timestamp = none; time = none; hostname = none; cases = cases; properties = properties; systemOut = out; systemErr = err; extra = extra }
 
 abbrev plainSuite : Text → ℕ → List TestCase → TestSuite
 plainSuite name n cases = suiteOf name n cases [] [] none none

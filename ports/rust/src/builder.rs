@@ -27,6 +27,7 @@ mod field {
     pub const STACK_TRACE: u32 = 4;
     pub const SYSTEM_OUT: u32 = 5;
     pub const SYSTEM_ERR: u32 = 6;
+    pub const HOSTNAME: u32 = 7;
 }
 
 mod number {
@@ -58,7 +59,7 @@ mod number {
 /// report.set_time(Duration::from_millis(1500))?;
 ///
 /// let mut suite = report.add_test_suite("lab")?;
-/// suite.add_extra("hostname", "bench-7")?;
+/// suite.set_hostname("bench-7")?;
 /// suite.add_test_case("a", Outcome::Success)?.set_classname("typing")?.set_time(Duration::from_millis(500))?;
 /// let mut case = suite.add_test_case("b", Outcome::Failure)?;
 /// case.set_message("not equal")?;
@@ -194,6 +195,12 @@ impl<'a> SuiteBuilder<'_, 'a> {
         Ok(self)
     }
 
+    /// The machine that the suite ran on.
+    pub fn set_hostname(&mut self, hostname: &str) -> Result<&mut Self, Refusal> {
+        self.report.put_text(element::SUITE, field::HOSTNAME, hostname)?;
+        Ok(self)
+    }
+
     /// The number of tests disabled by design.
     pub fn set_disabled(&mut self, n: u64) -> Result<&mut Self, Refusal> {
         self.report.put_number(number::DISABLED, n)?;
@@ -224,7 +231,8 @@ impl<'a> SuiteBuilder<'_, 'a> {
         Ok(self)
     }
 
-    /// Another attribute, such as `hostname`; one with the same key gets the new value. Before properties and cases.
+    /// Another attribute, such as `package`; one with the same key gets the new value. Before properties and cases. With the key of a
+    /// field, such as `hostname`, it is written beside it, and reading refuses what then has a key twice.
     pub fn add_extra(&mut self, key: &str, value: &str) -> Result<&mut Self, Refusal> {
         self.report.put_extra(holder::SUITE, key, value)?;
         Ok(self)

@@ -163,7 +163,7 @@ pub enum PathElement {
     Attribute(&'static str),
 }
 
-const ATTRIBUTES: [&str; 16] = [
+const ATTRIBUTES: [&str; 17] = [
     "?",
     "name",
     "classname",
@@ -180,6 +180,7 @@ const ATTRIBUTES: [&str; 16] = [
     "type",
     "value",
     "stackTrace",
+    "hostname",
 ];
 
 fn place(n: u32) -> Option<u32> {

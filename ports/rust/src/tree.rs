@@ -115,7 +115,7 @@ impl<'a> Store<'a> {
 /// let tree = read(&table.table(), &mut areas)?;
 ///
 /// for suite in tree.suites() {
-///     println!("{}: {:?}", suite.name(), suite.extras().collect::<Vec<_>>());
+///     println!("{}: {:?}", suite.name(), suite.hostname());
 ///     for case in suite.cases() {
 ///         match case.status() {
 ///             Status::Success { flaky_runs } => println!("{} passed, {} flaky runs", case.name(), flaky_runs.count()),
@@ -321,6 +321,11 @@ impl<'a> Suite<'a> {
         self.record.time()
     }
 
+    /// The machine that the suite ran on.
+    pub fn hostname(&self) -> Option<&'a str> {
+        self.record.text(10, 28)
+    }
+
     /// What was written to standard output.
     pub fn system_out(&self) -> Option<&'a str> {
         self.record.text(1, 4)
@@ -341,7 +346,7 @@ impl<'a> Suite<'a> {
         Properties { store: self.store, next: self.at + 1, kind: kind::SUITE_PROPERTY, ends: ends_suite }
     }
 
-    /// Attributes that aren't the suite's own, such as `hostname`.
+    /// Attributes that aren't the suite's own, such as `package`.
     pub fn extras(&self) -> Extras<'a> {
         Extras(Properties { store: self.store, next: self.at + 1, kind: kind::SUITE_EXTRA, ends: |k| k != kind::SUITE_EXTRA })
     }

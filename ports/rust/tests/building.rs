@@ -17,10 +17,11 @@ fn build(areas: &mut Areas) -> Result<(Tree<'_>, usize, usize), Refusal> {
     report.set_timestamp(moment(8))?.set_time(Duration::from_micros(3_062_500))?;
 
     let mut suite = report.add_test_suite("lab <1>")?;
-    suite.add_extra("hostname", "old")?.add_extra("package", "p & q")?.add_extra("hostname", "bench\x01-7")?;
+    suite.add_extra("location", "old")?.add_extra("package", "p & q")?.add_extra("location", "bench\x01-7")?;
     suite.add_property("env", "ci")?.add_property("os", "")?;
     suite.set_timestamp(moment(9))?.set_time(Duration::from_micros(2_062_500))?.set_disabled(1_000_000_000)?;
     suite.set_system_out_lossy(b"out \xff\xc3\xa9 \xe2\x82")?.set_system_err("the suite's err")?;
+    suite.set_hostname("old")?.set_hostname("lab\x01-3")?;
 
     let mut case = suite.add_test_case("success-case", Outcome::Success)?;
     case.set_classname("old")?.set_classname("tissue.typing")?.set_assertions(5_000_000_000)?;
@@ -137,7 +138,8 @@ fn a_built_report_tells_its_fields() {
     assert_eq!(tree.time(), Some(Duration::from_micros(3_062_500)));
     assert_eq!(tree.counts(), Counts { tests: 6, failures: 1, errors: 2, skipped: 1, disabled: Some(3_000_000_000) });
     let suite = tree.suites().next().unwrap();
-    assert_eq!(suite.extras().collect::<Vec<_>>(), [("hostname", "bench-7"), ("package", "p & q")]);
+    assert_eq!(suite.extras().collect::<Vec<_>>(), [("location", "bench-7"), ("package", "p & q")]);
+    assert_eq!(suite.hostname(), Some("lab-3"));
     assert_eq!(suite.properties().collect::<Vec<_>>(), [Property { name: "env", value: "ci" }, Property { name: "os", value: "" }]);
     assert_eq!(suite.system_out(), Some("out \u{fffd}\u{e9} \u{fffd}"));
     let cases: Vec<_> = suite.cases().collect();

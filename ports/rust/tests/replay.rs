@@ -125,7 +125,7 @@ fn what_is_written_lists_the_same() {
         assert_eq!(public_listing(&table.as_table(), &mut areas), list(&back).unwrap());
         again += 1;
     }
-    assert_eq!(again, 165);
+    assert_eq!(again, 173);
 }
 
 #[test]

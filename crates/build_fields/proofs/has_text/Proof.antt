@@ -42,6 +42,9 @@ enum-told-7 c = search needs
 has-outputs-requires-2 : tie.Need-has-outputs-requires-2
 has-outputs-requires-2 c κs = search needs
 
+enum-told-8 : tie.Need-enum-told-8
+enum-told-8 c = search needs
+
 returns : tie.Need-returns
 returns c = rw (c .enum-told .given .1) refl
 
@@ -63,6 +66,9 @@ returns-6 c = rw (c .before .enum-told6 .given .1) (c .has-outputs .ensures)
 returns-7 : tie.Need-returns-7
 returns-7 c = rw (c .before .enum-told7 .given .1) (c .has-outputs2 .ensures)
 
+returns-8 : tie.Need-returns-8
+returns-8 c = rw (c .enum-told8 .given .1) refl
+
 pub has-text-spec : {M : Type 1} → statement M
 has-text-spec =
     tie.close
@@ -80,10 +86,12 @@ has-text-spec =
     has-outputs-requires
     enum-told-7
     has-outputs-requires-2
+    enum-told-8
     returns
     returns-2
     returns-3
     returns-4
     returns-5
     returns-6
-    returns-7)
+    returns-7
+    returns-8)

@@ -38,19 +38,24 @@ returns-8 c = simp (c .match .keys8)
 
 returns-9 : tie.Need-returns-9
 unfolding suiteRole roleIn
-returns-9 c =
+returns-9 c = simp (c .match .keys9)
+
+returns-10 : tie.Need-returns-10
+unfolding suiteRole roleIn
+returns-10 c =
     let k = c .before .args .key in
     let n = c .match .rest in
     simp (
-      ne-eqb k key.name (n .0 .0 .0 .0 .0 .0 .0 .1),
-      ne-eqb k key.timestamp (n .0 .0 .0 .0 .0 .0 .1),
-      ne-eqb k key.time (n .0 .0 .0 .0 .0 .1),
-      ne-eqb k key.tests (n .0 .0 .0 .0 .1),
-      ne-eqb k key.failures (n .0 .0 .0 .1),
-      ne-eqb k key.errors (n .0 .0 .1),
-      ne-eqb k key.skipped (n .0 .1),
-      ne-eqb k key.disabled (n .1),
+      ne-eqb k key.name (n .0 .0 .0 .0 .0 .0 .0 .0 .1),
+      ne-eqb k key.timestamp (n .0 .0 .0 .0 .0 .0 .0 .1),
+      ne-eqb k key.time (n .0 .0 .0 .0 .0 .0 .1),
+      ne-eqb k key.tests (n .0 .0 .0 .0 .0 .1),
+      ne-eqb k key.failures (n .0 .0 .0 .0 .1),
+      ne-eqb k key.errors (n .0 .0 .0 .1),
+      ne-eqb k key.skipped (n .0 .0 .1),
+      ne-eqb k key.disabled (n .0 .1),
+      ne-eqb k key.hostname (n .1),
     )
 
 pub suite-role-spec : {M : Type 1} → statement M
-suite-role-spec = tie.close (tie.spec returns returns-2 returns-3 returns-4 returns-5 returns-6 returns-7 returns-8 returns-9)
+suite-role-spec = tie.close (tie.spec returns returns-2 returns-3 returns-4 returns-5 returns-6 returns-7 returns-8 returns-9 returns-10)

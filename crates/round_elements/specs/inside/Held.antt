@@ -8,7 +8,7 @@ use Rattle.tree_record.specs.Words as word
 use Rattle.tree_record.specs.Bits as bit
 use Rattle.tree_record.specs.Kinds as kind
 use Rattle.tree_report.specs.Report.{Text, FlakyOrRerun, TestRerun, Reason, TestCase, TestSuite}
-use Rattle.tree_report.specs.Fields.{hasBit, textAt, first, systemOut, systemErr, second, description, stackTrace, timestamp, time, counts, assertions}
+use Rattle.tree_report.specs.Fields.{hasBit, textAt, first, systemOut, systemErr, second, description, stackTrace, hostname, timestamp, time, counts, assertions}
 use Rattle.tree_report.specs.Encode.{kindOfRun}
 use Rattle.round_elements.specs.inside.Opened.{Lasting, Blank}
 
@@ -19,6 +19,7 @@ pub record SuiteHeld (s : TestSuite) (o e : Option Text) (texts r : List ℕ) : 
   pub counts : counts r ≡ s .counts
   pub timestamp : timestamp r ≡ s .timestamp
   pub time : time r ≡ s .time
+  pub hostname : Lasting texts (λ t. hostname t r) (s .hostname)
   pub out : Lasting texts (λ t. systemOut t r) o
   pub err : Lasting texts (λ t. systemErr t r) e
 

@@ -10,7 +10,7 @@ use Rattle.tree_record.specs.Bits as bit
 use Rattle.tree_record.specs.Kinds as kind
 use Rattle.tree_report.specs.Report.{Pair, FlakyOrRerun, TestRerun, Reason, TestCase, TestSuite, Report}
 use Rattle.tree_report.specs.Encode.{kindOfRun}
-use Rattle.tree_report.specs.Fields.{kindOf, hasBit, textAt, first, second, uuid, timestamp, time, counts, assertions}
+use Rattle.tree_report.specs.Fields.{kindOf, hasBit, textAt, first, second, hostname, uuid, timestamp, time, counts, assertions}
 use Rattle.tree_report.specs.ReportOf.{pairOf}
 use Rattle.read_element.specs.Attributes.{Grown, extraKind}
 
@@ -47,6 +47,7 @@ pub record SuiteShown (texts r : List ℕ) (s : TestSuite) : Type 0 where
   pub counts : counts r ≡ s .counts
   pub timestamp : timestamp r ≡ s .timestamp
   pub time : time r ≡ s .time
+  pub hostname : Lasting texts (λ t. hostname t r) (s .hostname)
   pub out : hasBit bit.out r ≡ false
   pub err : hasBit bit.err r ≡ false
 

@@ -9,7 +9,7 @@ use Rattle.tree_placed.specs.inside.Placed.{Places, Placed}
 
 -- ---- a record of a kind with nothing in it
 abbrev pub blankPlaces : Places
-blankPlaces = record { first = 0; out = 0; err = 0; second = 0; third = 0; fourth = 0 }
+blankPlaces = record { first = 0; out = 0; err = 0; second = 0; third = 0; fourth = 0; seventh = 0 }
 
 abbrev pub blankRow : ℕ → Row
 blankRow κ = record {
@@ -24,6 +24,7 @@ blankRow κ = record {
   fourth = absent;
   fifth = absent;
   sixth = absent;
+  seventh = absent;
   isFlaky = false;
 }
 
@@ -32,22 +33,25 @@ blankPlaced κ = record { places = blankPlaces; row = blankRow κ }
 
 -- ---- where one text starts
 abbrev pub atFirst : ℕ → Places → Places
-atFirst x q = record { first = x; out = q .out; err = q .err; second = q .second; third = q .third; fourth = q .fourth }
+atFirst x q = record { first = x; out = q .out; err = q .err; second = q .second; third = q .third; fourth = q .fourth; seventh = q .seventh }
 
 abbrev pub atOut : ℕ → Places → Places
-atOut x q = record { first = q .first; out = x; err = q .err; second = q .second; third = q .third; fourth = q .fourth }
+atOut x q = record { first = q .first; out = x; err = q .err; second = q .second; third = q .third; fourth = q .fourth; seventh = q .seventh }
 
 abbrev pub atErr : ℕ → Places → Places
-atErr x q = record { first = q .first; out = q .out; err = x; second = q .second; third = q .third; fourth = q .fourth }
+atErr x q = record { first = q .first; out = q .out; err = x; second = q .second; third = q .third; fourth = q .fourth; seventh = q .seventh }
 
 abbrev pub atSecond : ℕ → Places → Places
-atSecond x q = record { first = q .first; out = q .out; err = q .err; second = x; third = q .third; fourth = q .fourth }
+atSecond x q = record { first = q .first; out = q .out; err = q .err; second = x; third = q .third; fourth = q .fourth; seventh = q .seventh }
 
 abbrev pub atThird : ℕ → Places → Places
-atThird x q = record { first = q .first; out = q .out; err = q .err; second = q .second; third = x; fourth = q .fourth }
+atThird x q = record { first = q .first; out = q .out; err = q .err; second = q .second; third = x; fourth = q .fourth; seventh = q .seventh }
 
 abbrev pub atFourth : ℕ → Places → Places
-atFourth x q = record { first = q .first; out = q .out; err = q .err; second = q .second; third = q .third; fourth = x }
+atFourth x q = record { first = q .first; out = q .out; err = q .err; second = q .second; third = q .third; fourth = x; seventh = q .seventh }
+
+abbrev pub atSeventh : ℕ → Places → Places
+atSeventh x q = record { first = q .first; out = q .out; err = q .err; second = q .second; third = q .third; fourth = q .fourth; seventh = x }
 
 -- ---- one part of a row
 abbrev pub withKind : ℕ → Row → Row
@@ -63,6 +67,7 @@ withKind k r = record {
   fourth = r .fourth;
   fifth = r .fifth;
   sixth = r .sixth;
+  seventh = r .seventh;
   isFlaky = r .isFlaky;
 }
 
@@ -79,6 +84,7 @@ withFirst c r = record {
   fourth = r .fourth;
   fifth = r .fifth;
   sixth = r .sixth;
+  seventh = r .seventh;
   isFlaky = r .isFlaky;
 }
 
@@ -95,6 +101,7 @@ withOut c r = record {
   fourth = r .fourth;
   fifth = r .fifth;
   sixth = r .sixth;
+  seventh = r .seventh;
   isFlaky = r .isFlaky;
 }
 
@@ -111,6 +118,7 @@ withErr c r = record {
   fourth = r .fourth;
   fifth = r .fifth;
   sixth = r .sixth;
+  seventh = r .seventh;
   isFlaky = r .isFlaky;
 }
 
@@ -127,6 +135,7 @@ withTimestamp m r = record {
   fourth = r .fourth;
   fifth = r .fifth;
   sixth = r .sixth;
+  seventh = r .seventh;
   isFlaky = r .isFlaky;
 }
 
@@ -143,6 +152,7 @@ withTime d r = record {
   fourth = r .fourth;
   fifth = r .fifth;
   sixth = r .sixth;
+  seventh = r .seventh;
   isFlaky = r .isFlaky;
 }
 
@@ -159,6 +169,7 @@ withSecond c r = record {
   fourth = r .fourth;
   fifth = r .fifth;
   sixth = r .sixth;
+  seventh = r .seventh;
   isFlaky = r .isFlaky;
 }
 
@@ -175,6 +186,7 @@ withThird c r = record {
   fourth = r .fourth;
   fifth = r .fifth;
   sixth = r .sixth;
+  seventh = r .seventh;
   isFlaky = r .isFlaky;
 }
 
@@ -191,6 +203,7 @@ withFourth c r = record {
   fourth = c;
   fifth = r .fifth;
   sixth = r .sixth;
+  seventh = r .seventh;
   isFlaky = r .isFlaky;
 }
 
@@ -207,6 +220,7 @@ withFifth c r = record {
   fourth = r .fourth;
   fifth = c;
   sixth = r .sixth;
+  seventh = r .seventh;
   isFlaky = r .isFlaky;
 }
 
@@ -223,6 +237,24 @@ withSixth c r = record {
   fourth = r .fourth;
   fifth = r .fifth;
   sixth = c;
+  seventh = r .seventh;
+  isFlaky = r .isFlaky;
+}
+
+abbrev pub withSeventh : Cell → Row → Row
+withSeventh c r = record {
+  kind = r .kind;
+  first = r .first;
+  out = r .out;
+  err = r .err;
+  timestamp = r .timestamp;
+  time = r .time;
+  second = r .second;
+  third = r .third;
+  fourth = r .fourth;
+  fifth = r .fifth;
+  sixth = r .sixth;
+  seventh = c;
   isFlaky = r .isFlaky;
 }
 
@@ -239,6 +271,7 @@ withFlaky b r = record {
   fourth = r .fourth;
   fifth = r .fifth;
   sixth = r .sixth;
+  seventh = r .seventh;
   isFlaky = b;
 }
 
@@ -269,3 +302,6 @@ thirdText x v p = record { places = atThird x (p .places); row = withThird (writ
 
 abbrev pub fourthText : ℕ → Text → Placed → Placed
 fourthText x v p = record { places = atFourth x (p .places); row = withFourth (written v) (p .row) }
+
+abbrev pub seventhText : ℕ → Text → Placed → Placed
+seventhText x v p = record { places = atSeventh x (p .places); row = withSeventh (written v) (p .row) }

@@ -16,6 +16,7 @@ pub record Places : Type 0 where
   pub second : ℕ
   pub third : ℕ
   pub fourth : ℕ
+  pub seventh : ℕ
 
 -- a row (crate tree_report, Encode.antt) and where its texts start
 pub record Placed : Type 0 where
@@ -39,7 +40,8 @@ recordOf p =
     ∷ firstWord (p .places .fourth) (p .row .fourth) ∷ secondWord (p .row .fourth)
     ∷ firstWord 0 (p .row .fifth) ∷ secondWord (p .row .fifth)
     ∷ firstWord 0 (p .row .sixth) ∷ secondWord (p .row .sixth)
-    ∷ 0 ∷ 0 ∷ 0 ∷ 0 ∷ []
+    ∷ firstWord (p .places .seventh) (p .row .seventh) ∷ secondWord (p .row .seventh)
+    ∷ 0 ∷ 0 ∷ []
 
 abbrev pub recordsIn : List Placed → List (List ℕ)
 recordsIn ps = map recordOf ps
@@ -58,7 +60,7 @@ StandsAt texts x (written t) = (take (length t) (drop x texts) ≡ t) × (goodAt
 StandsAt texts x (valued a b) = Unit {0}
 StandsAt texts x (constant a b) = Unit {0}
 
--- all six cells that may hold a text
+-- all seven cells that may hold a text
 pub record InTexts (texts : List ℕ) (p : Placed) : Type 0 where
   pub first : StandsAt texts (p .places .first) (p .row .first)
   pub out : StandsAt texts (p .places .out) (p .row .out)
@@ -66,3 +68,4 @@ pub record InTexts (texts : List ℕ) (p : Placed) : Type 0 where
   pub second : StandsAt texts (p .places .second) (p .row .second)
   pub third : StandsAt texts (p .places .third) (p .row .third)
   pub fourth : StandsAt texts (p .places .fourth) (p .row .fourth)
+  pub seventh : StandsAt texts (p .places .seventh) (p .row .seventh)

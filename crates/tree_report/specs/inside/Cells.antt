@@ -92,11 +92,12 @@ pub record Row : Type 0 where
   pub fourth : Cell
   pub fifth : Cell
   pub sixth : Cell
+  pub seventh : Cell
   pub isFlaky : Bool
 
-abbrev pub rowOf : ℕ → Cell → Cell → Cell → Option Moment → Option Duration → Cell → Cell → Cell → Cell → Cell → Bool → Row
-rowOf k a b c m d e f g h i t =
-    record { kind = k; first = a; out = b; err = c; timestamp = m; time = d; second = e; third = f; fourth = g; fifth = h; sixth = i; isFlaky = t }
+abbrev pub rowOf : ℕ → Cell → Cell → Cell → Option Moment → Option Duration → Cell → Cell → Cell → Cell → Cell → Cell → Bool → Row
+rowOf k a b c m d e f g h i j t =
+    record { kind = k; first = a; out = b; err = c; timestamp = m; time = d; second = e; third = f; fourth = g; fifth = h; sixth = i; seventh = j; isFlaky = t }
 
 abbrev pub momentOrZero : Option Moment → Moment
 momentOrZero none = record { year = 0; month = 0; day = 0; hour = 0; minute = 0; second = 0; nanos = 0; offset = 0 }
@@ -109,21 +110,21 @@ timeOrZero (some d) = d
 abbrev pub presence : Row → List Bool
 presence r =
     isGiven (r .first) ∷ isGiven (r .out) ∷ isGiven (r .err) ∷ isSome (r .timestamp) ∷ isSome (r .time)
-    ∷ isGiven (r .second) ∷ isGiven (r .third) ∷ isGiven (r .fourth) ∷ isGiven (r .sixth) ∷ r .isFlaky ∷ []
+    ∷ isGiven (r .second) ∷ isGiven (r .third) ∷ isGiven (r .fourth) ∷ isGiven (r .sixth) ∷ r .isFlaky ∷ isGiven (r .seventh) ∷ []
 
 -- ---- the records of a report, in their order: an element, its extras, its properties, and what else it holds
 -- a property or an extra
 abbrev pub pairRow : ℕ → Pair → Row
-pairRow k p = rowOf k (written (p .key)) (written (p .value)) absent none none absent absent absent absent absent false
+pairRow k p = rowOf k (written (p .key)) (written (p .value)) absent none none absent absent absent absent absent absent false
 
 -- a main
 abbrev pub mainRow : ℕ → Bool → Reason → Row
-mainRow k isFlaky r = rowOf k (ofText (r .message)) absent absent none none (ofText (r .type)) (ofText (r .description)) absent absent absent isFlaky
+mainRow k isFlaky r = rowOf k (ofText (r .message)) absent absent none none (ofText (r .type)) (ofText (r .description)) absent absent absent absent isFlaky
 
 abbrev pub runRow : FlakyOrRerun → TestRerun → Row
 runRow family r =
     rowOf (kindOfRun family (r .kind)) (ofText (r .message)) (ofText (r .systemOut)) (ofText (r .systemErr)) (r .timestamp) (r .time)
-    (ofText (r .type)) (ofText (r .description)) (ofText (r .stackTrace)) absent absent false
+    (ofText (r .type)) (ofText (r .description)) (ofText (r .stackTrace)) absent absent absent false
 
 abbrev pub statusRows : TestCaseStatus → List Row
 statusRows (success runs) = map (runRow flaky) runs
@@ -133,7 +134,7 @@ statusRows (skipped reason) = mainRow kind.skipped false reason ∷ []
 abbrev pub caseRow : TestCase → Row
 caseRow c =
     rowOf kind.case (written (c .name)) (ofText (c .systemOut)) (ofText (c .systemErr)) (c .timestamp) (c .time)
-    (ofText (c .classname)) (ofNumber (c .assertions)) absent absent absent false
+    (ofText (c .classname)) (ofNumber (c .assertions)) absent absent absent absent false
 
 abbrev pub caseRows : TestCase → List Row
 caseRows c = caseRow c ∷ (map (pairRow kind.caseExtra) (c .extra) ++ (map (pairRow kind.caseProperty) (c .properties) ++ statusRows (c .status)))
@@ -141,7 +142,7 @@ caseRows c = caseRow c ∷ (map (pairRow kind.caseExtra) (c .extra) ++ (map (pai
 abbrev pub suiteRow : TestSuite → Row
 suiteRow s =
     rowOf kind.suite (written (s .name)) (ofText (s .systemOut)) (ofText (s .systemErr)) (s .timestamp) (s .time)
-    (ofCount (s .counts .tests)) (ofCount (s .counts .failures)) (ofCount (s .counts .errors)) (ofCount (s .counts .skipped)) (ofNumber (s .counts .disabled)) false
+    (ofCount (s .counts .tests)) (ofCount (s .counts .failures)) (ofCount (s .counts .errors)) (ofCount (s .counts .skipped)) (ofNumber (s .counts .disabled)) (ofText (s .hostname)) false
 
 abbrev pub suiteRows : TestSuite → List Row
 suiteRows s = suiteRow s ∷ (map (pairRow kind.suiteExtra) (s .extra) ++ (map (pairRow kind.suiteProperty) (s .properties) ++ rowsOfEach caseRows (s .cases)))
@@ -149,7 +150,7 @@ suiteRows s = suiteRow s ∷ (map (pairRow kind.suiteExtra) (s .extra) ++ (map (
 abbrev pub reportRow : Report → Row
 reportRow r =
     rowOf kind.report (ofText (r .name)) (uuidFront (r .uuid)) (uuidBack (r .uuid)) (r .timestamp) (r .time)
-    (ofCount (r .counts .tests)) (ofCount (r .counts .failures)) (ofCount (r .counts .errors)) (ofCount (r .counts .skipped)) (ofNumber (r .counts .disabled)) false
+    (ofCount (r .counts .tests)) (ofCount (r .counts .failures)) (ofCount (r .counts .errors)) (ofCount (r .counts .skipped)) (ofNumber (r .counts .disabled)) absent false
 
 abbrev pub rowsOf : Report → List Row
 rowsOf r = reportRow r ∷ rowsOfEach suiteRows (r .suites)
@@ -172,5 +173,5 @@ fitsTime (some d) = leb (d .seconds) 8388607 && leb (d .nanos) 999999999
 
 unfoldable pub fitsRow : Row → Bool
 fitsRow r =
-    every fitsCell (r .first ∷ r .out ∷ r .err ∷ r .second ∷ r .third ∷ r .fourth ∷ r .fifth ∷ r .sixth ∷ [])
+    every fitsCell (r .first ∷ r .out ∷ r .err ∷ r .second ∷ r .third ∷ r .fourth ∷ r .fifth ∷ r .sixth ∷ r .seventh ∷ [])
     && (fitsMoment (r .timestamp) && fitsTime (r .time))

@@ -51,15 +51,21 @@ goodCommon texts r = textSlot texts r bit.name word.name && (momentSlot r && tim
 unfoldable pub goodOutputs : List ℕ → List ℕ → Bool
 goodOutputs texts r = textSlot texts r bit.out word.out && textSlot texts r bit.err word.err
 
--- counts may be anything; words 28 to 31 are free
+-- counts may be anything; behind a report's words 28 to 31 are free, behind a suite's, which has a host, 30 and 31
+abbrev pub disabledSlot : List ℕ → Bool
+disabledSlot r = slot (hasBit bit.disabled r) true (zeroAt r word.disabled 2)
+
 unfoldable pub goodCounts : List ℕ → Bool
-goodCounts r = slot (hasBit bit.disabled r) true (zeroAt r word.disabled 2) && zeroAt r 28 4
+goodCounts r = disabledSlot r && zeroAt r 28 4
+
+unfoldable pub goodHost : List ℕ → List ℕ → Bool
+goodHost texts r = disabledSlot r && (textSlot texts r bit.hostname word.hostname && zeroAt r 30 2)
 
 abbrev pub reportBits : List ℕ
 reportBits = bit.name ∷ bit.uuid ∷ bit.timestamp ∷ bit.time ∷ bit.disabled ∷ []
 
 abbrev pub suiteBits : List ℕ
-suiteBits = bit.name ∷ bit.out ∷ bit.err ∷ bit.timestamp ∷ bit.time ∷ bit.disabled ∷ []
+suiteBits = bit.name ∷ bit.out ∷ bit.err ∷ bit.timestamp ∷ bit.time ∷ bit.disabled ∷ bit.hostname ∷ []
 
 abbrev pub caseBits : List ℕ
 caseBits = bit.name ∷ bit.out ∷ bit.err ∷ bit.timestamp ∷ bit.time ∷ bit.classname ∷ bit.assertions ∷ []

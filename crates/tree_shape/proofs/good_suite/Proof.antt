@@ -14,6 +14,12 @@ mul-only c = search needs
 add-only : tie.Need-add-only
 add-only c = search needs
 
+mul-only-2 : tie.Need-mul-only-2
+mul-only-2 c = search needs
+
+add-only-2 : tie.Need-add-only-2
+add-only-2 c = search needs
+
 has-bit-requires : tie.Need-has-bit-requires
 has-bit-requires c κs = search needs
 
@@ -23,14 +29,14 @@ good-common-requires c κs = search needs
 good-outputs-requires : tie.Need-good-outputs-requires
 good-outputs-requires c κs = search needs
 
-good-counts-requires : tie.Need-good-counts-requires
-good-counts-requires c κs = search needs
+good-host-requires : tie.Need-good-host-requires
+good-host-requires c κs = search needs
 
 returns : tie.Need-returns
 returns c =
     let args = c .before .before .before .before .before .before .before .args in
     let parts = suite-good (args .texts .now) (args .r .now) in
-    rw (parts, suite-bits (args .r .now), c .before .before .before .has-bit .ensures, c .before .before .good-common .ensures, c .before .good-outputs .ensures, c .good-counts .ensures) refl
+    rw (parts, suite-bits (args .r .now), c .before .before .before .has-bit .ensures, c .before .before .good-common .ensures, c .before .good-outputs .ensures, c .good-host .ensures) refl
 
 pub good-suite-spec : {M : Type 1} → statement M
 good-suite-spec =
@@ -39,8 +45,10 @@ good-suite-spec =
     shared-slice-read-bits
     mul-only
     add-only
+    mul-only-2
+    add-only-2
     has-bit-requires
     good-common-requires
     good-outputs-requires
-    good-counts-requires
+    good-host-requires
     returns)

@@ -11,7 +11,7 @@ use Rattle.write_items.specs.inside.Values.{reportName, keyName, valueOf
 
 -- no presence bit: the value is always there
 abbrev pub always : ℕ
-always = 10
+always = 32
 
 -- the presence bit of a key
 unfoldable pub bitOf : ℕ → ℕ
@@ -22,7 +22,8 @@ bitOf code =
     (cond (eqb code key.time) bit.time
     (cond (eqb code key.classname || eqb code key.type) bit.classname
     (cond (eqb code key.assertions) bit.assertions
-    (cond (eqb code key.disabled) bit.disabled always))))))
+    (cond (eqb code key.hostname) bit.hostname
+    (cond (eqb code key.disabled) bit.disabled always)))))))
 
 unfoldable pub isPresent : List ℕ → ℕ → Bool
 isPresent r code = cond (eqb (bitOf code) always) true (hasBit (bitOf code) r)

@@ -31,7 +31,7 @@ tagName code = named tags code
 
 -- the code of a report's name, which may be missing
 abbrev pub reportName : ℕ
-reportName = 15
+reportName = 16
 
 -- the code of a row's key
 abbrev pub nameCode : Presence → ℕ
@@ -67,7 +67,8 @@ offsetOf code =
     (cond (eqb code key.errors) word.errors
     (cond (eqb code key.skipped) word.skipped
     (cond (eqb code key.disabled) word.disabled
-    (cond (eqb code key.value) word.value word.name)))))
+    (cond (eqb code key.hostname) word.hostname
+    (cond (eqb code key.value) word.value word.name))))))
 
 unfoldable pub valueOf : List ℕ → List ℕ → ℕ → List ℕ
 valueOf text r code =

@@ -10,14 +10,14 @@ bit-of-requires c κs = search needs
 
 returns : tie.Need-returns
 unfolding isPresent
-returns c = rw (eq-eqb (bitOf (c .before .before .before .args .code)) 10 (sym (c .before .bit-of .ensures) ∙ c .if1 .taken))
+returns c = rw (eq-eqb (bitOf (c .before .before .before .args .code)) 32 (sym (c .before .bit-of .ensures) ∙ c .if1 .taken))
 
 has-bit-requires : tie.Need-has-bit-requires
 has-bit-requires c κs = search needs
 
 returns-2 : tie.Need-returns-2
 unfolding isPresent
-returns-2 c = rw (sym (c .before .before .bit-of .ensures), ne-eqb (c .before .before .bit-of .result) 10 (c .before .if1 .left)) (c .has-bit .ensures)
+returns-2 c = rw (sym (c .before .before .bit-of .ensures), ne-eqb (c .before .before .bit-of .result) 32 (c .before .if1 .left)) (c .has-bit .ensures)
 
 pub is-present-spec : {M : Type 1} → statement M
 is-present-spec = tie.close (tie.spec bit-of-requires returns has-bit-requires returns-2)

@@ -4,10 +4,10 @@ use Rattle.write_values.proofs.known.Statement.{statement}
 use Rattle.write_values.proofs.known.Tie as tie
 
 returns : tie.Need-returns
-returns c = rw (lt-ltb (c .before .args .code) 16 (c .if1 .taken)) refl
+returns c = rw (lt-ltb (c .before .args .code) 17 (c .if1 .taken)) refl
 
 returns-2 : tie.Need-returns-2
-returns-2 c = rw (le-ltb (c .before .args .code) 16 (c .if1 .left)) refl
+returns-2 c = rw (le-ltb (c .before .args .code) 17 (c .if1 .left)) refl
 
 pub known-spec : {M : Type 1} → statement M
 known-spec =

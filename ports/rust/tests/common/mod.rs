@@ -49,7 +49,7 @@ pub fn told(refusal: &Refusal) -> String {
 }
 
 fn numbers(element: PathElement) -> (u32, Option<u32>, Option<u32>) {
-    const NAMES: [&str; 16] = [
+    const NAMES: [&str; 17] = [
         "",
         "name",
         "classname",
@@ -66,6 +66,7 @@ fn numbers(element: PathElement) -> (u32, Option<u32>, Option<u32>) {
         "type",
         "value",
         "stackTrace",
+        "hostname",
     ];
     match element {
         PathElement::TestSuites => (1, None, None),

@@ -25,9 +25,12 @@ returns-6 : tie.Need-returns-6
 returns-6 c = search needs
 
 returns-7 : tie.Need-returns-7
-returns-7 c = let n = c .match .rest in last (field.Classname ∷ field.Message ∷ field.Ty ∷ field.Description ∷ field.StackTrace ∷ field.SystemOut ∷ [])
-    field.SystemErr (c .before .args .code) (omega (arith, n .0 .0 .0 .0 .0 .1, n .0 .0 .0 .0 .1, n .0 .0 .0 .1, n .0 .0 .1, n .0 .1, n .1))
+returns-7 c = search needs
+
+returns-8 : tie.Need-returns-8
+returns-8 c = let n = c .match .rest in last (field.Classname ∷ field.Message ∷ field.Ty ∷ field.Description ∷ field.StackTrace ∷ field.SystemOut ∷ field.SystemErr ∷ [])
+    field.Hostname (c .before .args .code) (omega (arith, n .0 .0 .0 .0 .0 .0 .1, n .0 .0 .0 .0 .0 .1, n .0 .0 .0 .0 .1, n .0 .0 .0 .1, n .0 .0 .1, n .0 .1, n .1))
 
 pub field-at-spec : {M : Type 1} → statement M
 field-at-spec =
-    tie.close (tie.spec returns returns-2 returns-3 returns-4 returns-5 returns-6 returns-7)
+    tie.close (tie.spec returns returns-2 returns-3 returns-4 returns-5 returns-6 returns-7 returns-8)
