@@ -2,6 +2,7 @@ use Rattle.port_values.proofs.Last.{last}
 use Rattle.build_draft.specs.declared.TextField.the-variants as field
 use native.Mathlib.Omega.{arith}
 use mathlib.Core.List.{[], _∷_}
+use Prim.Native.Nat.{_≤_}
 use borrow.Author.Needs.{needs}
 use Rattle.port_values.proofs.codes.field_at.Statement.{statement}
 use Rattle.port_values.proofs.codes.field_at.Tie as tie
@@ -28,8 +29,12 @@ returns-7 : tie.Need-returns-7
 returns-7 c = search needs
 
 returns-8 : tie.Need-returns-8
-returns-8 c = let n = c .match .rest in last (field.Classname ∷ field.Message ∷ field.Ty ∷ field.Description ∷ field.StackTrace ∷ field.SystemOut ∷ field.SystemErr ∷ [])
-    field.Hostname (c .before .args .code) (omega (arith, n .0 .0 .0 .0 .0 .0 .1, n .0 .0 .0 .0 .0 .1, n .0 .0 .0 .0 .1, n .0 .0 .0 .1, n .0 .0 .1, n .0 .1, n .1))
+returns-8 c =
+    let n = c .match .rest in
+    let code = c .before .args .code in
+    let four : 4 ≤ code = omega (arith, n .0 .0 .0 .0 .0 .0 .1, n .0 .0 .0 .0 .0 .1, n .0 .0 .0 .0 .1, n .0 .0 .0 .1) in
+    last (field.Classname ∷ field.Message ∷ field.Ty ∷ field.Description ∷ field.StackTrace ∷ field.SystemOut ∷ field.SystemErr ∷ []) field.Hostname code
+    (omega (arith, four, n .0 .0 .1, n .0 .1, n .1))
 
 pub field-at-spec : {M : Type 1} → statement M
 field-at-spec =
