@@ -33,7 +33,7 @@ length-front m texts fill r s = length-start _ 2 6 r _ _ ∙ length-start _ 1 4 
 
 length-back : (m : ℕ) (texts : List ℕ) (fill : ℕ) (r s : List ℕ) → length (backMoved m texts fill r s) ≡ length s
 unfolding backMoved
-length-back m texts fill r s = length-start _ 7 22 r _ _ ∙ length-start _ 6 20 r _ _ ∙ length-start _ 5 18 r fill s
+length-back m texts fill r s = length-start _ 10 28 r _ _ ∙ length-start _ 7 22 r _ _ ∙ length-start _ 6 20 r _ _ ∙ length-start _ 5 18 r fill s
 
 pub length-moved : (texts : List ℕ) (fill : ℕ) (r : List ℕ) → length (rowMoved texts fill r) ≡ length r
 unfolding rowMoved

@@ -58,7 +58,7 @@ pub counting-start : (words : List ℕ) → Counting words 0 0 0
 counting-start words = record { fits = omega arith; count = omega arith; sizes = omega arith; few = omega arith; small = omega arith }
 
 module _ {words : List ℕ} {records bytes at : ℕ} (c : Counting words records bytes at) where
-  pub counting-more : {n : ℕ} → isStanding words at ≡ true → isBelow (here words at) ≡ true → n ≡ sizesOf (here words at) → n < 25769803776
+  pub counting-more : {n : ℕ} → isStanding words at ≡ true → isBelow (here words at) ≡ true → n ≡ sizesOf (here words at) → n < 30064771072
       → Counting words (records + 1) (bytes + n) (at + 32)
   counting-more {n} s b e l =
       let m = below-more words at s b in

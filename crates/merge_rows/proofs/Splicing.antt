@@ -99,3 +99,26 @@ module _ (fill : ℕ) (b₀ p q s : List ℕ) (h : fill + length (p ++ (q ++ s))
 
   pub three-size : {b n : ℕ} → b ≡ a + length q → n ≡ b + length s → n ≡ fill + length (p ++ (q ++ s))
   three-size y w = two-size fill b₀ p (q ++ s) h x (two-size a b₁ q s rest y w)
+
+-- four
+module _
+    (fill : ℕ) (b₀ p q s t : List ℕ) (h : fill + length (p ++ (q ++ (s ++ t))) ≤ length b₀)
+    {a : ℕ} {b₁ : List ℕ} (x : a ≡ fill + length p) (e : b₁ ≡ splice fill p b₀)
+    {b : ℕ} {b₂ : List ℕ} (y : b ≡ a + length q) (f : b₂ ≡ splice a q b₁) where
+  last : b + length (s ++ t) ≤ length b₂
+  last = third-fits fill b₀ p q (s ++ t) h x e y f
+
+  pub of-four-fits : b + length s ≤ length b₂
+  of-four-fits = first-fits b b₂ s t last
+
+  pub fourth-fits : {c : ℕ} {b₃ : List ℕ} → c ≡ b + length s → b₃ ≡ splice b s b₂ → c + length t ≤ length b₃
+  fourth-fits z g = second-fits b b₂ s t last z g
+
+  pub fourth-size : {b₃ : List ℕ} → b₃ ≡ splice b s b₂ → length b₃ ≡ length b₀
+  fourth-size g = same-size b b₂ s t last g ∙ third-size fill b₀ p q (s ++ t) h x e f
+
+  pub four : {c : ℕ} {b₃ b₄ : List ℕ} → c ≡ b + length s → b₃ ≡ splice b s b₂ → b₄ ≡ splice c t b₃ → b₄ ≡ splice fill (p ++ (q ++ (s ++ t))) b₀
+  four z g k = three fill b₀ p q (s ++ t) h x e y f (two b b₂ s t last z g k)
+
+  pub four-size : {c n : ℕ} → c ≡ b + length s → n ≡ c + length t → n ≡ fill + length (p ++ (q ++ (s ++ t)))
+  four-size z w = three-size fill b₀ p q (s ++ t) h x e y (two-size b b₂ s t last z w)

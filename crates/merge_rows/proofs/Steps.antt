@@ -13,7 +13,7 @@ use Rattle.area.proofs.Laying.{laid-fits}
 use Rattle.list_text.specs.inside.Behind.{Filled, filled, behind, Puts}
 use Rattle.tree_record.specs.Record as words
 use Rattle.tree_record.specs.Record.{kindOf}
-use Rattle.merge_rows.specs.inside.Slots.{textBits, hasText, textAt, sizeAt, startAt, name, out, type, description, frontTexts, backTexts, frontMoved, backMoved, rowTexts, rowMoved, sizesOf}
+use Rattle.merge_rows.specs.inside.Slots.{textBits, hasText, textAt, sizeAt, startAt, name, out, type, description, trace, frontTexts, backTexts, frontMoved, backMoved, rowTexts, rowMoved, sizesOf}
 
 -- ---- one text
 module _ (slot : Bool) (k o : ℕ) (texts r : List ℕ) where
@@ -35,17 +35,18 @@ module _ (slot : Bool) (k o : ℕ) (r : List ℕ) (fill : ℕ) (s : List ℕ) wh
   start-none h = sym (ap (λ (t : Bool). cond t (set s o fill) s) h)
 
 -- ---- the sizes
-pub sizes-added : {m a b c d e f : ℕ} (r : List ℕ) → m ≡ textBits (kindOf r)
+pub sizes-added : {m a b c d e f g : ℕ} (r : List ℕ) → m ≡ textBits (kindOf r)
     → a ≡ sizeAt (eqb (m % 2) 1) 0 2 r → b ≡ sizeAt (eqb (m / 2 % 2) 1) 1 4 r → c ≡ sizeAt (eqb (m / 4 % 2) 1) 2 6 r
     → d ≡ sizeAt (eqb (m / 32 % 2) 1) 5 18 r → e ≡ sizeAt (eqb (m / 64 % 2) 1) 6 20 r → f ≡ sizeAt (eqb (m / 128 % 2) 1) 7 22 r
-    → a + b + c + d + e + f ≡ sizesOf r
+    → g ≡ sizeAt (eqb (m / 1024 % 2) 1) 10 28 r → a + b + c + d + e + f + g ≡ sizesOf r
 unfolding sizesOf
-sizes-added {m} r q x y z u v w =
-    rw (x, y, z, u, v, w)
+sizes-added {m} r q x y z u v w t =
+    rw (x, y, z, u, v, w, t)
     (ap (λ (m : ℕ). sizeAt (eqb (m % 2) 1) 0 2 r + sizeAt (eqb (m / 2 % 2) 1) 1 4 r + sizeAt (eqb (m / 4 % 2) 1) 2 6 r
-    + sizeAt (eqb (m / 32 % 2) 1) 5 18 r + sizeAt (eqb (m / 64 % 2) 1) 6 20 r + sizeAt (eqb (m / 128 % 2) 1) 7 22 r) q)
+    + sizeAt (eqb (m / 32 % 2) 1) 5 18 r + sizeAt (eqb (m / 64 % 2) 1) 6 20 r + sizeAt (eqb (m / 128 % 2) 1) 7 22 r
+    + sizeAt (eqb (m / 1024 % 2) 1) 10 28 r) q)
 
--- ---- three starts
+-- ---- three starts, and four
 module _ (m : ℕ) (texts r : List ℕ) (fill : ℕ) (w : List ℕ) {a b : ℕ} {w1 w2 w3 : List ℕ} where
   pub front-rows : a ≡ fill + length (name m texts r) → b ≡ a + length (out m texts r)
       → w1 ≡ startAt (eqb (m % 2) 1) 0 2 r fill w → w2 ≡ startAt (eqb (m / 2 % 2) 1) 1 4 r a w1 → w3 ≡ startAt (eqb (m / 4 % 2) 1) 2 6 r b w2
@@ -56,14 +57,16 @@ module _ (m : ℕ) (texts r : List ℕ) (fill : ℕ) (w : List ℕ) {a b : ℕ} 
       ∙ ap₂ (λ (n : ℕ) (l : List ℕ). startAt (eqb (m / 4 % 2) 1) 2 6 r n l) (y ∙ ap (λ (n : ℕ). n + length (out m texts r)) x)
       (f ∙ ap₂ (λ (n : ℕ) (l : List ℕ). startAt (eqb (m / 2 % 2) 1) 1 4 r n l) x e)
 
-  pub back-rows : a ≡ fill + length (type m texts r) → b ≡ a + length (description m texts r)
+  pub back-rows : {c : ℕ} {w4 : List ℕ} → a ≡ fill + length (type m texts r) → b ≡ a + length (description m texts r) → c ≡ b + length (trace m texts r)
       → w1 ≡ startAt (eqb (m / 32 % 2) 1) 5 18 r fill w → w2 ≡ startAt (eqb (m / 64 % 2) 1) 6 20 r a w1 → w3 ≡ startAt (eqb (m / 128 % 2) 1) 7 22 r b w2
-      → w3 ≡ backMoved m texts fill r w
+      → w4 ≡ startAt (eqb (m / 1024 % 2) 1) 10 28 r c w3 → w4 ≡ backMoved m texts fill r w
   unfolding backMoved
-  back-rows x y e f g =
-      g
-      ∙ ap₂ (λ (n : ℕ) (l : List ℕ). startAt (eqb (m / 128 % 2) 1) 7 22 r n l) (y ∙ ap (λ (n : ℕ). n + length (description m texts r)) x)
-      (f ∙ ap₂ (λ (n : ℕ) (l : List ℕ). startAt (eqb (m / 64 % 2) 1) 6 20 r n l) x e)
+  back-rows x y z e f g h =
+      let v = y ∙ ap (λ (n : ℕ). n + length (description m texts r)) x in
+      h
+      ∙ ap₂ (λ (n : ℕ) (l : List ℕ). startAt (eqb (m / 1024 % 2) 1) 10 28 r n l) (z ∙ ap (λ (n : ℕ). n + length (trace m texts r)) v)
+      (g ∙ ap₂ (λ (n : ℕ) (l : List ℕ). startAt (eqb (m / 128 % 2) 1) 7 22 r n l) v
+      (f ∙ ap₂ (λ (n : ℕ) (l : List ℕ). startAt (eqb (m / 64 % 2) 1) 6 20 r n l) x e))
 
 -- ---- a whole record
 -- the words of r fill an area of their length

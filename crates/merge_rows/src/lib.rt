@@ -23,7 +23,7 @@ fn text_bits(k: u32) -> u32
     ensures { λ r. ⌜ r ≡ slots.textBits k ⌝ }
 {
     if k == kind::SUITE {
-        return 7;
+        return 1031;
     }
     if k == kind::CASE {
         return 39;
@@ -62,7 +62,7 @@ fn size_at(r: &[u32], slot: bool, k: u32, o: usize) -> u64
 // Of all texts of a record.
 pub fn sizes_of(r: &[u32]) -> u64
     ensures { λ n. ⌜ n ≡ slots.sizesOf (now (r .entry)) ⌝ }
-    ensures { λ n. ⌜ n < 25769803776 ⌝ }
+    ensures { λ n. ⌜ n < 30064771072 ⌝ }
 {
     let m = text_bits(field(r, word::KIND));
     size_at(r, m % 2 == 1, bit::NAME, word::NAME)
@@ -71,6 +71,7 @@ pub fn sizes_of(r: &[u32]) -> u64
         + size_at(r, m / 32 % 2 == 1, bit::TYPE, word::TYPE)
         + size_at(r, m / 64 % 2 == 1, bit::DESCRIPTION, word::DESCRIPTION)
         + size_at(r, m / 128 % 2 == 1, bit::STACK_TRACE, word::STACK_TRACE)
+        + size_at(r, m / 1024 % 2 == 1, bit::HOSTNAME, word::HOSTNAME)
 }
 
 // Puts s behind the first `fill` bytes, and says how many are in use then.
@@ -159,7 +160,7 @@ fn move_back(
         bit::DESCRIPTION,
         word::DESCRIPTION,
     );
-    move_text(
+    let c = move_text(
         row,
         bytes,
         b,
@@ -168,7 +169,9 @@ fn move_back(
         m / 128 % 2 == 1,
         bit::STACK_TRACE,
         word::STACK_TRACE,
-    )
+    );
+    let host = m / 1024 % 2 == 1;
+    move_text(row, bytes, c, text, r, host, bit::HOSTNAME, word::HOSTNAME)
 }
 
 // Copies the record r into `row`, and its texts behind the first `fill` bytes; says how many are in use then.

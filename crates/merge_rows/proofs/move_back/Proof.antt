@@ -1,5 +1,5 @@
 use Rattle.merge_rows.proofs.Steps.{back-rows}
-use Rattle.merge_rows.proofs.Splicing.{first-fits, middle-fits, middle-size, third-fits, third-size, three, three-size}
+use Rattle.merge_rows.proofs.Splicing.{first-fits, middle-fits, middle-size, third-size, of-four-fits, fourth-fits, fourth-size, four, four-size}
 use Rattle.merge_rows.specs.inside.Slots.{backTexts}
 use Rattle.merge_rows.specs.inside.Slots as slots
 use native.Mathlib.Omega.{arith}
@@ -11,40 +11,66 @@ use Rattle.merge_rows.proofs.move_back.Tie as tie
 move-text-requires : tie.Need-move-text-requires
 unfolding backTexts
 move-text-requires c κs =
-    let pre = c .before .before .before .before .before .before .pre in
-    let s = c .before .before .before .before .before .before .args in
+    let start = c .before .before .before .before .before .before in
+    let s = start .args in
     let x = slots.type (s .m) (s .text .now) (s .r .now) in
     let y = slots.description (s .m) (s .text .now) (s .r .now) in
     let z = slots.trace (s .m) (s .text .now) (s .r .now) in
-    (omega arith, first-fits (s .fill) (s .bytes .now) x (y ++ z) (pre .0), pre .1)
+    let w = slots.host (s .m) (s .text .now) (s .r .now) in
+    (omega arith, first-fits (s .fill) (s .bytes .now) x (y ++ (z ++ w)) (start .pre .0), start .pre .1)
 
 move-text-requires-2 : tie.Need-move-text-requires-2
 unfolding backTexts
 move-text-requires-2 c κs =
-    let pre = c .before .before .before .before .before .before .before .before .before .before .before .before .before .pre in
-    let move-text = c .before .before .before .before .before .before .move-text in
-    let s = c .before .before .before .before .before .before .before .before .before .before .before .before .before .args in
+    let at-move-text = c .before .before .before .before .before .before in
+    let start = at-move-text .before .before .before .before .before .before .before in
+    let a = at-move-text .move-text .ensures in
+    let s = start .args in
     let x = slots.type (s .m) (s .text .now) (s .r .now) in
     let y = slots.description (s .m) (s .text .now) (s .r .now) in
-    let z = slots.trace (s .m) (s .text .now) (s .r .now) in (
+    let z = slots.trace (s .m) (s .text .now) (s .r .now) in
+    let w = slots.host (s .m) (s .text .now) (s .r .now) in (
       omega arith,
-      middle-fits (s .fill) (s .bytes .now) x y z (pre .0) (move-text .ensures .0) (move-text .ensures .1 .1),
-      omega (arith, middle-size (s .fill) (s .bytes .now) x y z (pre .0) (move-text .ensures .0) (move-text .ensures .1 .1), pre .1),
+      middle-fits (s .fill) (s .bytes .now) x y (z ++ w) (start .pre .0) (a .0) (a .1 .1),
+      omega (arith, middle-size (s .fill) (s .bytes .now) x y (z ++ w) (start .pre .0) (a .0) (a .1 .1), start .pre .1),
     )
 
 move-text-requires-3 : tie.Need-move-text-requires-3
 unfolding backTexts
 move-text-requires-3 c κs =
-    let pre = c .before .before .before .before .before .before .before .before .before .before .before .before .before .before .before .before .before .before .before .before .pre in
-    let move-text = c .before .before .before .before .before .before .before .before .before .before .before .before .before .move-text in
-    let move-text2 = c .before .before .before .before .before .before .move-text2 in
-    let s = c .before .before .before .before .before .before .before .before .before .before .before .before .before .before .before .before .before .before .before .before .args in
+    let at-move-text2 = c .before .before .before .before .before .before in
+    let at-move-text = at-move-text2 .before .before .before .before .before .before .before in
+    let start = at-move-text .before .before .before .before .before .before .before in
+    let a = at-move-text .move-text .ensures in
+    let b = at-move-text2 .move-text2 .ensures in
+    let s = start .args in
     let x = slots.type (s .m) (s .text .now) (s .r .now) in
     let y = slots.description (s .m) (s .text .now) (s .r .now) in
-    let z = slots.trace (s .m) (s .text .now) (s .r .now) in (
+    let z = slots.trace (s .m) (s .text .now) (s .r .now) in
+    let w = slots.host (s .m) (s .text .now) (s .r .now) in (
       omega arith,
-      third-fits (s .fill) (s .bytes .now) x y z (pre .0) (move-text .ensures .0) (move-text .ensures .1 .1) (move-text2 .ensures .0) (move-text2 .ensures .1 .1),
-      omega (arith, third-size (s .fill) (s .bytes .now) x y z (pre .0) (move-text .ensures .0) (move-text .ensures .1 .1) (move-text2 .ensures .1 .1), pre .1),
+      of-four-fits (s .fill) (s .bytes .now) x y z w (start .pre .0) (a .0) (a .1 .1) (b .0) (b .1 .1),
+      omega (arith, third-size (s .fill) (s .bytes .now) x y (z ++ w) (start .pre .0) (a .0) (a .1 .1) (b .1 .1), start .pre .1),
+    )
+
+move-text-requires-4 : tie.Need-move-text-requires-4
+unfolding backTexts
+move-text-requires-4 c κs =
+    let at-move-text3 = c .before .before .before .before .before .before in
+    let at-move-text2 = at-move-text3 .before .before .before .before .before .before .before in
+    let at-move-text = at-move-text2 .before .before .before .before .before .before .before in
+    let start = at-move-text .before .before .before .before .before .before .before in
+    let a = at-move-text .move-text .ensures in
+    let b = at-move-text2 .move-text2 .ensures in
+    let d = at-move-text3 .move-text3 .ensures in
+    let s = start .args in
+    let x = slots.type (s .m) (s .text .now) (s .r .now) in
+    let y = slots.description (s .m) (s .text .now) (s .r .now) in
+    let z = slots.trace (s .m) (s .text .now) (s .r .now) in
+    let w = slots.host (s .m) (s .text .now) (s .r .now) in (
+      omega arith,
+      fourth-fits (s .fill) (s .bytes .now) x y z w (start .pre .0) (a .0) (a .1 .1) (b .0) (b .1 .1) (d .0) (d .1 .1),
+      omega (arith, fourth-size (s .fill) (s .bytes .now) x y z w (start .pre .0) (a .0) (a .1 .1) (b .0) (b .1 .1) (d .1 .1), start .pre .1),
     )
 
 same-length : tie.Need-same-length
@@ -56,20 +82,24 @@ same-length-2 c = search needs
 returns : tie.Need-returns
 unfolding backTexts
 returns c =
-    let at-move-text = c .before .before .before .before .before .before .before .before .before .before .before .before .before .before .before .before .before .before in
+    let at-move-text4 = c .before .before .before .before in
+    let at-move-text3 = at-move-text4 .before .before .before .before .before .before .before in
+    let at-move-text2 = at-move-text3 .before .before .before .before .before .before .before in
+    let at-move-text = at-move-text2 .before .before .before .before .before .before .before in
     let start = at-move-text .before .before .before .before .before .before .before in
-    let move-text2 = c .before .before .before .before .before .before .before .before .before .before .before .move-text2 in
-    let move-text3 = c .before .before .before .before .move-text3 in
+    let a = at-move-text .move-text .ensures in
+    let b = at-move-text2 .move-text2 .ensures in
+    let d = at-move-text3 .move-text3 .ensures in
+    let e = at-move-text4 .move-text4 .ensures in
     let s = start .args in
     let x = slots.type (s .m) (s .text .now) (s .r .now) in
     let y = slots.description (s .m) (s .text .now) (s .r .now) in
-    let z = slots.trace (s .m) (s .text .now) (s .r .now) in (
-      three-size (s .fill) (s .bytes .now) x y z (start .pre .0) (at-move-text .move-text .ensures .0) (at-move-text .move-text .ensures .1 .1) (move-text2 .ensures .0) (move-text3 .ensures .0),
+    let z = slots.trace (s .m) (s .text .now) (s .r .now) in
+    let w = slots.host (s .m) (s .text .now) (s .r .now) in (
+      four-size (s .fill) (s .bytes .now) x y z w (start .pre .0) (a .0) (a .1 .1) (b .0) (b .1 .1) (d .0) (e .0),
       (
-        back-rows (s .m) (s .text .now) (s .r .now) (s .fill) (s .row .now) (at-move-text .move-text .ensures .0)
-            (move-text2 .ensures .0) (at-move-text .move-text .ensures .1 .0) (move-text2 .ensures .1 .0) (move-text3 .ensures .1 .0),
-        three (s .fill) (s .bytes .now) x y z (start .pre .0) (at-move-text .move-text .ensures .0)
-            (at-move-text .move-text .ensures .1 .1) (move-text2 .ensures .0) (move-text2 .ensures .1 .1) (move-text3 .ensures .1 .1),
+        back-rows (s .m) (s .text .now) (s .r .now) (s .fill) (s .row .now) (a .0) (b .0) (d .0) (a .1 .0) (b .1 .0) (d .1 .0) (e .1 .0),
+        four (s .fill) (s .bytes .now) x y z w (start .pre .0) (a .0) (a .1 .1) (b .0) (b .1 .1) (d .0) (d .1 .1) (e .1 .1),
       ),
     )
 
@@ -80,6 +110,7 @@ move-back-spec =
     move-text-requires
     move-text-requires-2
     move-text-requires-3
+    move-text-requires-4
     same-length
     same-length-2
     returns)

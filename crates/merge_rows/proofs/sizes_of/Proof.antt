@@ -45,18 +45,27 @@ size-at-requires-6 c κs = search needs
 add-result-5 : tie.Need-add-result-5
 add-result-5 c = search needs
 
+size-at-requires-7 : tie.Need-size-at-requires-7
+size-at-requires-7 c κs = search needs
+
+add-result-6 : tie.Need-add-result-6
+add-result-6 c = search needs
+
 returns : tie.Need-returns
 returns c =
-    let args = c .before .before .before .before .before .before .before .before .before .args in
-    let field = c .before .before .before .before .before .before .before .field in
-    let text-bits = c .before .before .before .before .before .before .text-bits in
-    let a = c .before .before .before .before .before .size-at .ensures in
-    let b = c .before .before .before .before .size-at2 .ensures in
-    let d = c .before .before .before .size-at3 .ensures in
-    let e = c .before .before .size-at4 .ensures in
-    let f = c .before .size-at5 .ensures in
-    let g = c .size-at6 .ensures in
-    (sizes-added (args .r .now) (text-bits .ensures ∙ ap textBits (field .ensures)) (a .0) (b .0) (d .0) (e .0) (f .0) (g .0), omega (arith, a .1, b .1, d .1, e .1, f .1, g .1))
+    let args = c .before .before .before .before .before .before .before .before .before .before .args in
+    let field = c .before .before .before .before .before .before .before .before .field in
+    let text-bits = c .before .before .before .before .before .before .before .text-bits in
+    let a = c .before .before .before .before .before .before .size-at .ensures in
+    let b = c .before .before .before .before .before .size-at2 .ensures in
+    let d = c .before .before .before .before .size-at3 .ensures in
+    let e = c .before .before .before .size-at4 .ensures in
+    let f = c .before .before .size-at5 .ensures in
+    let g = c .before .size-at6 .ensures in
+    let h = c .size-at7 .ensures in (
+      sizes-added (args .r .now) (text-bits .ensures ∙ ap textBits (field .ensures)) (a .0) (b .0) (d .0) (e .0) (f .0) (g .0) (h .0),
+      omega (arith, a .1, b .1, d .1, e .1, f .1, g .1, h .1),
+    )
 
 pub sizes-of-spec : {M : Type 1} → statement M
 sizes-of-spec =
@@ -75,4 +84,6 @@ sizes-of-spec =
     add-result-4
     size-at-requires-6
     add-result-5
+    size-at-requires-7
+    add-result-6
     returns)

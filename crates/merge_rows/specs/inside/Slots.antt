@@ -11,7 +11,7 @@ use Rattle.tree_record.specs.Record as words
 -- the values of the presence bits that tell of texts, added
 unfoldable pub textBits : ℕ → ℕ
 textBits k =
-    cond (eqb k kind.suite) 7
+    cond (eqb k kind.suite) 1031
     (cond (eqb k kind.case) 39
     (cond (leb k kind.caseProperty) 3
     (cond (leb k kind.skipped) 97
@@ -31,7 +31,7 @@ sizeAt isSlot k o r = cond (hasText isSlot k r) (getD r (o + 1) 0) 0
 unfoldable pub startAt : Bool → ℕ → ℕ → (r : List ℕ) → ℕ → (s : List ℕ) → List ℕ
 startAt isSlot k o r fill s = cond (hasText isSlot k r) (set s o fill) s
 
--- ---- three before the times, three behind them
+-- ---- three before the times, four behind them
 module _ (m : ℕ) (texts : List ℕ) where
   abbrev pub name : List ℕ → List ℕ
   name r = textAt (eqb (m % 2) 1) 0 2 texts r
@@ -51,11 +51,14 @@ module _ (m : ℕ) (texts : List ℕ) where
   abbrev pub trace : List ℕ → List ℕ
   trace r = textAt (eqb (m / 128 % 2) 1) 7 22 texts r
 
+  abbrev pub host : List ℕ → List ℕ
+  host r = textAt (eqb (m / 1024 % 2) 1) 10 28 texts r
+
   unfoldable pub frontTexts : List ℕ → List ℕ
   frontTexts r = name r ++ (out r ++ err r)
 
   unfoldable pub backTexts : List ℕ → List ℕ
-  backTexts r = type r ++ (description r ++ trace r)
+  backTexts r = type r ++ (description r ++ (trace r ++ host r))
 
   unfoldable pub frontMoved : ℕ → (r s : List ℕ) → List ℕ
   frontMoved fill r s =
@@ -66,8 +69,9 @@ module _ (m : ℕ) (texts : List ℕ) where
   unfoldable pub backMoved : ℕ → (r s : List ℕ) → List ℕ
   backMoved fill r s =
       let a = fill + length (type r) in
-      startAt (eqb (m / 128 % 2) 1) 7 22 r (a + length (description r))
-      (startAt (eqb (m / 64 % 2) 1) 6 20 r a (startAt (eqb (m / 32 % 2) 1) 5 18 r fill s))
+      let b = a + length (description r) in
+      startAt (eqb (m / 1024 % 2) 1) 10 28 r (b + length (trace r))
+      (startAt (eqb (m / 128 % 2) 1) 7 22 r b (startAt (eqb (m / 64 % 2) 1) 6 20 r a (startAt (eqb (m / 32 % 2) 1) 5 18 r fill s)))
 
 -- ---- a record
 unfoldable pub rowTexts : (texts r : List ℕ) → List ℕ
@@ -83,3 +87,4 @@ sizesOf r =
     let m = textBits (kindOf r) in
     sizeAt (eqb (m % 2) 1) 0 2 r + sizeAt (eqb (m / 2 % 2) 1) 1 4 r + sizeAt (eqb (m / 4 % 2) 1) 2 6 r
     + sizeAt (eqb (m / 32 % 2) 1) 5 18 r + sizeAt (eqb (m / 64 % 2) 1) 6 20 r + sizeAt (eqb (m / 128 % 2) 1) 7 22 r
+    + sizeAt (eqb (m / 1024 % 2) 1) 10 28 r
