@@ -40,6 +40,10 @@ named = record { words = 1 ∷ 3 ∷ 0 ∷ 2 ∷ 5 ∷ 6 ∷ 7 ∷ 8 ∷ (zeros 
 abbrev shared : Tree
 shared = record { words = 1 ∷ (zeros 31 ++ (2 ∷ 3 ∷ 0 ∷ 1 ∷ 0 ∷ 1 ∷ zeros 26)); text = 99 ∷ [] }
 
+-- a suite with a name and a hostname
+abbrev hosted : Tree
+hosted = record { words = 1 ∷ (zeros 31 ++ (2 ∷ 1025 ∷ 0 ∷ 1 ∷ (zeros 24 ++ (1 ∷ 1 ∷ zeros 2)))); text = 99 ∷ 100 ∷ [] }
+
 abbrev room : ℕ → ℕ → Room
 room words bytes = record { words = words; bytes = bytes }
 
@@ -84,6 +88,13 @@ areas =
       shared,
       room 64 4,
       record { words = 1 ∷ 1 ∷ 0 ∷ 2 ∷ (zeros 28 ++ (2 ∷ 3 ∷ 2 ∷ 1 ∷ 3 ∷ 1 ∷ zeros 26)); text = 97 ∷ 98 ∷ 99 ∷ 99 ∷ [] },
+    )
+    -- a hostname moves with its suite
+    ∷ (
+      named,
+      hosted,
+      room 64 4,
+      record { words = 1 ∷ 1 ∷ 0 ∷ 2 ∷ (zeros 28 ++ (2 ∷ 1025 ∷ 2 ∷ 1 ∷ (zeros 24 ++ (3 ∷ 1 ∷ zeros 2)))); text = 97 ∷ 98 ∷ 99 ∷ 100 ∷ [] },
     )
     -- a missing name stays missing
     ∷ (shared, named, room 64 2, record { words = 1 ∷ (zeros 31 ++ (2 ∷ 3 ∷ 0 ∷ 1 ∷ 1 ∷ 1 ∷ zeros 26)); text = 99 ∷ 99 ∷ [] })
