@@ -2,7 +2,7 @@
 use crate::{
     calls,
     explain::Sentences,
-    merging::{merged, Tree},
+    merging::{joined, merged, Tree},
     random::Random,
     reference::{self, Outcome, Read, Refused},
     report::{fields, is_plain, listing, starts, tree_fields, written},
@@ -431,8 +431,7 @@ impl Bench {
                 let zero = is_zero(&records[want.records.len()..]) && is_clear(&text[want.text.len()..]);
                 check(same && zero, || "the merged tree".into())?;
                 hit!("J11", "a listing of what was merged");
-                let mut out = vec![7; 40_000 + 20 * want.text.len() + 200 * want.records.len()];
-                check(sys::list(&records, &text, &mut out).refusal.number == 0, || "the merged tree isn't listed".into())?;
+                one_behind_other(&first, &second, &want)?;
             }
             Err((number, cause)) => {
                 if number == 17 || number == 22 {
@@ -789,4 +788,26 @@ fn count_written(t: &crate::table::Table) {
             }
         }
     }
+}
+
+// The merged tree's listing and document: the new report's own line, then the suites of both.
+fn one_behind_other(first: &Tree, second: &Tree, made: &Tree) -> Compared {
+    let head = Tree { records: made.records[..32].to_vec(), text: made.text.clone() };
+    let room = |t: &Tree| vec![7; 4_000 + 10 * t.text.len() + 30 * t.records.len()];
+    let listing = |t: &Tree| {
+        let mut out = room(t);
+        let got = sys::list(&t.records, &t.text, &mut out);
+        out.truncate(got.length);
+        check(accepted(&got.refusal), || "one of the trees that are merged isn't listed".into()).map(|_| out)
+    };
+    let document = |t: &Tree| {
+        let mut out = room(t);
+        let got = sys::write_xml(&t.records, &t.text, &mut out);
+        out.truncate(got.length);
+        check(accepted(&got.refusal), || "one of the trees that are merged isn't written".into()).map(|_| out)
+    };
+    let want = joined(&listing(&head)?, &listing(first)?, &listing(second)?, b"\n(suite ", b")\n");
+    check(listing(made)? == want, || "the merged tree's listing".into())?;
+    let want = joined(&document(&head)?, &document(first)?, &document(second)?, b"\n    <testsuite ", b"\n</testsuites>\n");
+    check(document(made)? == want, || "the merged tree's document".into())
 }

@@ -15,7 +15,7 @@ const TIME: u128 = 8_388_608_000_000_000;
 fn texts(kind: u32) -> &'static [(u32, usize)] {
     match kind {
         1 => &[(0, 2)],
-        2 => &[(0, 2), (1, 4), (2, 6)],
+        2 => &[(0, 2), (1, 4), (2, 6), (10, 28)],
         3 => &[(0, 2), (1, 4), (2, 6), (5, 18)],
         4 | 5 | 13 | 14 => &[(0, 2), (1, 4)],
         6..=8 => &[(0, 2), (5, 18), (6, 20)],
@@ -107,4 +107,14 @@ pub fn merged(first: &Tree, second: &Tree, words: usize, bytes: usize) -> Result
     }
     hit!("J10", "both fit");
     Ok(made)
+}
+
+/// A listing or document of two reports as one: `head` is that of the new report without suites, `a` and `b` those of the two; `start` begins
+/// the first suite, `end` stands behind the last one.
+pub fn joined(head: &[u8], a: &[u8], b: &[u8], start: &[u8], end: &[u8]) -> Vec<u8> {
+    let suites = |all: &'_ [u8]| {
+        let last = all.len() - end.len();
+        all[all.windows(start.len()).position(|w| w == start).unwrap_or(last)..last].to_vec()
+    };
+    [&head[..head.len() - end.len()], &suites(a), &suites(b), end].concat()
 }
