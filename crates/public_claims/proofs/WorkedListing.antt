@@ -117,7 +117,7 @@ unfolding publicText publicReport nodesRead publicRun publicStep ending acting p
     keys unsigned digit renderPublic header suiteText caseText runText letter listed decimal places timeText thousandthsOf floatSum add sum div ofInt round units odd size span climb trailingZeros
 worked-public = refl
 
--- eleven keys are public (rule L1), the other three that reading knows aren't
+-- eleven keys are public (rule L1), the other four that reading knows aren't
 pub public-keys : map isPublicKey keys ≡ replicate 11 true ++ replicate 4 false
 unfolding keys codeFrom sameBytes
 public-keys = refl

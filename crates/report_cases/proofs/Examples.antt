@@ -637,7 +637,8 @@ examples = list-replaced ∷ empty-list-replaces ∷ case-list ∷ outputs-repla
     ∷ unnamed-suite ∷ unnamed-case ∷ mark-first ∷ repeated ∷ bad-time ∷ room-kept ∷ room-enough ∷ replaced-extra-room ∷ extra-room ∷ scratch-apart ∷ scratch-behind
     ∷ bad-disabled ∷ bad-assertions ∷ bad-value ∷ bad-type ∷ bad-timestamp ∷ bad-extra ∷ bad-extra-key
     ∷ decoded ∷ no-value ∷ status-extra ∷ extra-record ∷ record-first ∷ run-moment ∷ suites-in-order ∷ output-room ∷ name-first
-    ∷ whole-report ∷ whole-suite ∷ host-beside ∷ host-elsewhere ∷ bad-host ∷ host-room ∷ no-host-room ∷ late-suite-parts ∷ whole-case ∷ whole-run ∷ whole-main ∷ main-output ∷ main-first ∷ filtered-description ∷ bad-report-timestamp
+    ∷ whole-report ∷ whole-suite ∷ host-beside ∷ host-elsewhere ∷ bad-host ∷ host-room ∷ no-host-room
+    ∷ late-suite-parts ∷ whole-case ∷ whole-run ∷ whole-main ∷ main-output ∷ main-first ∷ filtered-description ∷ bad-report-timestamp
     ∷ bad-report-time ∷ bad-key ∷ bad-message ∷ named-status ∷ key-first ∷ extra-path ∷ repeated-later ∷ second-extra ∷ decoded-room ∷ description-room
     ∷ pieces-shared ∷ scratch-back ∷ faulty-second ∷ behind-text ∷ text-outside ∷ unclosed ∷ closed ∷ fault-behind ∷ []
 
@@ -656,5 +657,5 @@ examples-hold =
     (one refl (one refl (one refl (one refl (one refl (one refl (one refl (one refl (one refl (one refl (one refl (one refl (one refl (one refl (one refl (one refl
     (one refl (one refl (one refl (one refl (one refl (one refl (one refl (one refl (one refl (one refl (one refl (one refl (one refl (one refl (one refl (one refl
     (one refl (one refl (one refl (one refl (one refl (one refl (one refl (one refl (one refl (one refl (one refl (one refl (one refl (one refl (one refl (one refl
-    (one refl (one refl (one refl (one refl (one refl (one refl (one refl (one refl (one refl
-    (one refl (one refl (one refl (one refl (one refl (one refl (one refl (one refl (one refl (one refl (one refl none-left)))))))))))))))))))))))))))))))))))))))))))))))))))))))))))))))))))))))))))))))))))
+    (one refl (one refl (one refl (one refl (one refl (one refl (one refl (one refl (one refl (one refl (one refl (one refl (one refl (one refl
+    (one refl (one refl (one refl (one refl (one refl (one refl none-left)))))))))))))))))))))))))))))))))))))))))))))))))))))))))))))))))))))))))))))))))))
