@@ -1,6 +1,7 @@
 // Pairs of trees that are merged: the words of the new report that a listing doesn't show, which are its presence bits, hour, offset and
 // time, then its listing; or why it is refused, as number, path length, event and attribute. Result areas held other values before.
 use list_input::front;
+use list_values::part_of;
 use lister::list;
 use merger::Merging;
 use merger::merge;
@@ -174,6 +175,26 @@ fn try_rooms(first: &[u32], second: &[u32]) {
     );
 }
 
+// A suite with a hostname, the fourth record of five, with 19 bytes; the listing doesn't show it.
+fn try_host(first: &mut [u32], second: &[u32])
+    requires { ⌜ length (now first) ≡ 128 ⌝ }
+{
+    let mut records = [7u32; 160];
+    let mut text = [7u8; 19];
+    put_text(&mut first[64..], word::HOSTNAME, bit::HOSTNAME, 0, 5);
+    try_merge(
+        b"a hostname:",
+        second,
+        b"latefield",
+        first,
+        b"nightlab",
+        &mut records,
+        &mut text,
+    );
+    say(part_of(&text, field(&records, 124), field(&records, 125)));
+    say(b"\n");
+}
+
 // 10:00+01:00 and 09:00Z are one instant.
 fn try_hours(first: &mut [u32], second: &mut [u32]) {
     try_wide(b"one timestamp:", first, b"nightlab", second, b"latefield");
@@ -243,6 +264,7 @@ fn try_all(first: &mut [u32], second: &mut [u32])
     put_half(first, 5, 3);
     put_half(second, 4, 5);
     try_rooms(first, second);
+    try_host(first, second);
     try_bare(first);
     try_timed(first, second);
 }
