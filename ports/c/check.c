@@ -748,6 +748,19 @@ static void merging(void)
     expect(r.number == KERZHOMA_REFUSED_LAYOUT, "no second report");
 }
 
+/* ---- the `testcase` tags of a table ---- */
+
+static void case_tags(void)
+{
+    static const uint8_t source[] = "testcasetestcases";
+    /* an Empty, a Start, an End, a longer name, bytes behind the source, and a word too many */
+    static const uint32_t events[] = { 1, 0, 8, 0, 0, 0, 8, 8, 9, 9, 2, 0, 8, 0, 0, 1, 8, 9, 0, 0, 1, 17, 8, 0, 0, 1 };
+    for (size_t n = 0; n <= 26; n++)
+        expect(kerzhoma_case_tags(events, n, source, 17) == (n < 5 ? 0u : n < 10 ? 1u : 2u), "testcase tags of a table");
+    expect(kerzhoma_case_tags(events, 25, source, 16) == 3 && kerzhoma_case_tags(events, 25, source, 15) == 1, "of a source that is cut off");
+    expect(kerzhoma_case_tags(NULL, 0, NULL, 0) == 0, "testcase tags of no table");
+}
+
 /* ---- documents ---- */
 
 static const char document[] =
@@ -841,7 +854,8 @@ int main(int argc, char **argv)
         once();
         orders();
         first_and_last();
-    merging();
+        merging();
+        case_tags();
         documents();
     } else {
         fprintf(stderr, "usage: check | check tell | check rooms FILE..\n");

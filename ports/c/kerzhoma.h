@@ -265,6 +265,13 @@ size_t kerzhoma_list_xml(
     uint8_t *scratch, size_t scratch_length,
     uint8_t *out, size_t out_length);
 
+/* How many Starts and Empties named `testcase` a table's events have, wherever they stand. The report that kerzhoma_read gives of the
+ * table has no more cases: the others stand inside nested suites, under unknown elements or outside a suite, and are passed over.
+ * Attributes aren't looked at. Never refuses: words behind the last whole event don't count, and bytes outside the source are none. */
+size_t kerzhoma_case_tags(
+    const uint32_t *events, size_t events_length,
+    const uint8_t *source, size_t source_length);
+
 /* ---- writing ---- */
 
 /* How many events, attributes and bytes were put (five words for each event and attribute); all 0 where the call refuses. */

@@ -6,3 +6,4 @@ mod run;
 mod setting;
 mod sheets;
 mod tables;
+mod cases;

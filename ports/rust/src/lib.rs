@@ -34,6 +34,7 @@ mod calls;
 mod document;
 pub mod input;
 pub mod limits;
+mod passed;
 mod place;
 mod refusal;
 pub mod report;
@@ -51,6 +52,7 @@ pub use calls::{
     write, write_into, write_xml, Order,
 };
 pub use document::{explain_xml, list_xml, read_and_list_xml, tokenize, tokenize_into, DocumentRefusal, XmlRefusal};
+pub use passed::CaseTags;
 pub use place::Place;
 pub use refusal::{Cause, PathElement, Refusal};
 pub use sheet::{print_sheet, print_sheet_into, release_sheet, Sheet};

@@ -258,6 +258,7 @@ extern "C" {
         builder: Builder, records: *mut u32, records_len: usize, text: *mut u8, text_len: usize, family: u32,
     ) -> Built;
     fn kerzhoma_finish_report(builder: Builder, records: *mut u32, records_len: usize, text: *mut u8, text_len: usize) -> Built;
+    fn kerzhoma_case_tags(events: *const u32, events_len: usize, source: *const u8, source_len: usize) -> usize;
 }
 
 pub fn tokenize(source: &[u8], events: &mut [u32], attributes: &mut [u32]) -> Tokenized {
@@ -610,4 +611,8 @@ pub fn set_rerun_kind(builder: Builder, records: &mut [u32], text: &mut [u8], fa
 
 pub fn finish_report(builder: Builder, records: &mut [u32], text: &mut [u8]) -> Built {
     unsafe { kerzhoma_finish_report(builder, records.as_mut_ptr(), records.len(), text.as_mut_ptr(), text.len()) }
+}
+
+pub fn case_tags(events: &[u32], source: &[u8]) -> usize {
+    unsafe { kerzhoma_case_tags(events.as_ptr(), events.len(), source.as_ptr(), source.len()) }
 }

@@ -591,6 +591,36 @@ fn several_files() {
     assert_eq!((ran.status, text(&ran), ran.err.as_str()), (0, &*summary, ""));
 }
 
+// Cases that the rules pass over are told of, and nothing else changes.
+#[test]
+fn cases_that_are_left_out() {
+    let nested = "<testsuites><testcase name=\"private\"/><testsuite name=\"s\"><testcase name=\"a\"/><group><testcase name=\"b\"/></group>\
+                  <testsuite name=\"t\"><testcase name=\"c\"></testcase><testcase name=\"d\"/></testsuite></testsuite></testsuites>";
+    let path = folder("nested", &[("a.xml", PLAIN), ("b.xml", nested)]);
+    let [a, b] = ["a.xml", "b.xml"].map(|f| path.join(f).to_str().unwrap().to_owned());
+    let told = format!(
+        "kerzhoma: {b}: 4 of 5 testcase elements are not in this report \
+         (they stand inside nested suites, under unknown elements or outside a suite)\n"
+    );
+    let listing = "(report - 0 0 0 0 -\n(suite \"s\" 0 0 0 0 -\n(case \"a\" - - success flaky 0)))\n";
+    let ran = run(&["list", &b], b"");
+    assert_eq!((ran.status, text(&ran), &*ran.err), (0, listing, &*told));
+    for (arguments, status, err) in [
+        (&["check", &*b][..], 0, &*told),
+        (&["check", "--all-cases", &b], 1, &told),
+        (&["check", "--all-cases", "-q", &b], 1, ""),
+        (&["check", "--all-cases", "--failed", &b, "-q", &a], 1, ""),
+        (&["check", "--all-cases", &a], 0, ""),
+        (&["list", "-q", &b], 0, ""),
+    ] {
+        let ran = run(arguments, b"");
+        assert_eq!((ran.status, &*ran.err), (status, err), "{arguments:?}");
+    }
+    assert_eq!(run(&["list", "--all-cases", &b], b"").status, 2);
+    // a table of any words and bytes has some number of them
+    assert_eq!(kerzhoma::Table::new(&[1, 0, 8, 0, 0, 1, 0, 9, 7, 7, 0, 1], &[], b"testcase").case_tags(), 2);
+}
+
 #[test]
 fn objects() {
     let path = folder("objects", &[("a.xml", PLAIN), ("b.xml", BAD)]);

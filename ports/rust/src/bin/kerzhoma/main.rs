@@ -11,8 +11,8 @@ mod table;
 mod why;
 
 use json::Object;
-use kerzhoma::{merge, print_sheet, read, read_and_list, rehearse, starts, to_xml, write};
-use kerzhoma::{Areas, Counts, NonSuccessKind, Order, Refusal, Status, Table, TableBuf, Tree};
+use kerzhoma::{list, merge, print_sheet, read, rehearse, starts, to_xml, write};
+use kerzhoma::{Areas, CaseTags, Counts, NonSuccessKind, Order, Refusal, Status, TableBuf, Tree};
 use out::{say, Failed, Out};
 use parse::{parse, Asked, Parsed};
 use report::{files, load, Loaded, Unusable, Why};
@@ -229,9 +229,14 @@ impl Work {
     fn list(&mut self, loaded: &Loaded, table: &TableBuf) -> Result<Done, Refusal> {
         let table = table.as_table();
         // no tree is left while the listing goes out
-        let listing = read_and_list(&table, &mut Areas::for_table(&table))?;
-        self.tell_left_out(loaded, &table);
-        Ok(self.headed(&loaded.name, &listing))
+        let (listing, counted) = {
+            let mut areas = Areas::for_table(&table);
+            let tree = read(&table, &mut areas)?;
+            (list(&tree)?, CaseTags::of(&table, &tree))
+        };
+        let done = self.headed(&loaded.name, &listing);
+        self.tell_left_out(loaded, counted);
+        Ok(done)
     }
 
     fn check(&mut self, loaded: &Loaded, table: &TableBuf) -> Result<Done, Refusal> {
@@ -243,7 +248,7 @@ impl Work {
             self.worse(FAILED_CASES);
             self.say(&format!("{}: {} failed, {} with errors", loaded.name, cases.failures, cases.errors));
         }
-        self.tell_left_out(loaded, &table);
+        self.tell_left_out(loaded, CaseTags::of(&table, &tree));
         if self.asked.has("json") {
             return Ok(self.accepted_object(loaded, tree.counts(), cases));
         }
@@ -274,7 +279,7 @@ impl Work {
         let mut areas = Areas::for_table(&table);
         let tree = read(&table, &mut areas)?;
         let (stated, cases) = (tree.counts(), cases_of(&tree));
-        self.tell_left_out(loaded, &table);
+        self.tell_left_out(loaded, CaseTags::of(&table, &tree));
         if self.asked.has("json") {
             return Ok(self.accepted_object(loaded, stated, cases));
         }
@@ -382,24 +387,18 @@ impl Work {
         made.unwrap_or_else(|refusal| self.refuse(&refusal))
     }
 
-    // Tells of `testcase` elements that the rules pass over, once they are counted.
-    fn tell_left_out(&self, loaded: &Loaded, table: &Table<'_>) {
-        if let Some(Uncounted { left_out, all }) = left_out(table).filter(|u| u.left_out > 0) {
-            let where_they_are = "they stand inside nested suites, under unknown elements or outside a suite";
-            self.say(&format!("{}: {left_out} of {all} testcase elements are not in this report ({where_they_are})", loaded.name));
+    // Tells of `testcase` elements that the rules pass over.
+    fn tell_left_out(&mut self, loaded: &Loaded, counted: CaseTags) {
+        if counted.left_out() == 0 {
+            return;
         }
+        if self.asked.has("all-cases") {
+            self.worse(REFUSED);
+        }
+        let where_they_are = "they stand inside nested suites, under unknown elements or outside a suite";
+        let numbers = format!("{} of {}", counted.left_out(), counted.tags);
+        self.say(&format!("{}: {numbers} testcase elements are not in this report ({where_they_are})", loaded.name));
     }
-}
-
-/// How many `testcase` elements a table has, and how many of them are no case of its report.
-struct Uncounted {
-    left_out: u64,
-    all: u64,
-}
-
-// Nothing is told before the library counts them.
-fn left_out(_: &Table<'_>) -> Option<Uncounted> {
-    None
 }
 
 fn four(c: Counts) -> [u64; 4] {

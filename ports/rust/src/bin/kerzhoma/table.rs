@@ -43,6 +43,7 @@ pub const OPTIONS: &[Choice] = &[
     Choice { long: "json", short: None, value: None, what: "write one JSON object a file, each on a line" },
     Choice { long: "why", short: None, value: None, what: "tell names and values, too, where a report is refused" },
     Choice { long: "failed", short: None, value: None, what: "status 3 where a case failed or has an error" },
+    Choice { long: "all-cases", short: None, value: None, what: "status 1 where a testcase element is not in its report" },
     Choice { long: "xml-out", short: None, value: None, what: "write an XML document, whatever the name of FILE" },
     Choice { long: "table-out", short: None, value: None, what: "write a table of XML events" },
     Choice { long: "help", short: Some('h'), value: None, what: "tell about the command" },
@@ -69,7 +70,7 @@ pub const COMMANDS: &[Command] = &[
             "The exit status tells it; where there are several files, so does a line for each. Why a report is refused is told on standard \
              error, without the report's names and values.",
         ],
-        options: &["output", "quiet", "xml", "table", "json", "failed", "help"],
+        options: &["output", "quiet", "xml", "table", "json", "failed", "all-cases", "help"],
     },
     Command {
         name: "explain",
@@ -157,7 +158,7 @@ pub const PRIVATE: &str =
 
 pub const STATUSES: &[(u8, &str)] = &[
     (0, "every report is accepted"),
-    (1, "a report is refused"),
+    (1, "a report is refused; check --all-cases: or leaves a testcase element out"),
     (2, "bad usage, or input or output that fails"),
     (3, "check --failed: all are accepted, and a case failed or has an error"),
 ];

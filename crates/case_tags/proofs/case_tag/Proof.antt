@@ -1,0 +1,33 @@
+use borrow.Author.Needs.{needs}
+use Rattle.case_tags.proofs.Counting.{no-opening, is-case, no-case}
+use Rattle.case_tags.proofs.case_tag.Statement.{statement}
+use Rattle.case_tags.proofs.case_tag.Tie as tie
+
+kind-at-requires : tie.Need-kind-at-requires
+kind-at-requires c κs = search needs
+
+returns : tie.Need-returns
+returns c = no-opening _ _ _ (c .before .before .before .before .pre) _ (c .before .kind-at .ensures) (c .if1 .taken)
+
+bytes-at-requires : tie.Need-bytes-at-requires
+bytes-at-requires c κs = search needs
+
+tag-of-requires : tie.Need-tag-of-requires
+tag-of-requires c κs = search needs
+
+returns-2 : tie.Need-returns-2
+returns-2 c =
+    let kind-at = c .before .before .before .before .kind-at in
+    let if1 = c .before .before .before .if1 in
+    is-case _ _ _ (c .before .before .before .before .before .before .before .pre) _ (kind-at .ensures) (if1 .left) _ (c .before .before .bytes-at .ensures) _ (c .before .tag-of .ensures) (c .if2 .taken)
+
+returns-3 : tie.Need-returns-3
+returns-3 c =
+    let kind-at = c .before .before .before .before .kind-at in
+    let if1 = c .before .before .before .if1 in
+    no-case _ _ _ (c .before .before .before .before .before .before .before .pre) _ (kind-at .ensures) (if1 .left) _ (c .before .before .bytes-at .ensures) _ (c .before .tag-of .ensures) (c .if2 .left)
+
+pub case-tag-spec : {M : Type 1} → statement M
+case-tag-spec =
+    tie.close
+    (tie.spec kind-at-requires returns bytes-at-requires tag-of-requires returns-2 returns-3)
