@@ -16,8 +16,9 @@ use Rattle.read_element.specs.Outcome.{_>>=_, Place, refusedAt, there, need, Ro
 use Rattle.read_state.specs.Control.{Level, top, suite, case, status, Output, trace, out, err, Mode, at, gathering, listing, skipping, finished, Control}
 use Rattle.read_state.specs.Control.{Act, pass, openReport, openSuite, openCase, openStatus, closeSuite, closeCase, closeStatus, openText, closeText, openList, readProperty, stop, missing, broken}
 use Rattle.read_content.specs.Content.{pieceOf, cleaned, isEmpty}
-use Rattle.read_report.specs.Deserialize.{Used, storing, Taken, aReport, aSuite, aCase, aProperty, aStatus, element, newReport, newStatus, newSuite, newCase, newProperty, onLast, suiteWith, caseWith, onSuite, onCase}
-use Rattle.read_report.specs.Deserialize.{addSuite, addCase, setStatus, statusOf, onProperties, suiteOutput, caseOutput, Draft, draft, withTexts, put, described, describing, perform, joinPiece, own, gather}
+use Rattle.read_report.specs.Deserialize.{Used, storing, Taken, aReport, aSuite, aCase, aProperty, aStatus, element, newReport, newStatus, newSuite, newCase, newProperty}
+use Rattle.read_report.specs.Deserialize.{onLast, suiteWith, caseWith, onSuite, onCase, addSuite, addCase, setStatus, statusOf, onProperties, suiteOutput, caseOutput}
+use Rattle.read_report.specs.Deserialize.{Draft, draft, withTexts, put, described, describing, perform, joinPiece, own, gather}
 use Rattle.case_claims.specs.Cases.{casesIn, casesOf}
 use Rattle.case_claims.proofs.Planned.{opened}
 

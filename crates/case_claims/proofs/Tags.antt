@@ -30,16 +30,22 @@ acts rooms a j xs s n h = upto-bind (performs rooms (actPlace a (s .control .mod
 abbrev here : Reader → Place
 here s = record { path = modePath (s .control .mode) (s .marks); event = s .marks .event; attribute = nowhere }
 
+keeps : (s : Reader) (d : Draft) → draftCases d ≤ readerCases s + 0 → Upto readerCases (readerCases s + 0) (accepted (record { control = s .control; draft = d; marks = onward (s .marks) }))
+keeps s d h = within {a = record { control = s .control; draft = d; marks = onward (s .marks) }} h
+
 stepped : (rooms : Rooms) (e : Event) (s : Reader) → Upto readerCases (readerCases s + caseTag e) (step rooms e s)
 unfolding step caseTag
-stepped rooms (Tag k name j xs) s = acts rooms (planAt (s .control .mode) (s .control .seen) k name) j xs s (caseTag (Tag k name j xs)) (opened-tag name j xs (s .control .mode) (s .control .seen) k)
+stepped rooms (Tag k name j xs) s =
+    acts rooms (planAt (s .control .mode) (s .control .seen) k name) j xs s (caseTag (Tag k name j xs)) (opened-tag name j xs (s .control .mode) (s .control .seen) k)
 stepped rooms (Piece k bytes) s = go (gathers (s .control .mode))
   where
     go : (t : Bool) → Upto readerCases (readerCases s + 0) (cond t (gather rooms (here s) (s .control .mode) k bytes (s .draft)) (accepted (s .draft)) >>= λ d.
         accepted (record { control = s .control; draft = d; marks = onward (s .marks) }))
-    go true = upto-bind (gathered rooms (here s) (s .control .mode) k bytes (s .draft)) λ d l. within {a = record { control = s .control; draft = d; marks = onward (s .marks) }} (omega arith)
-    go false = upto-bind {f = draftCases} {k = draftCases (s .draft)} (within {a = s .draft} (omega arith)) λ d l. within {a = record { control = s .control; draft = d; marks = onward (s .marks) }} (omega arith)
-stepped rooms Eof s = acts rooms (planEof (s .control .mode) (s .control .seen) (s .control .closed)) 0 [] s 0 (let z = opened-eof (s .control .mode) (s .control .seen) (s .control .closed) in omega arith)
+    go true = upto-bind (gathered rooms (here s) (s .control .mode) k bytes (s .draft)) λ d l. keeps s d (omega arith)
+    go false = upto-bind {f = draftCases} {k = draftCases (s .draft)} (within {a = s .draft} (omega arith)) λ d l. keeps s d (omega arith)
+stepped rooms Eof s =
+    let e = opened-eof (s .control .mode) (s .control .seen) (s .control .closed) in
+    acts rooms (planEof (s .control .mode) (s .control .seen) (s .control .closed)) 0 [] s 0 (omega arith)
 stepped rooms Fault s = acts rooms (planFault (s .control .mode)) 0 [] s 0 (let z = opened-fault (s .control .mode) in omega arith)
 
 wider : {A : Type 0} {f : A → ℕ} {n k : ℕ} {m : Outcome A} → Upto f n m → n ≤ k → Upto f k m

@@ -1,4 +1,5 @@
 // The calls for programs in other languages; ports/c/kerzhoma.h declares them for C. A slice arrives as pointer and length.
+mod cases;
 mod counts;
 mod documents;
 mod making;
@@ -6,4 +7,3 @@ mod run;
 mod setting;
 mod sheets;
 mod tables;
-mod cases;
