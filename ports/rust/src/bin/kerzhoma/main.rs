@@ -11,7 +11,7 @@ mod table;
 mod why;
 
 use json::Object;
-use kerzhoma::{list, merge, print_sheet, read, rehearse, starts, to_xml, write};
+use kerzhoma::{merge, print_sheet, read, read_and_list, rehearse, starts, to_xml, write};
 use kerzhoma::{Areas, CaseTags, Counts, NonSuccessKind, Order, Refusal, Status, TableBuf, Tree};
 use out::{say, Failed, Out};
 use parse::{parse, Asked, Parsed};
@@ -229,13 +229,11 @@ impl Work {
     fn list(&mut self, loaded: &Loaded, table: &TableBuf) -> Result<Done, Refusal> {
         let table = table.as_table();
         // no tree is left while the listing goes out
-        let (listing, counted) = {
-            let mut areas = Areas::for_table(&table);
-            let tree = read(&table, &mut areas)?;
-            (list(&tree)?, CaseTags::of(&table, &tree))
-        };
+        let listing = read_and_list(&table, &mut Areas::for_table(&table))?;
         let done = self.headed(&loaded.name, &listing);
-        self.tell_left_out(loaded, counted);
+        // each case has a line of its own
+        let cases = listing.lines().filter(|line| line.starts_with("(case ")).count();
+        self.tell_left_out(loaded, CaseTags { tags: table.case_tags(), cases });
         Ok(done)
     }
 
