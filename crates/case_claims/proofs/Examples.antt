@@ -20,7 +20,7 @@ use Rattle.read_place.specs.Marks.{marksAfter}
 use Rattle.read_report.specs.Deserialize as read
 use Rattle.read_report.specs.Deserialize.{deserialize, deserializeIn}
 use Rattle.case_tags.specs.Tags.{caseTag, caseTags}
-use Rattle.case_claims.specs.Cases.{casesOf, passedOver}
+use Rattle.case_claims.specs.PassedOver.{casesOf, passedOver}
 
 abbrev named : List Attribute
 named = record { good = true; key = bytes "name"; value = bytes "n" } ∷ []

@@ -19,7 +19,7 @@ use Rattle.read_content.specs.Content.{pieceOf, cleaned, isEmpty}
 use Rattle.read_report.specs.Deserialize.{Used, storing, Taken, aReport, aSuite, aCase, aProperty, aStatus, element, newReport, newStatus, newSuite, newCase, newProperty}
 use Rattle.read_report.specs.Deserialize.{onLast, suiteWith, caseWith, onSuite, onCase, addSuite, addCase, setStatus, statusOf, onProperties, suiteOutput, caseOutput}
 use Rattle.read_report.specs.Deserialize.{Draft, draft, withTexts, put, described, describing, perform, joinPiece, own, gather}
-use Rattle.case_claims.specs.Cases.{casesIn, casesOf}
+use Rattle.case_claims.specs.PassedOver.{casesIn, casesOf}
 use Rattle.case_claims.proofs.Planned.{opened}
 
 -- what is accepted has at most n of what f counts

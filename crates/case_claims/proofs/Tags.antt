@@ -15,7 +15,7 @@ use Rattle.read_path.specs.Paths.{modePath, actPlace}
 use Rattle.read_report.specs.Deserialize.{Draft, perform, gather, Reader, act, step, steps, begin, deserializeIn}
 use Rattle.read_report.specs.Answer.{Table, Areas, eventsOf, checked, answerTo}
 use Rattle.case_tags.specs.Tags.{caseTag, caseTags}
-use Rattle.case_claims.specs.Cases.{casesOf, passedOver, CasesFromTags}
+use Rattle.case_claims.specs.PassedOver.{casesOf, passedOver, CasesFromTags}
 use Rattle.case_claims.proofs.Planned.{opened, opened-tag, opened-eof, opened-fault}
 use Rattle.case_claims.proofs.Growing.{Upto, within, stopped, upto-bind, upto-behind, draftCases, performs, gathered}
 
