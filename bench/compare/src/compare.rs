@@ -160,8 +160,9 @@ impl Bench {
         self.tally.tables += 1;
         let mut r = Random::new(how);
         let full = reference::read(input, Areas::limits(), self.changes);
-        if self.changes.hostname && full.result.as_ref().is_ok_and(|_| cleans_to_hostname(input)) {
-            return Ok(());
+        self.case_tags(input)?;
+        if let (true, Ok(read)) = (self.changes.hostname && cleans_to_hostname(input), &full.result) {
+            return self.listing_alone(input, &listing(&read.report), full.used);
         }
         let (areas, words, room) = choose(&mut r, full.used);
         let fits = areas.records >= full.used.records && areas.text >= full.used.text && areas.scratch >= full.used.scratch;
@@ -197,6 +198,28 @@ impl Bench {
                 self.refusing(input, refused, areas, words, &mut r)
             }
         }
+    }
+
+    /// Starts and Empties named `testcase`; of words that no table has, too.
+    fn case_tags(&mut self, input: &Input) -> Compared {
+        let source = &input.table.source;
+        let within = |at: u64| source.len().min(at as usize);
+        let is_tag = |e: &&[u32; 5]| e[0] <= 1 && source[within(e[1] as u64)..within(e[1] as u64 + e[2] as u64)] == *b"testcase";
+        let want = input.table.events.iter().filter(is_tag).count();
+        hit_if!(want > 0, "R21", "testcase tags", "none");
+        check(sys::case_tags(&input.events(), source) == want, || format!("testcase tags: wanted {want}"))
+    }
+
+    /// Where another key is cleaned to `hostname` the trees differ, and the listings don't.
+    fn listing_alone(&mut self, input: &Input, want: &String, used: Areas) -> Compared {
+        let more = input.table.attributes.len() + 1;
+        self.lend(32 * (used.records + more), used.text + input.table.source.len(), used.scratch + input.table.source.len(), 7);
+        self.out.clear();
+        self.out.resize(want.len(), 7);
+        let (events, attributes) = (input.events(), input.attributes());
+        let (records, text, scratch) = (&mut self.records, &mut self.text, &mut self.scratch);
+        let got = sys::read_and_list(&events, &attributes, &input.table.source, records, text, scratch, &mut self.out);
+        self.listed("listing where another key is cleaned to hostname", Some(want), &got.refusal, got.length)
     }
 
     fn reading(&mut self, input: &Input, want: &Outcome, areas: Areas, words: usize, dirt: u8) -> Compared {
