@@ -705,6 +705,12 @@ static inline kerzhoma_string kerzhoma_system_err_of(const uint32_t *record, con
     return kerzhoma_text_at(record, text, has, 2, 6);
 }
 
+/* Of a suite: the machine that it ran on. */
+static inline kerzhoma_string kerzhoma_hostname_of(const uint32_t *record, const uint8_t *text)
+{
+    return kerzhoma_text_at(record, text, record[0] == KERZHOMA_RECORD_SUITE, 10, 28);
+}
+
 /* Whether a report, suite, case or run has a timestamp, which is then put into `moment`. */
 static inline bool kerzhoma_timestamp_of(const uint32_t *record, kerzhoma_moment *moment)
 {

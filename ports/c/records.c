@@ -69,6 +69,7 @@ static void put_record(const uint32_t *record, const uint8_t *text)
     put_text("stack-trace", kerzhoma_stack_trace_of(record, text));
     put_text("system-out", kerzhoma_system_out_of(record, text));
     put_text("system-err", kerzhoma_system_err_of(record, text));
+    put_text("hostname", kerzhoma_hostname_of(record, text));
     if (kerzhoma_uuid_of(record, &uuid))
         printf(" uuid=%08" PRIx32 "%08" PRIx32 "%08" PRIx32 "%08" PRIx32, uuid.words[0], uuid.words[1], uuid.words[2], uuid.words[3]);
     if (kerzhoma_assertions_of(record, &assertions))

@@ -129,6 +129,8 @@ class _Decoding:
         self.times(suite, at, bits)
         self.counts(suite, at, bits)
         self.outputs(suite, at, bits)
+        if bits & 1024:
+            suite.hostname = self.cut(at, 28)
         self.made.suites.append(suite)
         return suite.cases
 

@@ -86,6 +86,7 @@ class _Layout:
         self.put(row, 2, 6, suite.system_err)
         self.times(row, suite.timestamp, suite.time)
         self.counts(row, suite)
+        self.put(row, 10, 28, suite.hostname)
         for key, value in suite.extra.items():
             self.pair(13, key, value)
         for p in suite.properties:

@@ -130,7 +130,9 @@ class TestSuite:
     system_out: Optional[str] = None
     system_err: Optional[str] = None
     extra: Dict[str, str] = field(default_factory=dict)
-    """Other attributes, such as `hostname`."""
+    """Other attributes, such as `package`."""
+    hostname: Optional[str] = None
+    """The machine that it ran on."""
 
     def count(self) -> None:
         """Sets tests, failures, errors and skipped to what its cases come to."""

@@ -62,7 +62,8 @@ def full():
     ]
     suite = TestSuite("lab", disabled=2, timestamp=moment, time=1.0, cases=cases, system_out="so", system_err="se")
     suite.properties.append(Property("env", "x"))
-    suite.extra["hostname"] = "bench-7"
+    suite.extra["package"] = "p"
+    suite.hostname = "bench-7"
     report = Report("r", uuid.UUID(int=7), moment, 2.5, suites=[suite, TestSuite("empty")])
     report.count()
     return report
@@ -126,7 +127,8 @@ def told(report):
     lines[0] += f" uuid={report.uuid.hex}".encode() if report.uuid else b""
     lines[0] += times(report) + counts(report)
     for suite in report.suites:
-        lines.append(b"suite" + text_field("name", suite.name) + outputs(suite) + times(suite) + counts(suite))
+        lines.append(b"suite" + text_field("name", suite.name) + outputs(suite) + text_field("hostname", suite.hostname))
+        lines[-1] += times(suite) + counts(suite)
         lines += pairs(b"suite-extra", suite.extra.items()) + pairs(b"suite-property", properties(suite))
         for case in suite.cases:
             lines += told_case(case)

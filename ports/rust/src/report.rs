@@ -48,3 +48,6 @@ pub use errors::{
 pub use text::{Output, XmlString};
 pub use types::{Report, TestSuite};
 pub use uuid::{ReportKind, ReportUuid};
+
+/// The key of the suite's extra that the library has a field for.
+const HOSTNAME: &str = "hostname";

@@ -225,7 +225,7 @@ impl<'a> Tree<'a> {
             // what the listing shows of the record, and all of its texts
             let (line, all) = match r.kind() {
                 kind::REPORT => (LINE + 2 * len(3), len(3)),
-                kind::SUITE => (LINE + 2 * len(3), len(3) + len(5) + len(7)),
+                kind::SUITE => (LINE + 2 * len(3), len(3) + len(5) + len(7) + len(29)),
                 kind::CASE => (CASE_LINE + 2 * (len(3) + len(19)), len(3) + len(5) + len(7) + len(19)),
                 kind::SUITE_PROPERTY | kind::CASE_PROPERTY | kind::SUITE_EXTRA | kind::CASE_EXTRA => (0, len(3) + len(5)),
                 kind::FAILURE | kind::ERROR | kind::SKIPPED => (0, len(3) + len(19) + len(21)),

@@ -168,7 +168,7 @@ macro_rules! set {
 
 fn rebuild_suite(suite: &Suite<'_>, to: &mut SuiteBuilder<'_, '_>) -> Result<(), Refusal> {
     set!(to, set_timestamp = suite.timestamp(), set_time = suite.time(), set_disabled = suite.counts().disabled);
-    set!(to, set_system_out = suite.system_out(), set_system_err_lossy = suite.system_err());
+    set!(to, set_system_out = suite.system_out(), set_system_err_lossy = suite.system_err(), set_hostname = suite.hostname());
     for (key, value) in suite.extras() {
         to.add_extra(key, value)?;
     }

@@ -82,6 +82,7 @@ fn by_iterators(tree: &Tree<'_>) -> Report {
         owned_suite.time = suite.time();
         owned_suite.system_out = owned(suite.system_out());
         owned_suite.system_err = owned(suite.system_err());
+        owned_suite.extra.extend(suite.hostname().map(|s| ("hostname".into(), s.into())));
         owned_suite.extra.extend(suite.extras().map(|(k, v)| (k.into(), v.into())));
         owned_suite.add_properties(suite.properties().map(|p| Property::new(p.name, p.value)));
         owned_suite.test_cases.extend(suite.cases().map(case_of));
@@ -117,9 +118,11 @@ fn stored_trees_decoded_and_laid_out() {
         assert_eq!(report, by_iterators(&tree));
         let layout = report.layout().unwrap();
         assert_eq!(list(&layout.tree()), list(&tree));
-        assert_eq!(write(&layout.tree()), write(&tree));
-        assert_eq!(report.to_string().unwrap(), to_xml(&tree).unwrap());
         assert_eq!(Report::from(&layout.tree()), report);
+        if !has_equal_extras(&tree) {
+            assert_eq!(write(&layout.tree()), write(&tree));
+            assert_eq!(report.to_string().unwrap(), to_xml(&tree).unwrap());
+        }
         seen += 1;
     }
     assert!(seen > 180, "{seen}");
@@ -145,7 +148,7 @@ fn documents_come_back_equal() {
         let owned = owned.unwrap();
         assert_eq!(owned, Report::from(&tree));
         let written = owned.to_string().unwrap();
-        assert_eq!(written, to_xml(&tree).unwrap());
+        assert!(has_equal_extras(&tree) || written == to_xml(&tree).unwrap());
         let again = match Report::deserialize_from_str(&written) {
             Ok(again) => again,
             // an extra's key that is no name, or a character that XML doesn't have
@@ -165,12 +168,14 @@ fn documents_come_back_equal() {
     assert!(accepted > 140 && refused > 0, "{accepted} {refused}");
 }
 
+// Whether owned values tell less than the tree, or in another order: extras with one key, or a suite's extra `hostname`.
 fn has_equal_extras(tree: &Tree<'_>) -> bool {
     let twice = |extras: Extras<'_>| {
         let keys: Vec<&str> = extras.map(|(k, _)| k).collect();
         keys.iter().enumerate().any(|(i, k)| keys[..i].contains(k))
     };
-    tree.suites().any(|s| twice(s.extras()) || s.cases().any(|c| twice(c.extras())))
+    let named = |mut extras: Extras<'_>| extras.any(|(k, _)| k == "hostname");
+    tree.suites().any(|s| twice(s.extras()) || named(s.extras()) || s.cases().any(|c| twice(c.extras())))
 }
 
 // Layouts that reading doesn't leave: words of the stored ones are changed, and what is still a layout is decoded.
@@ -258,6 +263,28 @@ fn many_extras() {
     let extra = &report.test_suites[0].extra;
     assert_eq!((extra.len(), extra["k59999"].as_str(), extra.get_index_of("k123")), (60_000, "v", Some(123)));
     assert_eq!(report.clone(), report);
+}
+
+// A suite's `hostname` is a field of the tree, and the first extra of the owned suite. Areas for writing and merging count its bytes.
+#[test]
+fn a_suites_hostname() {
+    let host = "h<".repeat(5_000);
+    let mut report = Report::new("r");
+    let mut suite = TestSuite::new("s");
+    suite.extra.extend([("package".into(), "p".into()), ("hostname".into(), XmlString::new(&host))]);
+    report.add_test_suite(suite);
+    let layout = report.layout().unwrap();
+    let tree = layout.tree();
+    let told: Vec<_> = tree.suites().map(|s| (s.hostname(), s.extras().collect::<Vec<_>>())).collect();
+    assert_eq!(told, [(Some(host.as_str()), vec![("package", "p")])]);
+
+    let again = Report::deserialize_from_str(&report.to_string().unwrap()).unwrap();
+    assert_eq!(again, report);
+    assert_eq!(again.test_suites[0].extra.keys().map(|k| k.as_str()).collect::<Vec<_>>(), ["hostname", "package"]);
+    let mut areas = Areas::for_merging(&tree, &tree);
+    let merged = merge(&tree, &tree, &mut areas).unwrap();
+    assert!(merged.suites().all(|s| s.hostname() == Some(&host)));
+    assert_eq!(merged.suites().count(), 2);
 }
 
 #[test]

@@ -6,7 +6,7 @@ use super::chrono::{DateTime, FixedOffset};
 use super::indexmap::IndexMap;
 use super::uuid::{ReportUuid, Uuid};
 use super::{DeserializeError, DeserializeErrorKind, NonSuccessReruns, Property, Report, TestCase, TestCaseStatus, TestRerun};
-use super::{FlakyOrRerun, NonSuccessKind, TestSuite, XmlString};
+use super::{FlakyOrRerun, NonSuccessKind, TestSuite, XmlString, HOSTNAME};
 use crate::document::{entries, tokenize_into};
 use crate::tree::{kind, Record};
 use crate::{limits, read, Areas, Tree};
@@ -100,6 +100,7 @@ fn report_of(r: Record<'_>) -> Report {
 
 fn suite_of(r: Record<'_>, cases: usize) -> TestSuite {
     let counts = r.counts();
+    let hostname = r.text(10, 28).map(|s| (XmlString::kept(HOSTNAME), XmlString::kept(s)));
     TestSuite {
         name: XmlString::kept(r.text_at(2)),
         tests: number(counts.tests),
@@ -113,7 +114,7 @@ fn suite_of(r: Record<'_>, cases: usize) -> TestSuite {
         properties: Vec::new(),
         system_out: owned(r.text(1, 4)),
         system_err: owned(r.text(2, 6)),
-        extra: IndexMap::new(),
+        extra: hostname.into_iter().collect(),
     }
 }
 
@@ -194,7 +195,8 @@ fn cases_of_suites(tree: &Tree<'_>) -> Vec<usize> {
 }
 
 impl From<&Tree<'_>> for Report {
-    /// The report that a tree shows, as values of their own. Where a layout from elsewhere has extras with one key, the last counts.
+    /// The report that a tree shows, as values of their own. A suite's `hostname` is its first extra. Where a suite has another extra with
+    /// that key, or a layout from elsewhere has extras with one key, the last counts.
     fn from(tree: &Tree<'_>) -> Self {
         let mut counts = cases_of_suites(tree);
         let mut report = Report::unnamed();

@@ -2,9 +2,8 @@
 #![forbid(unsafe_code)]
 
 use super::chrono::{DateTime, FixedOffset};
-use super::indexmap::IndexMap;
 use super::{FlakyOrRerun, NonSuccessKind, Property, Report, TestCase, TestCaseStatus, TestRerun, TestSuite, XmlString};
-use super::{PathElement, SerializeError, SerializeErrorKind};
+use super::{PathElement, SerializeError, SerializeErrorKind, HOSTNAME};
 use crate::limits::{self, RECORD};
 use crate::tree::kind;
 use crate::{to_xml, Cause, Refusal, Tree};
@@ -211,7 +210,10 @@ impl Layout {
         self.maybe_text(at, 2, 6, system_err)?;
         self.moments(at, timestamp, time)?;
         self.counts(at, [*tests, *failures, *errors, *skipped], *disabled);
-        self.put_extras(kind::SUITE_EXTRA, extra)?;
+        if let Some(hostname) = extra.get(HOSTNAME) {
+            self.text_at(at, 10, 28, hostname)?;
+        }
+        self.put_extras(kind::SUITE_EXTRA, extra.iter().filter(|(key, _)| key.as_str() != HOSTNAME))?;
         self.put_properties(kind::SUITE_PROPERTY, properties)?;
         for (i, case) in test_cases.iter().enumerate() {
             self.put_case(case).map_err(|e| inside(PathElement::TestCase(i, Some(case.name.to_string())))(e))?;
@@ -219,8 +221,8 @@ impl Layout {
         Ok(())
     }
 
-    fn put_extras(&mut self, kind: u32, extra: &IndexMap<XmlString, XmlString>) -> Result<(), Fault> {
-        extra.iter().try_for_each(|(key, value)| self.put_pair(kind, key, value))
+    fn put_extras<'a>(&mut self, kind: u32, mut extra: impl Iterator<Item = (&'a XmlString, &'a XmlString)>) -> Result<(), Fault> {
+        extra.try_for_each(|(key, value)| self.put_pair(kind, key, value))
     }
 
     fn put_properties(&mut self, kind: u32, properties: &[Property]) -> Result<(), Fault> {
@@ -245,7 +247,7 @@ impl Layout {
             self.put(at, 20, &low_high(*n));
             self.mark(at, 6);
         }
-        self.put_extras(kind::CASE_EXTRA, extra)?;
+        self.put_extras(kind::CASE_EXTRA, extra.iter())?;
         self.put_properties(kind::CASE_PROPERTY, properties)?;
         match status {
             TestCaseStatus::Success { flaky_runs } => self.put_runs(flaky_runs, FlakyOrRerun::Flaky),

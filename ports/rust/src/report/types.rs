@@ -160,7 +160,7 @@ pub struct TestSuite {
     /// What was written to standard error.
     pub system_err: Option<XmlString>,
 
-    /// Other attributes, such as `hostname` or `package`.
+    /// Other attributes, such as `hostname` or `package`; `hostname` is written before the others.
     pub extra: IndexMap<XmlString, XmlString>,
 }
 

@@ -19,7 +19,7 @@ pub fn replayed() -> Vec<TableBuf> {
         tables.push(table);
         rest = &rest[taken..];
     }
-    assert_eq!(tables.len(), 384);
+    assert_eq!(tables.len(), 401);
     tables
 }
 
