@@ -24,10 +24,13 @@ _OUTCOMES = {6: "failure", 7: "error", 8: "skipped"}
 
 def _whole(text: memoryview) -> "Union[str, bytes]":
     """The text area, a string where it is ASCII, so that the places of its characters are those of the bytes."""
-    try:
-        return str(text, "ascii")
-    except UnicodeDecodeError:
-        return bytes(text)
+    # Latin-1 takes every byte, where an exception would keep a copy of them all
+    whole = str(text, "latin-1")
+    if whole.isascii():
+        return whole
+    # so that its memory is used again
+    del whole
+    return bytes(text)
 
 
 def _used(words: memoryview) -> int:

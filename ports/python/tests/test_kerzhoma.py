@@ -8,6 +8,7 @@ import datetime
 import io
 import os
 import pickle
+import random
 import subprocess
 import sys
 import tempfile
@@ -23,7 +24,9 @@ if os.environ.get("KERZHOMA_INSTALLED") is None:
 
 import kerzhoma  # noqa: E402
 from kerzhoma import Property, Refused, Report, Run, TestCase, TestSuite, Timestamp  # noqa: E402
-from kerzhoma._encode import nanoseconds  # noqa: E402
+from kerzhoma._decode import report_of  # noqa: E402
+from kerzhoma._encode import _RECORD, _Layout, nanoseconds  # noqa: E402
+from kerzhoma._library import LIBRARY, RECORD, Area  # noqa: E402
 
 PROGRAM = os.environ.get("KERZHOMA_PROGRAM")
 RECORDS = os.environ.get("KERZHOMA_RECORDS")
@@ -67,6 +70,58 @@ def full():
     report = Report("r", uuid.UUID(int=7), moment, 2.5, suites=[suite, TestSuite("empty")])
     report.count()
     return report
+
+
+# characters of one to four bytes; of two bytes those that are Latin-1, and others
+WIDTHS = ["aZ09 _<&", "\u0080\u00e9\u00ff", "\u0100\u0436\u07ff", "\u0800\u20ac\ufffd", "\U00010000\U0001f600\U0010ffff"]
+
+
+def made(text):
+    """A report whose texts are those that the function gives, in every field that has one."""
+
+    def run(kind):
+        return Run(kind, message=text(), type=text(), stack_trace=text(), system_out=text(), system_err=text(), description=text())
+
+    def main(outcome, **more):
+        return TestCase(text(), outcome, text(), message=text(), type=text(), description=text(), system_out=text(), **more)
+
+    def suite():
+        plain = [TestCase(text(), classname=text(), time=0.5, extra={"file": text()}) for _ in range(4)]
+        others = [main("failure", runs=[run("error")]), main("error", system_err=text()), main("skipped")]
+        others += [TestCase(text(), properties=[Property(text(), text())], extra={"a": text(), "b": text()}, runs=[run("failure")])]
+        outputs = {"system_out": text(), "system_err": text(), "hostname": text()}
+        return TestSuite(text(), cases=plain + others, properties=[Property(text(), text())], extra={"package": text()}, **outputs)
+
+    return Report(text(), suites=[suite(), suite()])
+
+
+def beyond():
+    """Reports with no text beyond ASCII, one at each place, some, and all, of each width and mixed."""
+    chance = random.Random(44)
+
+    def letters(alphabet):
+        # no white space at the ends, which reading takes off where it gathers a text
+        return "".join(chance.choice(alphabet) for _ in range(chance.randrange(1, 40))).strip() or "x"
+
+    for place in range(0, 200, 7):
+        numbers = iter(range(10**6))
+        yield made(lambda: letters(WIDTHS[1 + place % 4] if next(numbers) == place else WIDTHS[0]))
+    for share in (0, 0.01, 0.1, 0.5, 1):
+        for wide in [*WIDTHS[1:], "".join(WIDTHS)]:
+            yield made(lambda: letters(wide if chance.random() < share else WIDTHS[0]))
+
+
+class Shared(_Layout):
+    """A layout whose texts lie in one text, where they overlap."""
+
+    def __init__(self, whole):
+        super().__init__()
+        self.whole = whole.encode()
+
+    def put(self, row, bit, word, text):
+        if text is not None:
+            row[1] |= 1 << bit
+            row[word], row[word + 1] = self.whole.index(text.encode()), len(text.encode())
 
 
 def text_field(name, text):
@@ -181,7 +236,7 @@ class Documents(unittest.TestCase):
         seen = 0
         with tempfile.TemporaryDirectory() as room:
             file = Path(room) / "report.xml"
-            for report in [full()] + [report for _, report in accepted()]:
+            for report in [full(), *beyond()] + [report for _, report in accepted()]:
                 file.write_bytes(report.to_xml().encode())
                 try:
                     report = kerzhoma.read(file)
@@ -201,6 +256,33 @@ class Values(unittest.TestCase):
         self.assertEqual(again.listing(), report.listing())
         self.assertIn('(case "a" "c" 0.500 success flaky 0)', report.listing())
         self.assertIn('(case "b" - - failure flaky 2', report.listing())
+
+    def test_texts_beyond_ascii(self):
+        for report in beyond():
+            again = kerzhoma.loads(report.to_xml())
+            self.assertEqual(again, report)
+            self.assertEqual(again.listing(), report.listing())
+
+    def test_texts_that_share_bytes(self):
+        chance = random.Random(12)
+        for alphabet in [*WIDTHS, *(WIDTHS[0] * 9 + wide for wide in WIDTHS), "".join(WIDTHS)]:
+            whole = "".join(chance.choice(alphabet) for _ in range(300))
+
+            def text():
+                start = chance.randrange(300)
+                return whole[start : start + chance.randrange(40)]
+
+            layout = Shared(whole + "filepackageab")
+            report = made(text)
+            layout.report(report)
+            data = b"".join(_RECORD.pack(*row) for row in layout.rows)
+            # a record and a byte more than there are
+            records, texts, out = Area(len(data) + 4 * RECORD), Area(len(layout.whole) + 1), Area(65536)
+            records.bytes[: len(data)], texts.bytes[:-1] = data, layout.whole
+            told = LIBRARY.kerzhoma_list(*records.front(len(data) // 4), *texts.front(len(layout.whole)), *out.lent)
+            self.assertEqual(out.bytes[: told.length].decode(), report.listing())
+            self.assertEqual(report_of(records, len(records.bytes) // 4, texts, len(texts.bytes)), report)
+            self.assertFalse(any(records.bytes) or any(texts.bytes))
 
     def test_copies(self):
         report = kerzhoma.loads(full().to_xml())
