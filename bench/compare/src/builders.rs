@@ -717,7 +717,7 @@ impl Bench {
         if l.refusal.number != 0 || out != want.as_bytes() {
             return Err(format!("the listing:\n{}", differing(&want, &String::from_utf8_lossy(&out))));
         }
-        let (table, _) = written(report, false);
+        let (table, _) = written(report, true);
         let (mut e, mut a, mut s) =
             (vec![7u32; 5 * table.events.len()], vec![7u32; 5 * table.attributes.len()], vec![7u8; table.source.len()]);
         let w = sys::write(area, text, &mut e, &mut a, &mut s);

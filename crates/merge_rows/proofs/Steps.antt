@@ -13,7 +13,8 @@ use Rattle.area.proofs.Laying.{laid-fits}
 use Rattle.list_text.specs.inside.Behind.{Filled, filled, behind, Puts}
 use Rattle.tree_record.specs.Record as words
 use Rattle.tree_record.specs.Record.{kindOf}
-use Rattle.merge_rows.specs.inside.Slots.{textBits, hasText, textAt, sizeAt, startAt, name, out, type, description, trace, frontTexts, backTexts, frontMoved, backMoved, rowTexts, rowMoved, sizesOf}
+use Rattle.merge_rows.specs.inside.Slots.{textBits, hasText, textAt, sizeAt, startAt, name, out, type, description, trace}
+use Rattle.merge_rows.specs.inside.Slots.{frontTexts, backTexts, frontMoved, backMoved, rowTexts, rowMoved, sizesOf}
 
 -- ---- one text
 module _ (slot : Bool) (k o : ℕ) (texts r : List ℕ) where

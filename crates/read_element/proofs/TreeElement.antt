@@ -35,7 +35,8 @@ use Rattle.read_element.specs.Attributes.{Given, withMain, readText, pla
 use Rattle.read_element.specs.Attributes.{keep, byRole, among, numbered, readAttributes, complete, Grown, readElement}
 use Rattle.read_element.proofs.TreeOutcome.{Holds, accept, bind, needed, answered, either}
 use Rattle.read_element.proofs.TreeSheet.{text, name, value, pair, named, empty, full-value, untimed, Sorts, Sheet, sheet, goodAt, Grows, good-new, good-more, sheet-more}
-use Rattle.read_element.proofs.TreeSheet.{put-first, put-value, put-second, put-assertions, put-disabled, put-moment, put-time, put-uuid, put-tests, put-failures, put-errors, put-skipped, put-seventh}
+use Rattle.read_element.proofs.TreeSheet.{put-first, put-value, put-second, put-assertions, put-disabled, put-moment, put-time, put-uuid}
+use Rattle.read_element.proofs.TreeSheet.{put-tests, put-failures, put-errors, put-skipped, put-seventh}
 use Rattle.read_element.proofs.TreeGood.{pairSorts}
 use Rattle.read_element.proofs.TreeRoles.{Wide, Suits, as-first, as-value, as-second, as-tests, as-failures, as-errors, as-skipped, as-disabled, as-host}
 use Rattle.read_element.proofs.TreeRoles.{as-assertions, as-uuid, as-moment, as-time, as-extra, as-ignored, Class, class-roles, class-blank, class-named}

@@ -147,8 +147,9 @@ pair-good κ l u q (sheet a b c m d e f g h i j (named p) (full-value o) untimed
     or-yes true = refl
     or-yes false = refl
 
-main-good : {texts : List ℕ} {r : List ℕ} (κ : ℕ) → 6 ≤ κ → κ ≤ 8 → ((e f g : Cell)
-    → flagsOf (flags e absent absent none none f g absent absent absent) ≡ weights (bitsFor κ) (flags e absent absent none none f g absent absent absent)) → Sheet mainSorts texts κ r → goodRecord texts r ≡ true
+main-good : {texts : List ℕ} {r : List ℕ} (κ : ℕ) → 6 ≤ κ → κ ≤ 8
+    → ((e f g : Cell) → flagsOf (flags e absent absent none none f g absent absent absent) ≡ weights (bitsFor κ) (flags e absent absent none none f g absent absent absent))
+    → Sheet mainSorts texts κ r → goodRecord texts r ≡ true
 main-good κ l u q (sheet a b c m d e f g h i j pa without untimed pe pf empty empty empty empty) =
     other-good κ a absent absent none none e f absent (omega arith) (omega arith) (q a e f) (rw (le-leb 6 κ l, le-leb κ 12 (omega arith)) refl) pa textless textless refl refl pe pf textless
 

@@ -97,7 +97,9 @@ private-role kind k h p = go (eqb kind 1) (eqb kind 2) (eqb kind 3) (leb kind 5)
     go : (a b c d : Bool) → eqb kind 1 ≡ a → eqb kind 2 ≡ b → eqb kind 3 ≡ c → leb kind 5 ≡ d
         → Private kind (cond a (reportRole k) (cond b (suiteRole k) (cond c (caseRole k) (cond d (propertyRole k) (statusRole (leb 9 kind) k)))))
     go true b c d ea eb ec ed = rw (private-report k p) ignored
-    go false true c d ea eb ec ed = let z : kind ≡ 2 = eqb-true kind 2 eb in rw (private-suite k p) (role-each (Private kind) (privateOf suiteKeys) Extra k (host z, tt) (extra (omega arith) (omega arith)))
+    go false true c d ea eb ec ed =
+        let z : kind ≡ 2 = eqb-true kind 2 eb in
+        rw (private-suite k p) (role-each (Private kind) (privateOf suiteKeys) Extra k (host z, tt) (extra (omega arith) (omega arith)))
     go false false true d ea eb ec ed = let z : kind ≡ 3 = eqb-true kind 3 ec in rw (private-case k p) (extra (omega arith) (omega arith))
     go false false false true ea eb ec ed =
         let least : 4 ≤ kind = omega (arith, eqb-false kind 1 ea, eqb-false kind 2 eb, eqb-false kind 3 ec) in

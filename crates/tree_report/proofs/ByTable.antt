@@ -8,7 +8,8 @@ use lib.Dec.{eqb}
 use lib.ListN.{getD}
 use Rattle.tree_report.specs.Fields.{hasBit}
 use Rattle.tree_report.specs.Layout.{zeroAt}
-use Rattle.tree_report.specs.inside.Parts.{slot, textSlot, onlyBits, goodReport, goodSuite, goodCase, reportBits, suiteBits, caseBits, goodCommon, goodOutputs, goodCounts, goodHost, goodTextAt, bitsOf}
+use Rattle.tree_report.specs.inside.Parts.{slot, textSlot, onlyBits, goodReport, goodSuite, goodCase, reportBits, suiteBits, caseBits}
+use Rattle.tree_report.specs.inside.Parts.{goodCommon, goodOutputs, goodCounts, goodHost, goodTextAt, bitsOf}
 use Rattle.schema.specs.Schema.{report, suite, case, text, time, timestamp, number, uuid, may}
 use Rattle.schema.specs.Records.{good, goodSlot, goodFrom, goodValue, valueAt, isSet, bitsIn}
 
