@@ -3,6 +3,7 @@ mod cases;
 mod counts;
 mod documents;
 mod making;
+mod places;
 mod run;
 mod setting;
 mod sheets;
