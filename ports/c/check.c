@@ -748,6 +748,35 @@ static void merging(void)
     expect(r.number == KERZHOMA_REFUSED_LAYOUT, "no second report");
 }
 
+/* ---- the byte of a refusal ---- */
+
+static void refusal_bytes(void)
+{
+    /* an Other, a Start with two attributes, the second of them empty, an End without bytes */
+    static const uint32_t events[] = { 6, 2, 3, 0, 0, 0, 10, 9, 0, 2, 2, 0, 0, 0, 0 };
+    static const uint32_t attributes[] = { 1, 20, 4, 26, 3, 1, 30, 4, 36, 0 };
+    static const uint8_t source[50];
+    static const struct {
+        uint32_t cause, event, attribute;
+        size_t byte;
+    } told[] = {
+        { KERZHOMA_CAUSE_BAD_INTEGER, 1, 0, 26 },
+        { KERZHOMA_CAUSE_BAD_INTEGER, 1, 1, 30 },
+        { KERZHOMA_CAUSE_BAD_INTEGER, 1, 2, KERZHOMA_NONE },
+        { KERZHOMA_CAUSE_STATUS_RULE, 1, KERZHOMA_NONE, 10 },
+        { KERZHOMA_CAUSE_STATUS_RULE, 2, KERZHOMA_NONE, 50 },
+        { KERZHOMA_CAUSE_EOF_IN_ELEMENT, 3, KERZHOMA_NONE, 50 },
+        { KERZHOMA_CAUSE_MISSING_REPORT, 3, KERZHOMA_NONE, 10 },
+        { KERZHOMA_CAUSE_BAD_TABLE, KERZHOMA_NONE, KERZHOMA_NONE, KERZHOMA_NONE },
+    };
+    for (size_t i = 0; i < sizeof told / sizeof *told; i++) {
+        kerzhoma_refusal r = { .cause = told[i].cause, .event = told[i].event, .attribute = told[i].attribute };
+        expect(kerzhoma_refusal_byte(r, events, 15, attributes, 10, source, 50) == told[i].byte, "the byte of a refusal");
+    }
+    kerzhoma_refusal r = { .cause = KERZHOMA_CAUSE_MISSING_REPORT, .event = 0, .attribute = KERZHOMA_NONE };
+    expect(kerzhoma_refusal_byte(r, NULL, 0, NULL, 0, source, 50) == 50, "the byte of no element");
+}
+
 /* ---- the `testcase` tags of a table ---- */
 
 static void case_tags(void)
@@ -855,6 +884,7 @@ int main(int argc, char **argv)
         orders();
         first_and_last();
         merging();
+        refusal_bytes();
         case_tags();
         documents();
     } else {

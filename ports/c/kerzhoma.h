@@ -216,6 +216,16 @@ kerzhoma_explained kerzhoma_explain(
     const uint8_t *source, size_t source_length,
     uint8_t *out, size_t out_length);
 
+/* The byte of `source` where a table's refusal arose: where the value of its attribute begins, or its key where the value is empty; else
+ * where its event begins, of a tag the name; `source_length` where that has no bytes, or the table ends. Where there is no report
+ * (KERZHOMA_CAUSE_MISSING_REPORT) it is where the first Start or Empty begins, if there is one. KERZHOMA_NONE where no byte is concerned.
+ * Never refuses. */
+size_t kerzhoma_refusal_byte(
+    kerzhoma_refusal refusal,
+    const uint32_t *events, size_t events_length,
+    const uint32_t *attributes, size_t attributes_length,
+    const uint8_t *source, size_t source_length);
+
 /* ---- listing ---- */
 
 /* `length` is how many bytes of `out` the listing takes, 0 where the call refuses. */

@@ -38,6 +38,8 @@
 --       merged, recordsLeft, textLeft (crate tree_merge: Answer); 12, 13, 15, 17, 22
 --   kerzhoma_case_tags: case_tags::case_tags
 --       caseTags (crate case_tags: Tags); none
+--   kerzhoma_refusal_byte: refusal_place::byte_of
+--       byteOf (crate refusal_place: Place); none
 --   kerzhoma_add_case: tree_counts::Counts::add_test_case
 --       withCase, kept (crate tree_counts: Counts); 17, and 15 for a bad code
 --   kerzhoma_add_suite: tree_counts::Counts::add_test_suite

@@ -3,7 +3,10 @@
 
 use crate::document::entries;
 use crate::limits::{self, ENTRY};
-use crate::{sys, tokenize, tokenize_into, Cause, DocumentRefusal, Refusal, Table, XmlRefusal};
+use crate::{sys, tokenize, tokenize_into, DocumentRefusal, Refusal, Table, XmlRefusal};
+
+/// What the library says where no byte is concerned.
+const NO_BYTE: usize = 4_294_967_295;
 
 /// A place in a document: a byte, and its line and column; a column is a character.
 #[derive(Clone, Copy, Debug, PartialEq, Eq, Hash)]
@@ -37,8 +40,9 @@ impl Place {
 }
 
 impl Refusal {
-    /// Where in the document of this table the refusal arose: the value of its attribute, or else its event, of a tag the name; the
-    /// document's end where it ends too early. None where the whole table or none is concerned.
+    /// Where in the document of this table the refusal arose: the value of its attribute, or its key where that is empty; or else its event,
+    /// of a tag the name; the root element where there is no report; the document's end where it ends too early. None where the whole table
+    /// or none is concerned. Which byte it is is proved.
     ///
     /// It holds numbers only.
     ///
@@ -51,7 +55,8 @@ impl Refusal {
     /// assert_eq!((place.byte, place.line, place.column), (21, 2, 10));
     /// ```
     pub fn place(&self, table: &Table<'_>) -> Option<Place> {
-        Place::of(table.source, byte_of(self, table)?)
+        let byte = sys::refusal_byte(self.told(), table.events, table.attributes, table.source);
+        Place::of(table.source, (byte != NO_BYTE).then_some(byte)?)
     }
 
     /// The bytes that it speaks of: the value of its attribute, or else those of its event. They may be private text.
@@ -116,22 +121,4 @@ fn first_too_many(source: &[u8]) -> Option<usize> {
 
 fn entry(words: &[u32], n: u32) -> Option<[usize; ENTRY]> {
     words.chunks_exact(ENTRY).nth(n as usize).map(|e| [e[0], e[1], e[2], e[3], e[4]].map(|w| w as usize))
-}
-
-/// The kind of an Empty; a Start's is 0.
-const EMPTY: u32 = 1;
-
-// The byte where a refusal arose: that of the attribute's value, or of its key where the value is empty; else the event's, or the document's
-// end. Where there is no report it is the root element's.
-fn byte_of(refusal: &Refusal, table: &Table<'_>) -> Option<usize> {
-    if let Some(a) = refusal.attribute() {
-        return entry(table.attributes, a).map(|[_, key, _, value, length]| if length == 0 { key } else { value });
-    }
-    if refusal.cause() == Cause::MissingReport {
-        if let Some(root) = table.events.chunks_exact(ENTRY).find(|e| e[0] <= EMPTY).map(|e| e[1] as usize) {
-            return Some(root);
-        }
-    }
-    let event = entry(table.events, refusal.event()?);
-    Some(event.filter(|[_, _, length, ..]| *length > 0).map_or(table.source.len(), |[_, start, ..]| start))
 }

@@ -258,6 +258,10 @@ extern "C" {
         builder: Builder, records: *mut u32, records_len: usize, text: *mut u8, text_len: usize, family: u32,
     ) -> Built;
     fn kerzhoma_finish_report(builder: Builder, records: *mut u32, records_len: usize, text: *mut u8, text_len: usize) -> Built;
+    fn kerzhoma_refusal_byte(
+        refusal: Refusal, events: *const u32, events_len: usize, attributes: *const u32, attributes_len: usize, source: *const u8,
+        source_len: usize,
+    ) -> usize;
     fn kerzhoma_case_tags(events: *const u32, events_len: usize, source: *const u8, source_len: usize) -> usize;
 }
 
@@ -611,6 +615,20 @@ pub fn set_rerun_kind(builder: Builder, records: &mut [u32], text: &mut [u8], fa
 
 pub fn finish_report(builder: Builder, records: &mut [u32], text: &mut [u8]) -> Built {
     unsafe { kerzhoma_finish_report(builder, records.as_mut_ptr(), records.len(), text.as_mut_ptr(), text.len()) }
+}
+
+pub fn refusal_byte(refusal: Refusal, events: &[u32], attributes: &[u32], source: &[u8]) -> usize {
+    unsafe {
+        kerzhoma_refusal_byte(
+            refusal,
+            events.as_ptr(),
+            events.len(),
+            attributes.as_ptr(),
+            attributes.len(),
+            source.as_ptr(),
+            source.len(),
+        )
+    }
 }
 
 pub fn case_tags(events: &[u32], source: &[u8]) -> usize {

@@ -37,7 +37,9 @@ returns-2 : tie.Need-returns-2
 returns-2 c =
     let t = c .before .before .before .before .before .before .before .args .attributes .now in
     let i = c .before .before .before .before .before .wide in
-    entry-empty t (i .result) 4294967295 4 (word t (i .result) 1) 3 (c .before .before .before .before .if1 .left) _ (c .before .before .before .word-of .ensures) (c .before .before .if2 .taken) _ (c .wide2 .ensures ∙ c .before .word-of2 .ensures)
+    let if1 = c .before .before .before .before .if1 in
+    let length = c .before .before .before .word-of in
+    entry-empty t (i .result) 4294967295 4 (word t (i .result) 1) 3 (if1 .left) _ (length .ensures) (c .before .before .if2 .taken) _ (c .wide2 .ensures ∙ c .before .word-of2 .ensures)
     ∙ ap (attributeByte t) (i .ensures)
 
 add-word-of-3 : tie.Need-add-word-of-3
@@ -53,7 +55,9 @@ returns-3 : tie.Need-returns-3
 returns-3 c =
     let t = c .before .before .before .before .before .before .before .args .attributes .now in
     let i = c .before .before .before .before .before .wide in
-    entry-full t (i .result) 4294967295 4 (word t (i .result) 1) 3 (c .before .before .before .before .if1 .left) _ (c .before .before .before .word-of .ensures) (c .before .before .if2 .left) _ (c .wide3 .ensures ∙ c .before .word-of3 .ensures)
+    let if1 = c .before .before .before .before .if1 in
+    let length = c .before .before .before .word-of in
+    entry-full t (i .result) 4294967295 4 (word t (i .result) 1) 3 (if1 .left) _ (length .ensures) (c .before .before .if2 .left) _ (c .wide3 .ensures ∙ c .before .word-of3 .ensures)
     ∙ ap (attributeByte t) (i .ensures)
 
 pub attribute-byte-spec : {M : Type 1} → statement M

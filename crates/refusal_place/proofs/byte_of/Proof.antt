@@ -23,7 +23,9 @@ returns-2 c =
 returns-3 : tie.Need-returns-3
 returns-3 c =
     let a = c .before .before .before .before .before .before .before .args in
-    at-none (a .missing) (a .event) (a .attribute) (a .events .now) (a .attributes .now) (length (a .source .now)) (c .before .before .before .if1 .left) _ (c .before .before .root-byte .ensures) (c .before .if2 .left) (c .if3 .taken)
+    let if1 = c .before .before .before .if1 in
+    let root = c .before .before .root-byte in
+    at-none (a .missing) (a .event) (a .attribute) (a .events .now) (a .attributes .now) (length (a .source .now)) (if1 .left) _ (root .ensures) (c .before .if2 .left) (c .if3 .taken)
 
 event-byte-requires : tie.Need-event-byte-requires
 event-byte-requires c κs = search needs
@@ -31,7 +33,11 @@ event-byte-requires c κs = search needs
 returns-4 : tie.Need-returns-4
 returns-4 c =
     let a = c .before .before .before .before .before .before .before .before .args in
-    at-event (a .missing) (a .event) (a .attribute) (a .events .now) (a .attributes .now) (length (a .source .now)) (c .before .before .before .before .if1 .left) _ (c .before .before .before .root-byte .ensures) (c .before .before .if2 .left) (c .before .if3 .left) _ (c .event-byte .ensures)
+    let if1 = c .before .before .before .before .if1 in
+    let root = c .before .before .before .root-byte in
+    let if2 = c .before .before .if2 in
+    let event = c .event-byte in
+    at-event (a .missing) (a .event) (a .attribute) (a .events .now) (a .attributes .now) (length (a .source .now)) (if1 .left) _ (root .ensures) (if2 .left) (c .before .if3 .left) _ (event .ensures)
 
 pub byte-of-spec : {M : Type 1} → statement M
 byte-of-spec =

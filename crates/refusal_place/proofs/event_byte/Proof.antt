@@ -43,7 +43,9 @@ returns-3 : tie.Need-returns-3
 returns-3 c =
     let a = c .before .before .before .before .before .before .before .args in
     let i = c .before .before .before .before .before .wide in
-    entry-full (a .events .now) (i .result) (a .size) 2 (a .size) 1 (c .before .before .before .before .if1 .left) _ (c .before .before .before .word-of .ensures) (c .before .before .if2 .left) _ (c .wide2 .ensures ∙ c .before .word-of2 .ensures)
+    let if1 = c .before .before .before .before .if1 in
+    let length = c .before .before .before .word-of in
+    entry-full (a .events .now) (i .result) (a .size) 2 (a .size) 1 (if1 .left) _ (length .ensures) (c .before .before .if2 .left) _ (c .wide2 .ensures ∙ c .before .word-of2 .ensures)
     ∙ ap (eventByte (a .events .now) (a .size)) (i .ensures)
 
 pub event-byte-spec : {M : Type 1} → statement M

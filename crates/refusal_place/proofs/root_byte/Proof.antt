@@ -33,7 +33,10 @@ wide-requires c κs = search needs
 
 returns : tie.Need-returns Inv-loop μ-loop
 returns c =
-    looking-found (c .before .before .before .before .before .loop .inv) (c .before .before .before .before .loop-test .taken) _ (c .before .before .before .word-of .ensures) (c .before .before .if1 .taken) _ (c .wide .ensures ∙ c .before .word-of2 .ensures)
+    let loop = c .before .before .before .before .before .loop in
+    let loop-test = c .before .before .before .before .loop-test in
+    let kind = c .before .before .before .word-of in
+    looking-found (loop .inv) (loop-test .taken) _ (kind .ensures) (c .before .before .if1 .taken) _ (c .wide .ensures ∙ c .before .word-of2 .ensures)
 
 add-i : tie.Need-add-i Inv-loop μ-loop
 add-i c = search needs
