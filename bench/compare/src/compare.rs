@@ -210,6 +210,22 @@ impl Bench {
         check(sys::case_tags(&input.events(), source) == want, || format!("testcase tags: wanted {want}"))
     }
 
+    /// The byte where a refusal arose.
+    fn place(&self, input: &Input, got: &sys::Refusal) -> Compared {
+        let t = &input.table;
+        let root = t.events.iter().find(|e| e[0] <= 1 && got.cause == 9).map(|e| e[1] as usize);
+        let (event, attribute) = (t.events.get(got.event as usize), t.attributes.get(got.attribute as usize));
+        let want = match (got.attribute, got.event, root) {
+            (NONE, _, Some(at)) => at,
+            (NONE, NONE, None) => NONE as usize,
+            (NONE, _, None) => event.filter(|e| e[2] > 0).map_or(t.source.len(), |e| e[1] as usize),
+            _ => attribute.map_or(NONE as usize, |a| a[if a[4] == 0 { 1 } else { 3 }] as usize),
+        };
+        hit_if!(got.attribute == NONE, "F14", "an event's, the root's or none", "an attribute's");
+        let byte = sys::refusal_byte(*got, &input.events(), &input.attributes(), &t.source);
+        check(byte == want, || format!("the byte of the refusal: wanted {want}, got {byte}"))
+    }
+
     /// Where another key is cleaned to `hostname` the trees differ, and the listings don't.
     fn listing_alone(&mut self, input: &Input, want: &String, used: Areas) -> Compared {
         let more = input.table.attributes.len() + 1;
@@ -237,6 +253,7 @@ impl Bench {
         match &want.result {
             Err(refused) => {
                 check(refused.is(&got), || format!("\n  wanted {}\n  got    {}", refused.shown(), Refused::given(&got).shown()))?;
+                self.place(input, &got)?;
                 hit!("F13", "areas are zero");
                 check(is_zero(&self.records) && is_clear(&self.text), || "areas aren't zero behind a refusal".into())
             }
