@@ -1,14 +1,15 @@
 -- Text in the public listing. Assumes nothing.
 use Prim.Native.Nat.{ℕ, _*_, _≤_}
-use mathlib.Core.Path.{_≡_, refl, sym, ap, subst, _∙_}
-use mathlib.Core.Bool.{Bool, true, false, cond, true≢false}
+use mathlib.Core.Path.{_≡_, refl, sym, ap, ap₂, subst, _∙_}
+use mathlib.Core.Bool.{Bool, true, false, cond, not, and-eq-true-iff, true≢false}
 use mathlib.Core.List.{List, [], _∷_, _++_, List·Memᴰ, List·Memᴰ·cases-cons, List·Memᴰ·eq-of-singleton}
 use mathlib.Core.Logic.{⊎-elim}
 use native.Mathlib.Omega.{arith}
-use borrow.Author.Tests.{eqb-true, eqb-false, ne-eqb}
+use borrow.Author.Tests.{eqb-true, eqb-false, ne-eqb, not-true}
 use lib.Dec.{eqb}
 use lib.ListN.{length}
 use Rattle.escape.specs.Escape.{marked, letter, listed, escaped}
+use Rattle.escape.specs.inside.Plain.{plain}
 use Rattle.escape.proofs.Spelling.{spelled-length, spelled-all, spelled-injective}
 
 pub listed-marked : (b : ℕ) → marked b ≡ true → listed b ≡ 92 ∷ letter b ∷ []
@@ -55,6 +56,14 @@ plain-letter = by-case (λ (b : ℕ). marked b ≡ false → letter b ≡ b) nev
   where
     never : {A : Type 0} → true ≡ false → A
     never h = absurd (true≢false h)
+
+-- a plain text is listed as it is
+pub plain-escaped : (s : List ℕ) → plain s ≡ true → escaped s ≡ s
+plain-escaped [] h = refl
+plain-escaped (b ∷ s) h =
+    let p = and-eq-true-iff (not (marked b)) (plain s) .0 h in
+    let m : marked b ≡ false = not-true (marked b) (p .0) in
+    ap₂ _++_ (listed-plain b m ∙ ap (λ (x : ℕ). x ∷ []) (plain-letter b m)) (plain-escaped s (p .1))
 
 -- the byte that a letter behind a backslash stands for
 meant : ℕ → ℕ
