@@ -610,10 +610,9 @@ impl<'a> Generator<'a> {
 
     /// A key of an extra, or one that is passed over; some are cleaned to the same, or to a key that the element has.
     fn other_key(&mut self) -> Vec<u8> {
-        const KEYS: [&[u8]; 18] = [
+        const CLEANED: [&[u8]; 2] = [b"host&#110;ame", b"host\x01name"];
+        const KEYS: [&[u8]; 16] = [
             b"hostname",
-            b"host&#110;ame",
-            b"host\x01name",
             b"package",
             b"a",
             b"&#97;",
@@ -632,6 +631,9 @@ impl<'a> Generator<'a> {
         ];
         if self.is_bad() {
             self.r.pick(BAD_TEXT).to_vec()
+        } else if self.r.one(50) {
+            // of a table with one of these only the listing is compared
+            self.r.pick(&CLEANED).to_vec()
         } else {
             self.r.pick(&KEYS).to_vec()
         }
