@@ -96,7 +96,7 @@ def made(text):
 
 
 def beyond():
-    """Reports with no text beyond ASCII, one at each place, some, and all, of each width and mixed."""
+    """Reports with no text beyond ASCII, one at every seventh place, some, and all, of each width and mixed."""
     chance = random.Random(44)
 
     def letters(alphabet):
