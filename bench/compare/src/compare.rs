@@ -140,8 +140,9 @@ pub fn differing(want: &str, got: &str) -> String {
 }
 
 impl Bench {
-    pub fn new(changes: Changes, sentences: Sentences) -> Self {
+    pub fn new(changes: Changes, mut sentences: Sentences) -> Self {
         let empty = Vec::new;
+        sentences.attributes += changes.hostname as usize;
         Bench { tally: Tally::default(), changes, sentences, records: vec![], text: empty(), scratch: empty(), out: empty(), before: Tree::default() }
     }
 

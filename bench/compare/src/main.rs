@@ -67,9 +67,7 @@ fn page(name: &str) -> String {
 }
 
 fn bench(changes: Changes) -> Bench {
-    let mut sentences = Sentences::from_page(&page("REFUSALS.md")).unwrap_or_else(|e| panic!("{e}"));
-    sentences.attributes += changes.hostname as usize;
-    Bench::new(changes, sentences)
+    Bench::new(changes, Sentences::from_page(&page("REFUSALS.md")).unwrap_or_else(|e| panic!("{e}")))
 }
 
 fn number(word: Option<String>) -> u64 {
