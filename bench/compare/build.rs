@@ -12,7 +12,7 @@ fn main() {
     println!("cargo:rerun-if-changed={}", archive.display());
     let Ok(bytes) = fs::read(&archive) else {
         eprintln!("There is no archive {}.", archive.display());
-        eprintln!("Run `rt staticlib port_c` at the top of the repository, or name a folder that has libport_c.a in KERZHOMA_LIB.");
+        eprintln!("Run `./build` at the top of the repository, or name a folder that has libport_c.a in KERZHOMA_LIB.");
         process::exit(1);
     };
     let symbol = b"kerzhoma_write_xml\0";

@@ -1,7 +1,7 @@
 /* Kerzhoma for C: JUnit test reports. Read from XML documents or from tables of their events, listed for the public, written as tables again, or built from
  * nothing. Each call below is proved to answer and leave what its definition says, on every table, area and number.
  *
- *     rt staticlib port_c                                            makes target/staticlib/libport_c.a
+ *     ./build                                                        makes target/staticlib/libport_c.a
  *     cc -std=c11 -I ports/c yours.c target/staticlib/libport_c.a    (x86-64 Linux; of the C library only memset and memcpy are used)
  *
  * There is no allocation, no global state and no output: a call works in areas that the caller lends, each as pointer and length.
