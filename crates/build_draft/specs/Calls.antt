@@ -5,7 +5,7 @@ use Rattle.area.specs.Area.{zeros}
 use Rattle.text_filter.specs.Filter.{filtered}
 use Rattle.timestamp.specs.Timestamp.{in_range}
 use Rattle.timestamp.specs.declared.Moment.{Moment}
-use Rattle.uuid.specs.declared.Words.{Words}
+use Rattle.uuids.specs.declared.Words.{Words}
 use Rattle.refusal.specs.Refusal.{nowhere, Outcome, accepted}
 use Rattle.refusal.specs.declared.Cause.TheVariants as cause
 use Rattle.tree_record.specs.Words as word

@@ -18,7 +18,7 @@ use timestamp::Moment;
 use tree_put::put_count;
 use tree_record::{bit, kind, put_bit, word};
 use tree_values::{put_moment, put_time, put_uuid};
-use uuid::Words;
+use uuids::Words;
 
 fn is_run(k: u32) -> bool
     ensures { result ≡ is_run k }

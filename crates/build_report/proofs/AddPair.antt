@@ -1,4 +1,4 @@
--- A property or extra more: what `addProperty` and `addExtra` mean. Assumes nothing.
+-- A property or extra more: what `add_property` and `add_extra` mean. Assumes nothing.
 use Prim.Native.Nat.{ℕ, ◌+◌, ◌-◌, ◌≤◌, min}
 use mathlib.Core.Bool.{Bool, true, false, cond, ◌&&◌, ◌||◌}
 use mathlib.Core.List.{List, [], ◌∷◌, ◌++◌, map}

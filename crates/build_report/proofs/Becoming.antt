@@ -7,7 +7,7 @@ use mathlib.Core.Path.{◌≡◌, refl, ap, ◌∙◌}
 use lib.Dec.{lit≤}
 use lib.ListN.{length}
 use Rattle.timestamp.specs.declared.Moment.{Moment}
-use Rattle.uuid.specs.declared.Words.{Words}
+use Rattle.uuids.specs.declared.Words.{Words}
 use Rattle.tree_record.specs.Record.{marked, unmarked}
 use Rattle.tree_put.specs.Put.{put_text, put_count_of, put_uuid, put_moment, put_time}
 use Rattle.tree_report.specs.Report.{Text}

@@ -9,7 +9,7 @@ use lib.Dec.{leb, ltb, eqb}
 use Rattle.refusal.specs.Refusal.{nowhere, Outcome}
 use Rattle.refusal.specs.declared.Cause.TheVariants as cause
 use Rattle.timestamp.specs.declared.Moment.{Moment}
-use Rattle.uuid.specs.declared.Words.{Words}
+use Rattle.uuids.specs.declared.Words.{Words}
 use Rattle.tree_record.specs.Kinds as kind
 use Rattle.tree_counts.specs.declared.Outcome.{Outcome as Status}
 use Rattle.build_draft.specs.declared.Builder.{Builder}

@@ -8,7 +8,7 @@ use lib.Dec.{leb}
 use Rattle.refusal.specs.declared.Cause.TheVariants as cause
 use Rattle.timestamp.specs.Timestamp.{in_range}
 use Rattle.timestamp.specs.declared.Moment.{Moment}
-use Rattle.uuid.specs.declared.Words.{Words}
+use Rattle.uuids.specs.declared.Words.{Words}
 use Rattle.tree_record.specs.Kinds as kind
 use Rattle.tree_put.specs.Put.{put_uuid, put_moment, put_time}
 use Rattle.tree_report.specs.Report.{Duration, TestCase, TestSuite, Report}

@@ -19,7 +19,7 @@
 --   has_text, is_output, has_times (crate build_draft: Parts)       which kinds of records have a text, an output, a timestamp and a time
 --   utf8, filtered (crates utf8, text_filter: Utf8, Filter)      whether bytes are UTF-8; the text that is stored of them
 --   lossy_text (crate text_lossy: LossyText)                      the text that is stored of any bytes
---   inRange (crate timestamp: Timestamp)                         which timestamps there are
+--   in_range (crate timestamp: Timestamp)                        which timestamps there are
 use Rattle.std.specs.Prelude.{ℕ, ◌+◌, List, [], ◌∷◌, Bool, true, false, not, ◌&&◌, ◌||◌, ◌≡◌, length, leb}
 use Rattle.std.proofs.Math.Option.{Option, none, some}
 use Rattle.area.specs.Area.{zeros}
@@ -32,7 +32,7 @@ use Rattle.text_filter.specs.Filter.{filtered}
 use Rattle.text_lossy.specs.LossyText.{lossy_text}
 use Rattle.timestamp.specs.Timestamp.{in_range}
 use Rattle.timestamp.specs.declared.Moment.{Moment}
-use Rattle.uuid.specs.declared.Words.{Words}
+use Rattle.uuids.specs.declared.Words.{Words}
 use Rattle.tree_counts.specs.declared.Outcome.{Outcome as Status}
 use Rattle.tree_counts.specs.declared.Outcome.TheVariants as outcome
 use Rattle.tree_report.specs.Report.{Text, Pair, Counts, TestCaseStatus, success, non_success, skipped, TestCase, TestSuite, Report}

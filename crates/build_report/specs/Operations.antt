@@ -4,7 +4,7 @@ use Rattle.std.specs.Prelude.{ℕ, ◌+◌, List, [], ◌∷◌, ◌++◌, Bool,
 use Rattle.std.proofs.Math.Option.{Option, none, some}
 use Rattle.names.specs.Names.{same_bytes}
 use Rattle.timestamp.specs.declared.Moment.{Moment}
-use Rattle.uuid.specs.declared.Words.{Words}
+use Rattle.uuids.specs.declared.Words.{Words}
 use Rattle.tree_record.specs.Kinds as kind
 use Rattle.tree_counts.specs.declared.Outcome.{Outcome}
 use Rattle.tree_counts.specs.declared.Outcome.TheVariants as outcome

@@ -14,7 +14,7 @@ use build_runs::turn_case;
 use build_text::put_at;
 use refusal::Cause;
 use timestamp::Moment;
-use uuid::Words;
+use uuids::Words;
 
 // A text as it is, or an output lossily.
 fn write_field(

@@ -12,7 +12,7 @@ use Rattle.text_filter.specs.Filter.{filtered}
 use Rattle.refusal.specs.Refusal.{nowhere, Refused, Outcome, accepted, refused, late}
 use Rattle.refusal.specs.declared.Cause.TheVariants as cause
 use Rattle.timestamp.specs.declared.Moment.{Moment}
-use Rattle.uuid.specs.declared.Words.{Words}
+use Rattle.uuids.specs.declared.Words.{Words}
 use Rattle.tree_record.specs.Kinds as kind
 use Rattle.tree_counts.specs.declared.Outcome.{Outcome as Status}
 use Rattle.build_draft.specs.declared.Element.{Element}

@@ -15,7 +15,7 @@ use Rattle.table.specs.Event.{Attribute}
 use Rattle.integer.specs.Integer.{integer_of}
 use Rattle.time.specs.Time.{time_of}
 use Rattle.timestamp.specs.Timestamp.{timestamp_of}
-use Rattle.uuid.specs.Uuid.{uuid_of}
+use Rattle.uuids.specs.Uuid.{uuid_of}
 use Rattle.text.specs.Value.{value_text, checked_of}
 use Rattle.read_keys.specs.declared.Role.{Role}
 use Rattle.read_keys.specs.declared.Role.TheVariants as role

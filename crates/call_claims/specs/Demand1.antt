@@ -39,7 +39,7 @@
 --   kerzhoma_case_tags: case_tags::case_tags
 --       case_tags (crate case_tags: Tags); none
 --   kerzhoma_refusal_byte: refusal_place::byte_of
---       byteOf (crate refusal_place: Place); none
+--       byte_of (crate refusal_place: Place); none
 --   kerzhoma_add_case: tree_counts::Counts::add_test_case
 --       with_case, kept (crate tree_counts: Counts); 17, and 15 for a bad code
 --   kerzhoma_add_suite: tree_counts::Counts::add_test_suite
@@ -80,7 +80,7 @@
 --       set_number; 15
 --   kerzhoma_finish_report: builder::finish_report
 --       finish; 15, 17
--- The answer is the outcome as a struct, with `refusalFrom` (crate refusal: Refusal) of what a refusal carries: answerOf (crate reader: Answer),
+-- The answer is the outcome as a struct, with `refusal_from` (crate refusal: Refusal) of what a refusal carries: answer_of (crate reader: Answer),
 -- listing_from (lister), writing_from (writer, and of rehearsal), document_from (xml_writer), explained_from (explain), counted_from (tree_counts: Counts),
 -- released_from (sheet_sums: Sheet), printed_from (sheet_text: Printed), started_from (starts: Answer), merging_from (merger: Answer), built_from (build_draft: Draft); and for C
 -- a struct of numbers (crates port_refusal, port_values, port_c: port_outcome, built_port and their like). Tokenizing alone has no such struct: its refusal is a number,
@@ -104,7 +104,7 @@ use Rattle.refusal.specs.declared.Cause.{Cause}
 use Rattle.refusal.specs.declared.Cause.TheVariants as cause
 use Rattle.refusal.specs.declared.Refusal.{Refusal}
 use Rattle.timestamp.specs.declared.Moment.{Moment}
-use Rattle.uuid.specs.declared.Words.{Words}
+use Rattle.uuids.specs.declared.Words.{Words}
 use Rattle.tree_counts.specs.declared.Counts.{Counts}
 use Rattle.tree_counts.specs.declared.Outcome.{Outcome as Status}
 use Rattle.tree_counts.specs.Counts.{with_suite, with_case, kept}

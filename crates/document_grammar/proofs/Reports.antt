@@ -6,7 +6,7 @@ use mathlib.Core.Bool.{Bool, true, ◌&&◌}
 use mathlib.Core.Option.{Option, none, some}
 use Rattle.names.specs.Bytes.{bytes}
 use Rattle.utf8.specs.Utf8.{need, low, high}
-use Rattle.uuid.specs.declared.Words.{Words}
+use Rattle.uuids.specs.declared.Words.{Words}
 use Rattle.table.specs.Event.{Attribute}
 use Rattle.tree_report.specs.Report.{Text, Pair, NonSuccessKind, failure, error, FlakyOrRerun, flaky, rerun, TestRerun, Reason}
 use Rattle.tree_report.specs.Report.{TestCaseStatus, success, non_success, skipped, TestCase, TestSuite, Report}

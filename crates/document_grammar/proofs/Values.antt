@@ -9,7 +9,7 @@ use lib.Dec.{ltb}
 use Rattle.digits.specs.Digits.{last_digits_of, places, decimal}
 use Rattle.time_text.specs.Written.{time_text, written_time, thousandths_of, float_sum}
 use Rattle.timestamp.specs.declared.Moment.{Moment}
-use Rattle.uuid.specs.declared.Words.{Words}
+use Rattle.uuids.specs.declared.Words.{Words}
 use Rattle.write_moment.specs.Written.{date_text, clock_text, offset_text, timestamp_text, sign}
 use Rattle.write_uuid.specs.Written.{hex_digit, uuid_text}
 use Rattle.tree_report.specs.Encode.{every}

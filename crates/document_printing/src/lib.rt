@@ -5,7 +5,7 @@ ghost use Rattle.std.specs.Prelude.{◌≡◌, min, length};
 ghost use Rattle.area.specs.Area.{zeros, laid};
 ghost use Rattle.read_machine.specs.Reading.{reading};
 ghost use Rattle.list_input.specs.Input.{found_of, Lies};
-ghost use Rattle.xml_state.specs.Answer.{result};
+ghost use Rattle.xml_state.specs.Answer.{result as given_result};
 ghost use Rattle.document_printing.specs.Printed.{tree_printed, read_printed, tokens_printed, document_printed, found_printed, program_spells};
 
 use list_input::{Found, input_of};
@@ -21,8 +21,8 @@ const BUFFER: usize = 65536;
 
 // The document of a tree.
 fn print_tree(records: &[u32], text: &[u8], out: &mut [u8]) -> usize
-    ensures* out { λ _. ⌜ out.new ≡ laid (zeros (length out.old)) (tree_printed (length out.old) records.now text.now) ⌝ }
-    ensures* count { λ r. ⌜ r ≡ min (length out.old) (length (tree_printed (length out.old) records.now text.now)) ⌝ }
+    ensures out { out.new ≡ laid (zeros (length out.old)) (tree_printed (length out.old) records.now text.now) }
+    ensures count { result ≡ min (length out.old) (length (tree_printed (length out.old) records.now text.now)) }
 {
     let document = write_xml(records, text, out);
     let verdict = document.verdict;
@@ -34,10 +34,9 @@ fn print_tree(records: &[u32], text: &[u8], out: &mut [u8]) -> usize
 
 // What is printed for a table.
 fn print_report(events: &[u32], attributes: &[u32], source: &[u8], out: &mut [u8]) -> usize
-    ensures* out { λ _. ⌜ out.new
-        ≡ laid (zeros (length out.old)) (read_printed (length out.old) (reading events.now attributes.now source.now 16384 65536 65536)) ⌝ }
-    ensures* count { λ r.
-        ⌜ r ≡ min (length out.old) (length (read_printed (length out.old) (reading events.now attributes.now source.now 16384 65536 65536))) ⌝ }
+    ensures out { out.new
+        ≡ laid (zeros (length out.old)) (read_printed (length out.old) (reading events.now attributes.now source.now 16384 65536 65536)) }
+    ensures count { result ≡ min (length out.old) (length (read_printed (length out.old) (reading events.now attributes.now source.now 16384 65536 65536))) }
 {
     let mut records = [0u32; 16384];
     let mut text = [0u8; 65536];
@@ -65,10 +64,9 @@ fn print_tokens(
     attributes: &[u32],
     out: &mut [u8],
 ) -> usize
-    ensures* out { λ _. ⌜ out.new
-        ≡ laid (zeros (length out.old)) (tokens_printed (length out.old) (result told events.now attributes.now) source.now) ⌝ }
-    ensures* count { λ r.
-        ⌜ r ≡ min (length out.old) (length (tokens_printed (length out.old) (result told events.now attributes.now) source.now)) ⌝ }
+    ensures out { out.new
+        ≡ laid (zeros (length out.old)) (tokens_printed (length out.old) (given_result told events.now attributes.now) source.now) }
+    ensures count { result ≡ min (length out.old) (length (tokens_printed (length out.old) (given_result told events.now attributes.now) source.now)) }
 {
     match told {
         Tokenized::Table(n, k) => {
@@ -80,8 +78,8 @@ fn print_tokens(
 
 // What is printed for an input that is no table, and is taken for a document.
 fn print_document(source: &[u8], out: &mut [u8]) -> usize
-    ensures* out { λ _. ⌜ out.new ≡ laid (zeros (length out.old)) (document_printed (length out.old) source.now) ⌝ }
-    ensures* count { λ r. ⌜ r ≡ min (length out.old) (length (document_printed (length out.old) source.now)) ⌝ }
+    ensures out { out.new ≡ laid (zeros (length out.old)) (document_printed (length out.old) source.now) }
+    ensures count { result ≡ min (length out.old) (length (document_printed (length out.old) source.now)) }
 {
     if BUFFER < source.len() {
         return refuse(out);
@@ -101,12 +99,11 @@ fn print_found(
     out: &mut [u8],
 ) -> usize
     requires { Lies found (length events.now) (length attributes.now) (length input.now) }
-    ensures* out { λ _. ⌜ out.new
+    ensures out { out.new
         ≡ laid (zeros (length out.old))
-        (found_printed (length out.old) (found_of found events.now attributes.now input.now) input.now) ⌝ }
-    ensures* count { λ r.
-        ⌜ r ≡ min (length out.old)
-        (length (found_printed (length out.old) (found_of found events.now attributes.now input.now) input.now)) ⌝ }
+        (found_printed (length out.old) (found_of found events.now attributes.now input.now) input.now) }
+    ensures count { result ≡ min (length out.old)
+        (length (found_printed (length out.old) (found_of found events.now attributes.now input.now) input.now)) }
 {
     match found {
         Found::Is(x) => {
@@ -122,8 +119,8 @@ fn print_found(
 
 // What the program prints for the bytes that it read (rules P3 and P6): its buffers are here, so that their sizes are in the promise.
 pub fn print_input(input: &[u8], out: &mut [u8; 65536]) -> usize
-    ensures* out { λ _. ⌜ out.new ≡ laid (zeros 65536) (program_spells input.now) ⌝ }
-    ensures* count { λ r. ⌜ r ≡ min 65536 (length (program_spells input.now)) ⌝ }
+    ensures out { out.new ≡ laid (zeros 65536) (program_spells input.now) }
+    ensures count { result ≡ min 65536 (length (program_spells input.now)) }
 {
     let mut events = [0u32; 16384];
     let mut attributes = [0u32; 16384];

@@ -14,7 +14,7 @@ use Rattle.text.specs.Value.{value_text, checked_of}
 use Rattle.integer.specs.Integer.{integer_of}
 use Rattle.time.specs.Time.{time_of}
 use Rattle.timestamp.specs.Timestamp.{timestamp_of}
-use Rattle.uuid.specs.Uuid.{uuid_of}
+use Rattle.uuids.specs.Uuid.{uuid_of}
 use Rattle.tree_report.specs.Report.{Text}
 use Rattle.read_element.specs.Outcome.{◌>>=◌, Place, Rooms, there, need, within}
 use Rattle.read_element.specs.Attributes.{among, numbered}

@@ -1,7 +1,7 @@
 -- Values in structs that C has too. Definitions only.
 use Rattle.refusal.specs.Refusal.{Outcome}
 use Rattle.timestamp.specs.declared.Moment.{Moment}
-use Rattle.uuid.specs.declared.Words.{Words}
+use Rattle.uuids.specs.declared.Words.{Words}
 use Rattle.tree_counts.specs.declared.Counts.{Counts}
 use Rattle.tree_counts.specs.declared.Counted.{Counted}
 use Rattle.tree_counts.specs.Counts.{counted_from}

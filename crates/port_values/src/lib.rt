@@ -13,7 +13,7 @@ use port_refusal::{KRefusal, from_refusal};
 use refusal::{Cause, Verdict, refuse_late};
 use timestamp::Moment;
 use tree_counts::{Counted, Counts};
-use uuid::Words;
+use uuids::Words;
 
 #[repr(C)]
 #[derive(Clone, Copy)]

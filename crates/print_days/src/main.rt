@@ -5,6 +5,7 @@ ghost use Rattle.std.specs.Prelude.{◌≡◌};
 ghost use Rattle.days.specs.Days.{year_length};
 
 use calendar::is_leap;
+use std::io;
 
 fn year_days(year: u16) -> u64
     ensures { result ≡ year_length year }
@@ -15,20 +16,19 @@ fn year_days(year: u16) -> u64
     365
 }
 
-fn say_entry(days: u64) {
-    io::write_all(1, b"    ");
-    io::print_decimal(1, days);
-    io::write_all(1, b",\n");
+fn say_entry(rt: &impl Print, days: u64) -> io::Result<()> {
+    println!(rt; "    {days},")
 }
 
-fn main() {
-    io::write_all(1, b"pub const DAYS_BEFORE: [u32; 400] = [\n");
+fn main(rt: HostRuntime) -> io::Result<()> {
+    println!(rt; "pub const DAYS_BEFORE: [u32; 400] = [")?;
     let mut year = 0u16;
     let mut days = 0u64;
     while year < 400 {
-        say_entry(days);
+        say_entry(&rt, days)?;
         days += year_days(year);
         year += 1;
     }
-    io::write_all(1, b"];\n");
+    println!(rt; "];")?;
+    Ok(())
 }

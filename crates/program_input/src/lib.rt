@@ -2,9 +2,19 @@
 #![tactic(auto)]
 
 use list_input::front;
+use std::io;
+use std::io::Read;
 
-pub fn read_input(room: &mut [u8]) -> &[u8] {
-    let n = io::read_full(0, room);
+pub fn read_input<'a>(rt: &impl Input, room: &'a mut [u8]) -> io::Result<&'a [u8]> {
+    let mut from = rt.reader();
+    let mut n = 0;
+    while n < room.len() {
+        let k = from.read(&mut room[n..])?;
+        if k == 0 {
+            break;
+        }
+        n += k;
+    }
     let all = &room[..];
-    front(all, n)
+    Ok(front(all, n))
 }

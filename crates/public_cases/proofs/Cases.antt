@@ -14,7 +14,7 @@ use Rattle.time.specs.Time.{make_time}
 use Rattle.time_text.specs.Written.{time_text, thousandths_of, float_sum}
 use Rattle.calendar.specs.Calendar.{is_leap, month_length}
 use Rattle.timestamp.specs.Timestamp as stamp
-use Rattle.uuid.specs.Uuid.{is_uuid, uuid_of}
+use Rattle.uuids.specs.Uuid.{is_uuid, uuid_of}
 use Rattle.reference.specs.Reference as reference
 use Rattle.escape.specs.Escape.{letter, listed}
 use Rattle.table.specs.Table as table

@@ -5,7 +5,7 @@ use Prim.Native.String.{String}
 use Rattle.std.proofs.Math.Option.{none, some}
 use Rattle.names.specs.Bytes.{bytes}
 use Rattle.timestamp.specs.declared.Moment.{Moment}
-use Rattle.uuid.specs.declared.Words.{Words}
+use Rattle.uuids.specs.declared.Words.{Words}
 use Rattle.table.specs.Event.{Attribute, Start, Empty, End, Text, Other, Indent, Event, Tag, Piece, Eof}
 use Rattle.tree_report.specs.Report.{Counts, failure, error, rerun, TestRerun, TestCaseStatus, success, non_success, TestCase, TestSuite, Report}
 use Rattle.public_cases.specs.Document.{Named, ◌≔◌}

@@ -12,7 +12,7 @@ use Rattle.utf8.specs.Utf8.{utf8}
 use Rattle.integer.specs.Integer.{is_integer}
 use Rattle.time.specs.Time.{seconds_of, nanos_of, is_time}
 use Rattle.text.specs.Value.{value_text}
-use Rattle.uuid.specs.declared.Words.{Words}
+use Rattle.uuids.specs.declared.Words.{Words}
 use Rattle.timestamp.specs.declared.Moment.{Moment}
 use Rattle.table.specs.Event.{Attribute}
 use Rattle.tree_report.specs.Report.{Text}

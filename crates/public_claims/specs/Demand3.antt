@@ -1,7 +1,7 @@
 -- Demand 3, whole: what is claimed of the public listing. The claims are types; proofs/Demand3.antt has a proof of each. Definitions only.
 --
 -- Whoever wants to be sure of what is claimed reads these definitions, each beside the rules (docs/RULES.md) that it states:
---   tableOf, resolve (crate table: Table, Event)                refusal 11; a table's events with their bytes and attributes
+--   table_of, resolve (crate table: Table, Event)               refusal 11; a table's events with their bytes and attributes
 --   deserialize, deserialize_in (crate read_report: Deserialize) the report that the rules of reading give for events, with no areas; and in areas
 --   answer_to (crate read_report: Answer)                        what reading a table answers
 --   render (crate list_text: Listing)                           the text of a report's listing
@@ -9,7 +9,7 @@
 --   public, TablesAgree (Agree)                                 the public part of a table; when two tables agree
 --   own_statuses, rule, Ruled (OwnStatus)                        each case's own status elements in a table, the status rule, and both side by side
 --
--- The listing is that of reading and listing in one call, `listedTo`. That the calls answer and list this, whatever the areas held before, is what
+-- The listing is that of reading and listing in one call, `listed_to`. That the calls answer and list this, whatever the areas held before, is what
 -- OnValues claims.
 use Rattle.std.specs.Prelude.{ℕ, ◌<◌, ◌≡◌, List, Bool, true, false, cond, ◌⊎◌, ◌↔◌, leb, length}
 use Rattle.refusal.specs.Refusal.{Refused, Outcome, accepted, refused, late}

@@ -1,5 +1,5 @@
 -- What the contracts of `reader::read`, `public_call::read_and_list` and `public_call::public_listing` name, told on values: whoever has read
--- `answerTo` (crate read_report: Answer) and `listedTo` and `listing` (Demand3) needn't read `reading`, `listedOnce`, `onceLeft` and `publicListing`,
+-- `answer_to` (crate read_report: Answer) and `listed_to` and `listing` (Demand3) needn't read `reading`, `listed_once`, `once_left` and `public_listing`,
 -- which are these. proofs/OnValues.antt has the proof. Definitions only.
 use Rattle.std.specs.Prelude.{ℕ, ◌≡◌, List, length}
 use Rattle.area.specs.Area.{zeros, laid}

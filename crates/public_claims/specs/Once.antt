@@ -7,7 +7,7 @@ use Rattle.read_machine.specs.Reading.{reading}
 use Rattle.list_text.specs.Listing.{listed, output_of}
 use Rattle.public_claims.specs.PublicListing.{refused_text}
 
--- the refusal of reading, whole, or what listing answers of the areas as reading left them; lengths of areas as in `publicListing`
+-- the refusal of reading, whole, or what listing answers of the areas as reading left them; lengths of areas as in `public_listing`
 unfoldable pub listed_once : List ℕ → List ℕ → List ℕ → ℕ → ℕ → ℕ → ℕ → Outcome ℕ
 listed_once events attributes source words text scratch out =
     let r = reading events attributes source words text scratch in

@@ -1,4 +1,10 @@
 -- What holds of the role of every key. Assumes nothing.
+use role.{Uuid}
+use role.{Timestamp}
+use role.{Time}
+use role.{Text}
+use role.{Number}
+use role.{Count}
 use Prim.Native.Nat.{ℕ, ◌<◌, ◌^◌}
 use mathlib.Core.Path.{◌≡◌, refl, sym, subst}
 use mathlib.Core.Bool.{Bool, true, false, cond}
@@ -61,5 +67,11 @@ unfolding by_role
 unknown-accepts rooms p used kind key x g n e = go (role_of kind key) (subst (λ (k : ℕ). Unread (role_of kind k)) (sym e) (unknown-unread kind)) n
   where
     go : (r : Role) → Unread r → (r ≡ role.Extra → ⊥) → Accepts (by_role rooms p used kind key r x g)
+    go (Text _ _) x5 m = elim x5 [ ]
+    go (Count _) x5 m = elim x5 [ ]
+    go (Number _ _) x7 m = elim x7 [ ]
+    go Uuid x6 m = elim x6 [ ]
+    go (Timestamp _) x8 m = elim x8 [ ]
+    go (Time _) x9 m = elim x9 [ ]
     go role.Extra extra m = absurd (m refl)
     go role.Ignored ignored m = tt

@@ -13,7 +13,7 @@ use Rattle.table.specs.Event.{Attribute, mark_at, key_at, attribute_at, attribut
 use Rattle.integer.specs.Integer.{integer_of}
 use Rattle.time.specs.Time.{time_of}
 use Rattle.timestamp.specs.Timestamp.{timestamp_of}
-use Rattle.uuid.specs.Uuid.{uuid_of}
+use Rattle.uuids.specs.Uuid.{uuid_of}
 use Rattle.text.specs.Value.{value_text, checked_of}
 use Rattle.tree_record.specs.Record.{text_at, marked}
 use Rattle.tree_put.specs.Put.{blank, put_pair, put_text}

@@ -15,7 +15,7 @@ use Rattle.table.specs.Event.{Attribute}
 use Rattle.integer.specs.Integer.{is_integer}
 use Rattle.time.specs.Time.{is_time}
 use Rattle.timestamp.specs.Timestamp.{is_timestamp, timestamp_of}
-use Rattle.uuid.specs.Uuid.{is_uuid, uuid_of}
+use Rattle.uuids.specs.Uuid.{is_uuid, uuid_of}
 use Rattle.reference.specs.Reference.{refs_ok}
 use Rattle.text.specs.Value.{value_text}
 use Rattle.read_element.specs.Outcome.{◌>>=◌, Place, there, need, within, unlimited, fits}

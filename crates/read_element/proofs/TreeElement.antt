@@ -21,7 +21,7 @@ use Rattle.time.specs.Time.{time_of}
 use Rattle.time.proofs.Times.{time-range}
 use Rattle.timestamp.specs.Timestamp.{timestamp_of}
 use Rattle.timestamp.proofs.Ranges.{timestamp-range}
-use Rattle.uuid.specs.Uuid.{uuid_of}
+use Rattle.uuids.specs.Uuid.{uuid_of}
 use Rattle.refusal.specs.Refusal.{Outcome}
 use Rattle.table.specs.Event.{Attribute}
 use Rattle.tree_report.specs.inside.Cells.{absent, valued, fits_time}

@@ -13,7 +13,7 @@ use Rattle.utf8.specs.Characters.{boundary}
 use Rattle.utf8.proofs.Boundaries.{boundary-append, boundary-in}
 use Rattle.timestamp.specs.Timestamp.{in_range}
 use Rattle.timestamp.specs.declared.Moment.{Moment}
-use Rattle.uuid.specs.declared.Words.{Words}
+use Rattle.uuids.specs.declared.Words.{Words}
 use Rattle.tree_report.specs.inside.Cells.{Cell, absent, valued, constant, is_given, first_word, second_word, is_some, moment_or_zero, time_or_zero, flags_of, fits_moment, fits_time}
 use Rattle.tree_report.specs.Report.{Duration}
 use Rattle.tree_report.specs.Fields.{kind_of, has_bit}

@@ -147,10 +147,10 @@ follow-may o r = refl
 
 pub path-order : {o p : Open} {rs : List (List ℕ)} → Each (λ r. live r ≡ true → has_bit 9 r ≡ false) rs → Path o (kinds rs) p → 1 ≤ p.level → may_end p ≡ true → good_order o rs ≡ true
 unfolding good_order
-path-order {p = p} done end l m = both (le-leb 1 p.level l) m
-path-order (more h hs) (past e a) l m = rw e (path-order hs a l m)
+path-order {o} {p} done end l m = both (le-leb 1 p.level l) m
+path-order {o} (more h hs) (past e a) l m = rw e (path-order {o = o} hs a l m)
 path-order {o} {p} (more {x = r} {xs = rs} h hs) (next e f a) l m =
-    rw e (both (sym (follow-may o r) ∙ f) (path-order hs (subst (λ (q : Open). Path q (kinds rs) p) (follow-kind o r (h e)) a) l m))
+    rw e (both (sym (follow-may o r) ∙ f) (path-order {o = following o r} hs (subst (λ (q : Open). Path q (kinds rs) p) (follow-kind o r (h e)) a) l m))
 
 -- all dead: nothing is open
 pub path-dead : {ks : List ℕ} → Each (λ k. ltb k 16 ≡ false) ks → (o : Open) → Path o ks o

@@ -119,7 +119,7 @@ pub reading-layout : (n m k : ℕ) (es : List Event) (s : Machine) → Each Fair
     → layout (laid (zeros n) (joined s.content.records)) (laid (zeros m) s.content.texts) ≡ true
 reading-layout n m k es s f e = ended-layout n m k s (run-ended n m k es s f e)
 
--- and `reportOf` of it is that report
+-- and `report_of` of it is that report
 pub reading-report : (n m k : ℕ) (es : List Event) (s : Machine) → Each FairEvent es → run (rooms_of n m k) es begin ≡ accepted s
     → report_of (laid (zeros n) (joined s.content.records)) (laid (zeros m) s.content.texts) ≡ report_from s.content.texts (only live s.content.records)
 reading-report n m k es s f e = ended-report n m k s (run-ended n m k es s f e)

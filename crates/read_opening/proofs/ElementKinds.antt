@@ -12,8 +12,8 @@ use Rattle.integer.specs.Integer.{integer_of}
 use Rattle.time.specs.Time.{time_of}
 use Rattle.timestamp.specs.Timestamp.{timestamp_of}
 use Rattle.timestamp.specs.declared.Moment.{Moment}
-use Rattle.uuid.specs.Uuid.{uuid_of}
-use Rattle.uuid.specs.declared.Words.{Words}
+use Rattle.uuids.specs.Uuid.{uuid_of}
+use Rattle.uuids.specs.declared.Words.{Words}
 use Rattle.table.specs.Event.{Attribute}
 use Rattle.tree_report.proofs.EncodeLists.{Each, done, more, each_append}
 use Rattle.tree_record.specs.Record.{marked, has_bit}

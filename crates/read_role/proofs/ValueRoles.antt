@@ -18,8 +18,8 @@ use Rattle.integer.specs.Integer.{integer_of}
 use Rattle.time.specs.Time.{time_of}
 use Rattle.timestamp.specs.Timestamp.{timestamp_of}
 use Rattle.timestamp.specs.declared.Moment.{Moment}
-use Rattle.uuid.specs.Uuid.{uuid_of}
-use Rattle.uuid.specs.declared.Words.{Words}
+use Rattle.uuids.specs.Uuid.{uuid_of}
+use Rattle.uuids.specs.declared.Words.{Words}
 use Rattle.text.specs.Value.{value_text, value_of, value_laid}
 use Rattle.tree_record.specs.Record.{marked}
 use Rattle.tree_put.specs.Put.{put_text, put_count_of, put_words, put_uuid, uuid_words, put_moment, moment_words, put_time}

@@ -7,7 +7,7 @@ use Rattle.text.specs.Value.{value_text, checked_of}
 use Rattle.integer.specs.Integer.{integer_of}
 use Rattle.time.specs.Time.{time_of}
 use Rattle.timestamp.specs.Timestamp.{timestamp_of}
-use Rattle.uuid.specs.Uuid.{uuid_of}
+use Rattle.uuids.specs.Uuid.{uuid_of}
 use Rattle.tree_report.specs.Report.{Text}
 use Rattle.read_element.specs.Outcome.{Place, Rooms}
 use Rattle.read_report.specs.Deserialize.{Used, taking, storing, Element, keys_of, has_extras, required, is_in, Sort, a_text, a_number, a_moment, a_time, a_uuid, sort_of}

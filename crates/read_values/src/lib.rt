@@ -5,7 +5,7 @@ ghost use Rattle.std.specs.Prelude.{◌≡◌, ◌++◌, ◌≤◌, ◌-◌, len
 ghost use Rattle.tree_record.specs.Record.{marked};
 ghost use Rattle.tree_put.specs.Put.{put_text, put_count_of, put_uuid, put_moment, put_time};
 ghost use Rattle.integer.specs.Integer.{integer_of};
-ghost use Rattle.uuid.specs.Uuid.{uuid_of};
+ghost use Rattle.uuids.specs.Uuid.{uuid_of};
 ghost use Rattle.timestamp.specs.Timestamp.{timestamp_of};
 ghost use Rattle.time.specs.Time.{time_of};
 ghost use Rattle.text.specs.Value.{value_of, value_laid};
@@ -22,7 +22,7 @@ use timestamp::{Timestamp, timestamp_of};
 use tree_put::{put_count, put_text};
 use tree_record::put_bit;
 use tree_values::{put_moment, put_time, put_uuid};
-use uuid::{Uuid, uuid_of};
+use uuids::{Uuid, uuid_of};
 
 // Where the texts end now, or why the value is refused.
 #[derive(Clone, Copy)]

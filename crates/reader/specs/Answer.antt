@@ -4,7 +4,7 @@ use Rattle.refusal.specs.Refusal.{Outcome, verdict_of, refusal_of}
 use Rattle.read_machine.specs.Reading.{Read}
 use Rattle.reader.specs.declared.Reading.{Reading}
 
--- the answer for an outcome: a refusal whole (rule F1); where the table is accepted, the field `refusal` is `noRefusal`
+-- the answer for an outcome: a refusal whole (rule F1); where the table is accepted, the field `refusal` is `no_refusal`
 abbrev pub answer_of : Outcome (Unit {0}) → Reading
 answer_of o = record { verdict = verdict_of o; refusal = refusal_of o }
 

@@ -5,7 +5,7 @@ ghost use Rattle.std.specs.Prelude.{◌≡◌, length};
 ghost use Rattle.area.specs.Area.{zeros};
 ghost use Rattle.refusal.specs.Refusal as why;
 ghost use Rattle.table.specs.Table.{table_of};
-ghost use Rattle.read_machine.specs.Reading as result;
+ghost use Rattle.read_machine.specs.Reading as machine;
 ghost use Rattle.read_element.specs.inside.Refines.{areas};
 ghost use Rattle.read_step.specs.inside.Standing.{Lent, Placed, refusal_at};
 ghost use Rattle.read_step.specs.inside.Promises.{given, lent};
@@ -48,8 +48,8 @@ fn run_events(
     requires lent { Lent (length records.old) (length text.old) (length scratch.old) }
     requires records_value { records.old ≡ zeros (length records.old) }
     requires text_value { text.old ≡ zeros (length text.old) }
-    ensures* { λ r. ⌜ Runs (given events.now attributes.now source.now)
-        (lent records.old text.old scratch.old) (areas records.new text.new) r ⌝ }
+    ensures { Runs (given events.now attributes.now source.now)
+        (lent records.old text.old scratch.old) (areas records.new text.new) result }
 {
     let mut st = begin();
     let mut first = 0;
@@ -68,7 +68,7 @@ fn run_events(
 }
 
 fn refusing(cause: Cause, path: Path, event: u32, attribute: u32) -> Reading
-    ensures* { λ r. ⌜ r ≡ record { verdict = IsRefused; refusal = record { cause = cause; path = path; event = event; attribute = attribute } } ⌝ }
+    ensures { result ≡ record { verdict = IsRefused; refusal = record { cause = cause; path = path; event = event; attribute = attribute } } }
 {
     Reading {
         verdict: Verdict::Refused,
@@ -82,7 +82,7 @@ fn refusing(cause: Cause, path: Path, event: u32, attribute: u32) -> Reading
 }
 
 fn accepting() -> Reading
-    ensures* { λ r. ⌜ r ≡ answer_of (why.accepted tt) ⌝ }
+    ensures { result ≡ answer_of (why.accepted tt) }
 {
     Reading {
         verdict: Verdict::Accepted,
@@ -93,7 +93,7 @@ fn accepting() -> Reading
 // The one place where a path is made, with the numbers of event and attribute (rule F6).
 fn halted(st: State, h: Halt) -> Reading
     requires { Placed st h }
-    ensures* { λ r. ⌜ ((placed : Placed st h) → r ≡ answer_of (why.refused (refusal_at st h placed.name))) ⌝ }
+    ensures { ((placed : Placed st h) → result ≡ answer_of (why.refused (refusal_at st h placed.name))) }
 {
     let control = st.control;
     let marks = st.marks;
@@ -116,8 +116,8 @@ fn run_within(
     requires source_value { table_of events.now attributes.now source.now ≡ why.accepted tt }
     requires records_value { records.old ≡ zeros (length records.old) }
     requires text_value { text.old ≡ zeros (length text.old) }
-    ensures* { λ r. ⌜ Runs (given events.now attributes.now source.now)
-        (lent records.old text.old scratch.old) (areas records.new text.new) r ⌝ }
+    ensures { Runs (given events.now attributes.now source.now)
+        (lent records.old text.old scratch.old) (areas records.new text.new) result }
 {
     let words = least(records.len() / 32, limit::RECORDS) * 32;
     let bytes = least(text.len(), limit::BYTES);
@@ -144,8 +144,8 @@ fn read_good(
     requires source_value { table_of events.now attributes.now source.now ≡ why.accepted tt }
     requires records_value { records.old ≡ zeros (length records.old) }
     requires text_value { text.old ≡ zeros (length text.old) }
-    ensures* { λ r. ⌜ Reads (given events.now attributes.now source.now)
-        (lent records.old text.old scratch.old) (lent records.new text.new scratch.new) r ⌝ }
+    ensures { Reads (given events.now attributes.now source.now)
+        (lent records.old text.old scratch.old) (lent records.new text.new scratch.new) result }
 {
     let ran = run_within(events, attributes, source, records, text, scratch);
     match ran {
@@ -170,14 +170,14 @@ pub fn read(
     text: &mut [u8],
     scratch: &mut [u8],
 ) -> Reading
-    ensures* answer { λ r. ⌜ r ≡ answer_of (result.reading events.now attributes.now source.now
-        (length records.old) (length text.old) (length scratch.old)).outcome ⌝ }
-    ensures* records { λ _. ⌜ records.new ≡ (result.reading events.now attributes.now source.now
-        (length records.old) (length text.old) (length scratch.old)).words ⌝ }
-    ensures* text { λ _. ⌜ text.new ≡ (result.reading events.now attributes.now source.now
-        (length records.old) (length text.old) (length scratch.old)).text ⌝ }
-    ensures* scratch { λ _. ⌜ scratch.new ≡ (result.reading events.now attributes.now source.now
-        (length records.old) (length text.old) (length scratch.old)).scratch ⌝ }
+    ensures answer { result ≡ answer_of (machine.reading events.now attributes.now source.now
+        (length records.old) (length text.old) (length scratch.old)).outcome }
+    ensures records { records.new ≡ (machine.reading events.now attributes.now source.now
+        (length records.old) (length text.old) (length scratch.old)).words }
+    ensures text { text.new ≡ (machine.reading events.now attributes.now source.now
+        (length records.old) (length text.old) (length scratch.old)).text }
+    ensures scratch { scratch.new ≡ (machine.reading events.now attributes.now source.now
+        (length records.old) (length text.old) (length scratch.old)).scratch }
 {
     clear_tree(records, text);
     let checked = check_table(events, attributes, source);

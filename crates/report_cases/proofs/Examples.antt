@@ -17,7 +17,7 @@ use Rattle.time.specs.Time.{make_time}
 use Rattle.calendar.specs.Calendar.{is_leap, month_length}
 use Rattle.timestamp.specs.Timestamp as stamp
 use Rattle.timestamp.specs.declared.Moment.{Moment}
-use Rattle.uuid.specs.Uuid.{is_uuid, uuid_of}
+use Rattle.uuids.specs.Uuid.{is_uuid, uuid_of}
 use Rattle.reference.specs.Reference as reference
 use Rattle.refusal.specs.Refusal.{nowhere, Outcome, accepted, refused}
 use Rattle.refusal.specs.declared.Cause.{Cause}

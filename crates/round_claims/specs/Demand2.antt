@@ -2,7 +2,7 @@
 -- layout. The claims are types; proofs/Demand2.antt has a proof of each. Definitions only.
 --
 -- Whoever wants to be sure that this is what the rules ask for reads these definitions, with docs/RULES.md beside them:
---   tableOf, resolve (crate table: Table, Event)                 refusal 11; a table's events with their bytes and attributes
+--   table_of, resolve (crate table: Table, Event)                refusal 11; a table's events with their bytes and attributes
 --   deserialize, deserialize_in (crate read_report: Deserialize)  the report that the rules of reading give for events, with no areas; and in areas
 --   steps, begin (crate read_report: Deserialize)                the same event by event, with the room that is taken
 --   answer_to, Holds (crate read_report: Answer)                  what reading a table answers; when two areas hold a report

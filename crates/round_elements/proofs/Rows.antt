@@ -6,7 +6,7 @@ use mathlib.Core.Option.{Option, none, some}
 use mathlib.Core.Path.{◌≡◌, refl, ap, ◌∙◌}
 use lib.Dec.{lit≤}
 use Rattle.timestamp.specs.declared.Moment.{Moment}
-use Rattle.uuid.specs.declared.Words.{Words}
+use Rattle.uuids.specs.declared.Words.{Words}
 use Rattle.tree_record.specs.Record.{marked}
 use Rattle.tree_report.specs.Report.{Duration}
 use Rattle.tree_report.specs.inside.Cells.{Cell, absent, valued, first_word, second_word, of_number, of_count, uuid_front, uuid_back, moment_or_zero, time_or_zero, flags_of, Row, presence}

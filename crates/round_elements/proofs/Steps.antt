@@ -9,7 +9,7 @@ use Rattle.names.specs.Bytes.{bytes}
 use Rattle.names.specs.Keys.{key_of}
 use Rattle.refusal.specs.Refusal.{Outcome, accepted}
 use Rattle.timestamp.specs.declared.Moment.{Moment}
-use Rattle.uuid.specs.declared.Words.{Words}
+use Rattle.uuids.specs.declared.Words.{Words}
 use Rattle.table.specs.Event.{Attribute}
 use Rattle.tree_report.specs.Report.{Text, Duration}
 use Rattle.tree_report.specs.inside.Cells.{Cell, absent, valued, stored, of_text, of_number, of_count, uuid_front, uuid_back, Row, fits_cell, fits_moment, fits_time}

@@ -21,7 +21,7 @@ use Rattle.time_text.proofs.ReadBack.{time-read-back}
 use Rattle.timestamp.specs.Timestamp.{in_range}
 use Rattle.timestamp.specs.declared.Moment.{Moment}
 use Rattle.utf8.specs.Utf8.{utf8}
-use Rattle.uuid.specs.declared.Words.{Words}
+use Rattle.uuids.specs.declared.Words.{Words}
 use Rattle.tree_record.specs.Record.{marked}
 use Rattle.tree_report.specs.Report.{Duration}
 use Rattle.tree_report.specs.inside.Cells.{written, fits_cell, of_count, fits_time, uuid_front, uuid_back}

@@ -5,7 +5,7 @@ use Rattle.area.specs.Area.{zeros}
 use Rattle.utf8.specs.Characters.{boundary}
 use Rattle.timestamp.specs.Timestamp.{in_range}
 use Rattle.timestamp.specs.declared.Moment.{Moment}
-use Rattle.uuid.specs.declared.Words.{Words}
+use Rattle.uuids.specs.declared.Words.{Words}
 use Rattle.tree_record.specs.Record.{number_at}
 use Rattle.schema.specs.Report.{Duration}
 use Rattle.schema.specs.Schema.{Form, text, number, time, timestamp, uuid, flag, Presence, always, must, may, unkept}

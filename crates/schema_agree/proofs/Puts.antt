@@ -8,7 +8,7 @@ use native.Mathlib.Omega.{arith}
 use lib.Dec.{eqb}
 use lib.ListN.{length, get_or, set, take, drop, take-append-drop}
 use Rattle.timestamp.specs.declared.Moment.{Moment}
-use Rattle.uuid.specs.declared.Words.{Words}
+use Rattle.uuids.specs.declared.Words.{Words}
 use Rattle.tree_record.specs.Record.{marked}
 use Rattle.tree_put.specs.Put.{put_text, put_count_of, put_words, put_uuid, put_moment, put_time}
 use Rattle.schema.specs.Schema.{text, number, time, timestamp, uuid}

@@ -16,7 +16,7 @@ use port_values::codes::{
     element_at, family_at, field_at, holder_at, kind_at, number_at, outcome_at,
 };
 use timestamp::Moment;
-use uuid::Words;
+use uuids::Words;
 
 // Where the setters begin among the names of calls.
 const SETTERS: usize = 8;

@@ -11,7 +11,7 @@ use show::{bytes_of, front, show_bytes, show_kept, show_moment, show_refusal, sh
 use text::kept::kept_of;
 use time::read::Time;
 use timestamp::Timestamp;
-use uuid::Uuid;
+use uuids::Uuid;
 
 fn try_utf8(hex: &[u8]) {
     let mut room = [0u8; 32];
@@ -138,7 +138,7 @@ fn try_timestamp(text: &[u8]) {
 }
 
 fn try_uuid(text: &[u8]) {
-    let uuid = uuid::uuid_of(text);
+    let uuid = uuids::uuid_of(text);
     match uuid {
         Uuid::Is(w) => show_words(w),
         Uuid::NotUtf8 => show_refusal(2),

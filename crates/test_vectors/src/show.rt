@@ -4,7 +4,7 @@ ghost use Rattle.io.specs.Counts.{IsPrefixLen};
 
 use text::kept::Kept;
 use timestamp::Moment;
-use uuid::Words;
+use uuids::Words;
 
 pub fn write(s: &[u8]) {
     io::write_all(1, s);

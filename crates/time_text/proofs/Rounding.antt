@@ -1,4 +1,6 @@
 -- How far rounding is off: `closest` by at most half, and `grid` by at most half of its unit. Assumes nothing.
+use lib.Ieee.{nan}
+use lib.Ieee.{inf}
 use mathlib.Core.Path.{◌≡◌, sym, ap, ◌∙◌, subst}
 use mathlib.Core.Bool.{true, false, not, true≢false}
 use Prim.Native.Nat.{ℕ, zero, suc, ◌+◌, ◌-◌, ◌*◌, ◌/◌, ◌%◌, ◌^◌, ◌≤◌, ◌<◌, compare, Ordering}
@@ -124,6 +126,10 @@ cross P Q E D a b c d x y =
 
 pub add_at : (f : Format) (x y : Float) (a c b d : ℕ) → 0 < c → 0 < d → HasValue x false a c → HasValue y false b d → add f x y ≡ round f false (a * d + b * c) (c * d)
 unfolding add sum
+add_at f nan y a c b d C D v w = elim v [ ]
+add_at f (inf _) y a c b d C D v w = elim v [ ]
+add_at f (fin false m e) nan a c b d C D v w = elim w [ ]
+add_at f (fin false m e) (inf _) a c b d C D v w = elim w [ ]
 add_at f (fin true m e) y a c b d C D v w = absurd (true≢false v.0)
 add_at f (fin false m e) (fin true n g) a c b d C D v w = absurd (true≢false w.0)
 add_at f (fin false m e) (fin false n g) a c b d C D v w =
@@ -133,6 +139,8 @@ add_at f (fin false m e) (fin false n g) a c b d C D v w =
 -- by a float that is written n * 2 ^ i
 pub div-at : (f : Format) (x : Float) (n i a c : ℕ) → 0 < c → HasValue x false a c → div f x (fin false (suc n) (pos i)) ≡ round f false a (c * (suc n * 2 ^ i))
 unfolding div
+div-at f nan n i a c C v = elim v [ ]
+div-at f (inf _) n i a c C v = elim v [ ]
 div-at f (fin true m e) n i a c C v = absurd (true≢false v.0)
 div-at f (fin false m e) n i a c C v =
     rw (eqb-suc-zero n)
@@ -145,6 +153,8 @@ div-at f (fin false m e) n i a c C v =
 
 pub small_at : (x : Float) (a c : ℕ) → 0 < c → HasValue x false a c → a < 2 ^ 53 * c → T (small x)
 unfolding small
+small_at nan a c C v h = elim v [ ]
+small_at (inf _) a c C v h = elim v [ ]
 small_at (fin true m e) a c C v h = absurd (true≢false v.0)
 small_at (fin false m e) a c C v h =
     lt→ltb (m * up e) (2 ^ 53 * down e)

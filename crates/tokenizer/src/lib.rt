@@ -3,7 +3,7 @@
 
 ghost use Rattle.std.specs.Prelude.{◌≡◌, ◌≤◌, length, replicate};
 ghost use Rattle.xml_machine.specs.Tokens.{tokens};
-ghost use Rattle.xml_state.specs.Answer.{result};
+ghost use Rattle.xml_state.specs.Answer.{result as given_result};
 ghost use Rattle.xml_state.specs.inside.Tables.{class_table, next_table, act_table};
 ghost use Rattle.xml_state.specs.inside.Turns.{cleared};
 
@@ -30,7 +30,7 @@ fn run_with(
     requires source_len_bound { length source.now ≤ 16777216 }
     requires events_value { (events.old ≡ replicate (length events.old) 0) × (attributes.old ≡ replicate (length attributes.old) 0) }
     requires classes_value { (classes.now ≡ class_table) × (nexts.now ≡ next_table) × (acts.now ≡ act_table) }
-    ensures* { λ r. ⌜ cleared r events.new attributes.new ≡ tokens source.now (length events.old) (length attributes.old) ⌝ }
+    ensures { cleared result events.new attributes.new ≡ tokens source.now (length events.old) (length attributes.old) }
 {
     let mut st = begin();
     let mut at = 0;
@@ -64,7 +64,7 @@ fn run_with(
 fn run(source: &[u8], events: &mut [u32], attributes: &mut [u32]) -> Tokenized
     requires source_len_bound { length source.now ≤ 16777216 }
     requires events_value { (events.old ≡ replicate (length events.old) 0) × (attributes.old ≡ replicate (length attributes.old) 0) }
-    ensures* { λ r. ⌜ cleared r events.new attributes.new ≡ tokens source.now (length events.old) (length attributes.old) ⌝ }
+    ensures { cleared result events.new attributes.new ≡ tokens source.now (length events.old) (length attributes.old) }
 {
     run_with(
         source,
@@ -78,7 +78,7 @@ fn run(source: &[u8], events: &mut [u32], attributes: &mut [u32]) -> Tokenized
 
 // By rules N1, N2, N3, N4, N5, N6, N7, N8, N9 and N10.
 pub fn tokenize(source: &[u8], events: &mut [u32], attributes: &mut [u32]) -> Tokenized
-    ensures* { λ r. ⌜ result r events.new attributes.new ≡ tokens source.now (length events.old) (length attributes.old) ⌝ }
+    ensures { given_result result events.new attributes.new ≡ tokens source.now (length events.old) (length attributes.old) }
 {
     clear_words(events);
     clear_words(attributes);

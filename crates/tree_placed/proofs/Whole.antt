@@ -33,11 +33,15 @@ use Rattle.tree_placed.proofs.Records.{Placing, all-placing, shown-placed, good_
 -- ---- placed records of these rows show them, and are good if they fit
 module _ (texts : List ℕ) where
   all_shown : (ps : List Placed) {rows : List row.Row} → Each Known rows → Beside Placing rows (rows_in ps) → Each (InTexts texts) ps → (z : List ℕ) → Shows (texts ++ z) rows (records_in ps)
+  all_shown [] (more {xs = xs} k ks) x11 _ z = elim x11 [ ]
+  all_shown (p ∷ ps) done x9 _ z = elim x9 [ ]
   all_shown [] done ended done z = ended
   all_shown (p ∷ ps) (more k ks) (beside b bs) (more h hs) z = beside (shown-placed b p.places h k z) (all_shown ps ks bs hs z)
 
   all-good : (ps : List Placed) {rows : List row.Row} → Each Known rows → Each (λ r. row.fits_row r ≡ true) rows → Beside Placing rows (rows_in ps)
       → Each (InTexts texts) ps → all_good texts (records_in ps) ≡ true
+  all-good [] (more {xs = xs} k ks) _ x15 _ = elim x15 [ ]
+  all-good (p ∷ ps) done _ x13 _ = elim x13 [ ]
   all-good [] done done ended done = refl
   all-good (p ∷ ps) (more k ks) (more f fs) (beside b bs) (more h hs) = both (good_placed b p.places h k f) (all-good ps ks fs bs hs)
 

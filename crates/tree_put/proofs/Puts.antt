@@ -8,7 +8,7 @@ use lib.Dec.{eqb}
 use lib.ListN.{length, get_or, set, take, drop, length-set}
 use lib.Seq.{set_out, take-set-lt, drop-set-lt}
 use Rattle.timestamp.specs.declared.Moment.{Moment}
-use Rattle.uuid.specs.declared.Words.{Words}
+use Rattle.uuids.specs.declared.Words.{Words}
 use Rattle.tree_record.proofs.RecordLaws.{field-same, field-other}
 use Rattle.tree_record.specs.Record.{mask_of, has_bit, marked}
 use Rattle.tree_record.proofs.Marks.{marked-length}

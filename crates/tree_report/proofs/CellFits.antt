@@ -9,7 +9,7 @@ use borrow.Author.Tests.{leb-true, leb-false, le-leb, lt-leb}
 use lib.Dec.{leb}
 use lib.ListN.{length}
 use Rattle.timestamp.specs.declared.Moment.{Moment}
-use Rattle.uuid.specs.declared.Words.{Words}
+use Rattle.uuids.specs.declared.Words.{Words}
 use Rattle.tree_record.specs.Kinds as kind
 use Rattle.tree_report.specs.Report.{Text, Duration, Pair, NonSuccessKind, FlakyOrRerun, flaky, TestRerun, Reason}
 use Rattle.tree_report.specs.Report.{TestCaseStatus, success, non_success, TestCase, TestSuite, Report}

@@ -15,7 +15,7 @@ use Rattle.tree_report.specs.Fields.{has_bit, given, number_at, moment_of, times
 use Rattle.tree_report.specs.Layout.{zero_at}
 use Rattle.tree_report.specs.inside.Parts.{slot, moment_slot, time_slot, bits_of, only_bits}
 use Rattle.timestamp.specs.declared.Moment.{Moment}
-use Rattle.uuid.specs.declared.Words.{Words}
+use Rattle.uuids.specs.declared.Words.{Words}
 use Rattle.tree_report.specs.Report.{Duration}
 pub use Rattle.schema.proofs.Tests.{bit-flag}
 

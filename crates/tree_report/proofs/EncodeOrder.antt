@@ -45,6 +45,7 @@ leads-none : {P Q : Open → Type 0} → ((o : Open) → P o → Q o) → Leads 
 leads-none {P} {Q} f = record { on = go }
   where
     go : (rs rest : List (List ℕ)) → Heads [] rs → ((o : Open) → Q o → good_order o rest ≡ true) → (o : Open) → P o → good_order o (rs ++ rest) ≡ true
+    go (_ ∷ _) rest x5 k o p = elim x5 [ ]
     go [] rest ended k o p = k o (f o p)
 
 leads-from : {P Q R : Open → Type 0} {rows : List Row} → ((o : Open) → P o → Q o) → Leads Q rows R → Leads P rows R
@@ -54,6 +55,7 @@ leads-row : {P Q R : Open → Type 0} {row : Row} {rows : List Row} → Steps P 
 leads-row {P} {Q} {R} {row} {rows} s l = record { on = go }
   where
     go : (rs rest : List (List ℕ)) → Heads (row ∷ rows) rs → ((o : Open) → R o → good_order o rest ≡ true) → (o : Open) → P o → good_order o (rs ++ rest) ≡ true
+    go [] rest x3 k o p = elim x3 [ ]
     go (w ∷ rs) rest (beside h hs) k o p =
         let q = s o w h p in
         order-step o w (rs ++ rest) q.alive q.allowed (l.on rs rest hs k (following o w) q.leaves)

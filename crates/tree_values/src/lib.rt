@@ -7,7 +7,7 @@ ghost use Rattle.tree_put.specs.Put.{put_uuid, put_moment, put_time};
 use timestamp::Moment;
 use tree_put::put_pair;
 use tree_record::{bit, put_bit, word};
-use uuid::Words;
+use uuids::Words;
 
 pub fn put_uuid(words: &mut [u32], w: Words)
     ensures { words.new ≡ put_uuid w words.old }

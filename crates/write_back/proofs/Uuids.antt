@@ -10,8 +10,8 @@ use lib.Dec.{ltb, lit<}
 use Rattle.area.specs.Answer.{gives}
 use Rattle.digits.specs.Digits.{digit, is_digit, value}
 use Rattle.digits.proofs.Values.{append-value, value-from}
-use Rattle.uuid.specs.declared.Words.{Words}
-use Rattle.uuid.specs.Uuid.{is_uuid, words_of, uuid_of}
+use Rattle.uuids.specs.declared.Words.{Words}
+use Rattle.uuids.specs.Uuid.{is_uuid, words_of, uuid_of}
 use Rattle.write_uuid.specs.Written.{hex_digit, hex_octets, uuid_text}
 use Rattle.write_uuid.proofs.Texts.{utf8-uuid}
 

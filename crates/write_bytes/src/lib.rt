@@ -11,7 +11,7 @@ ghost use Rattle.refusal.specs.declared.Cause.TheVariants as cause;
 
 use area::{Stored, least};
 use timestamp::Moment;
-use uuid::Words;
+use uuids::Words;
 
 // Puts t at the front of out.
 fn copy_words(out: &mut [u32], t: &[u32]) -> Stored

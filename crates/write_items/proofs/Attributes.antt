@@ -8,7 +8,7 @@ use Rattle.names.specs.Bytes.{bytes}
 use Rattle.names.specs.Keys.{keys}
 use Rattle.names.specs.Keys as key
 use Rattle.timestamp.specs.declared.Moment.{Moment}
-use Rattle.uuid.specs.declared.Words.{Words}
+use Rattle.uuids.specs.declared.Words.{Words}
 use Rattle.table.specs.Event.{Attribute}
 use Rattle.tree_record.specs.Bits as bit
 use Rattle.tree_record.specs.Words as word

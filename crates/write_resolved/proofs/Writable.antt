@@ -4,7 +4,7 @@ use mathlib.Core.List.{List, [], ◌∷◌, map}
 use mathlib.Core.Option.{Option, none, some}
 use Rattle.names.specs.Bytes.{bytes}
 use Rattle.timestamp.specs.declared.Moment.{Moment}
-use Rattle.uuid.specs.declared.Words.{Words}
+use Rattle.uuids.specs.declared.Words.{Words}
 use Rattle.table.specs.Event.{Attribute, Event, Start, Empty, End, Text, CData, Ref, Other, Indent, Tag, Piece, Eof, Fault}
 use Rattle.tree_report.specs.Report.{Duration, Pair, FlakyOrRerun, flaky, TestRerun, Reason, TestCaseStatus, success, non_success, skipped, TestCase, TestSuite, Report}
 use Rattle.tree_report.specs.Report as report

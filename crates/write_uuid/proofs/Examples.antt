@@ -2,7 +2,7 @@
 use Prim.Native.Nat.{ℕ}
 use mathlib.Core.Path.{◌≡◌, refl}
 use Rattle.names.specs.Bytes.{bytes}
-use Rattle.uuid.specs.declared.Words.{Words}
+use Rattle.uuids.specs.declared.Words.{Words}
 use Rattle.write_uuid.specs.Written.{hex_digit, uuid_text}
 
 words : ℕ → ℕ → ℕ → ℕ → Words

@@ -6,7 +6,7 @@ use native.Mathlib.Omega.{arith}
 use lib.ListN.{set}
 use lib.Seq.{sets}
 use Rattle.names.specs.Bytes.{bytes}
-use Rattle.uuid.specs.declared.Words.{Words}
+use Rattle.uuids.specs.declared.Words.{Words}
 use Rattle.write_uuid.specs.Written.{hex_digit, hex_octets, uuid_text}
 
 module _ (l : List ℕ) (at n : ℕ) where

@@ -9,7 +9,7 @@ use lib.ListN.{length}
 use Rattle.utf8.specs.Utf8.{utf8}
 use Rattle.utf8.specs.inside.Ascii.{ascii}
 use Rattle.utf8.proofs.Rules.{ascii-utf8}
-use Rattle.uuid.specs.declared.Words.{Words}
+use Rattle.uuids.specs.declared.Words.{Words}
 use Rattle.write_uuid.specs.Written.{hex_digit, uuid_text}
 
 digit-ascii : (n : ℕ) → ltb (hex_digit (n % 16)) 0x80 ≡ true

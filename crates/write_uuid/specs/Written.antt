@@ -1,6 +1,6 @@
 -- A UUID as it is written: RFC 9562, section 4, in lower case. Definitions only.
 use Rattle.std.specs.Prelude.{ℕ, zero, suc, ◌+◌, ◌/◌, ◌%◌, List, [], ◌∷◌, ◌++◌, cond, ltb}
-use Rattle.uuid.specs.declared.Words.{Words}
+use Rattle.uuids.specs.declared.Words.{Words}
 
 -- the digit of d, which is below 16: 0 to 9, a to f
 unfoldable pub hex_digit : ℕ → ℕ

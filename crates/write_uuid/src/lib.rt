@@ -8,7 +8,7 @@ ghost use Rattle.write_uuid.specs.Written.{hex_digit, hex_octets, uuid_text};
 ghost use Rattle.refusal.specs.declared.Cause.TheVariants as cause;
 
 use area::{Stored, copy_into};
-use uuid::Words;
+use uuids::Words;
 
 // The last hexadecimal digit of n.
 fn digit(n: u32) -> u8

@@ -15,7 +15,7 @@ use list_values::part_of;
 use names::key;
 use tree_record::{field, word};
 use tree_stamp::moment_of;
-use uuid::Words;
+use uuids::Words;
 use write_bytes::{put_escaped, put_timestamp, put_uuid};
 use write_codes::offset_of_key;
 use write_form::form;

@@ -12,8 +12,8 @@
 --   Result, room_of, tokens (crate xml_machine: Tokens)                  what the call answers and leaves in its areas: the promise of the call
 --   due_in_of (crate xml_tokens: Due), due, open_run (Tokens), step (Machine)  the records that are due in some bytes
 --   Begun (crate xml_places: Begun)                                     records that begin with those that are due
--- `dueIn` stands in refusal 16 alone, for sources that aren't documents. Which records come due there the grammar says, by `begins`; believed
--- of `dueIn` is only at which byte each of them does (rule N9).
+-- `due_in_of` stands in refusal 16 alone, for sources that aren't documents. Which records come due there the grammar says, by `begins`; believed
+-- of `due_in_of` is only at which byte each of them does (rule N9).
 --
 -- `tokens` takes the lengths of both areas and not what these held before: no claim depends on old contents.
 use Rattle.std.specs.Prelude.{ℕ, ◌+◌, ◌-◌, ◌*◌, ◌≤◌, ◌<◌, ◌≡◌, List, ◌++◌, ◌⊎◌, ◌↔◌, length, take, drop, replicate}

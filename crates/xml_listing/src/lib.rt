@@ -4,7 +4,7 @@
 ghost use Rattle.std.specs.Prelude.{◌≡◌, min, length};
 ghost use Rattle.area.specs.Area.{zeros, laid};
 ghost use Rattle.public_claims.specs.PublicListing.{refused_text};
-ghost use Rattle.xml_state.specs.Answer.{result};
+ghost use Rattle.xml_state.specs.Answer.{result as given_result};
 ghost use Rattle.xml_listing.specs.XmlListing.{lent, table_in, listing_for};
 
 use clearing::clear_all;
@@ -13,7 +13,7 @@ use xml_state::Tokenized;
 
 // The n records, five words each, at the front of an area.
 pub fn table_in(words: &[u32], n: u32) -> &[u32]
-    ensures* { λ r. ⌜ r.now ≡ table_in n words.now ⌝ }
+    ensures { result.now ≡ table_in n words.now }
 {
     let m = (n as usize) * 5;
     if m < words.len() {
@@ -24,11 +24,11 @@ pub fn table_in(words: &[u32], n: u32) -> &[u32]
 
 // A refused document.
 fn refuse_all(records: &mut [u32], text: &mut [u8], scratch: &mut [u8], out: &mut [u8]) -> usize
-    ensures* out { λ _. ⌜ out.new ≡ laid (zeros (length out.old)) refused_text ⌝ }
-    ensures* count { λ r. ⌜ r ≡ min (length out.old) (length refused_text) ⌝ }
-    ensures* records { λ _. ⌜ records.new ≡ zeros (length records.old) ⌝ }
-    ensures* text { λ _. ⌜ text.new ≡ zeros (length text.old) ⌝ }
-    ensures* scratch { λ _. ⌜ scratch.new ≡ zeros (length scratch.old) ⌝ }
+    ensures out { out.new ≡ laid (zeros (length out.old)) refused_text }
+    ensures count { result ≡ min (length out.old) (length refused_text) }
+    ensures records { records.new ≡ zeros (length records.old) }
+    ensures text { text.new ≡ zeros (length text.old) }
+    ensures scratch { scratch.new ≡ zeros (length scratch.old) }
 {
     clear_all(records, text, scratch);
     refuse(out)
@@ -46,15 +46,15 @@ pub fn list_tokens(
     scratch: &mut [u8],
     out: &mut [u8],
 ) -> usize
-    ensures* out { λ _. ⌜ out.new ≡ laid (zeros (length out.old))
-        (listing_for (result told events.now attributes.now) source.now
-        (lent records.old text.old scratch.old out.old)) ⌝ }
-    ensures* count { λ r. ⌜ r ≡ min (length out.old)
-        (length (listing_for (result told events.now attributes.now) source.now
-        (lent records.old text.old scratch.old out.old))) ⌝ }
-    ensures* records { λ _. ⌜ records.new ≡ zeros (length records.old) ⌝ }
-    ensures* text { λ _. ⌜ text.new ≡ zeros (length text.old) ⌝ }
-    ensures* scratch { λ _. ⌜ scratch.new ≡ zeros (length scratch.old) ⌝ }
+    ensures out { out.new ≡ laid (zeros (length out.old))
+        (listing_for (given_result told events.now attributes.now) source.now
+        (lent records.old text.old scratch.old out.old)) }
+    ensures count { result ≡ min (length out.old)
+        (length (listing_for (given_result told events.now attributes.now) source.now
+        (lent records.old text.old scratch.old out.old))) }
+    ensures records { records.new ≡ zeros (length records.old) }
+    ensures text { text.new ≡ zeros (length text.old) }
+    ensures scratch { scratch.new ≡ zeros (length scratch.old) }
 {
     match told {
         Tokenized::Table(n, k) => public_listing(

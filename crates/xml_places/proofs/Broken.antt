@@ -1,4 +1,19 @@
 -- What is due in the first bytes of a source stays due, and a run of text that is broken off goes on. Assumes nothing.
+use state.{go}
+use state.{Value}
+use state.{Start}
+use state.{Ref}
+use state.{Pi}
+use state.{NameStart}
+use state.{NameEnd}
+use state.{Name}
+use state.{Mark}
+use state.{Key}
+use state.{Here}
+use state.{End}
+use state.{Empty}
+use state.{Comment}
+use state.{CData}
 use Prim.Native.Nat.{ℕ, ◌+◌, ◌-◌, ◌*◌, ◌≤◌, ◌<◌, max}
 use mathlib.Core.Path.{◌≡◌, refl, sym, ap, ◌∙◌, subst}
 use mathlib.Core.List.{List, [], ◌∷◌, ◌++◌}
@@ -94,6 +109,20 @@ next-text (b ∷ t) {s = s} r at count m l = by (step s b) (step-runs r b) (λ u
   where
     by : (o : Next) → Runs o → ((u : State) → Running u → NextText m.mark (at + 1) (events_due (due_from t u (at + 1) count m))) →
         NextText m.mark at (events_due (due_by o s at count m (λ u n k. due_from t u (at + 1) n k)))
+    by (go Mark u) x6 ih = elim x6 [ ]
+    by (go Here u) x7 ih = elim x7 [ ]
+    by (go Name u) x8 ih = elim x8 [ ]
+    by (go NameStart u) x9 ih = elim x9 [ ]
+    by (go NameEnd u) x10 ih = elim x10 [ ]
+    by (go Start u) x11 ih = elim x11 [ ]
+    by (go Empty u) x12 ih = elim x12 [ ]
+    by (go End u) x13 ih = elim x13 [ ]
+    by (go Key u) x14 ih = elim x14 [ ]
+    by (go Value u) x15 ih = elim x15 [ ]
+    by (go Ref u) x16 ih = elim x16 [ ]
+    by (go Comment u) x17 ih = elim x17 [ ]
+    by (go Pi u) x18 ih = elim x18 [ ]
+    by (go CData u) x19 ih = elim x19 [ ]
     by (state.go Stay u) (stays q) ih = let z = ih u q in let g = z.2 in (z.0, z.1, omega arith, z.3)
     by (state.go EndText u) ends ih = text-here m.mark at (due_from t u (at + 1) (counted count (text_due m.mark at)) (marking (at + 1) m)) l
     by (state.go TextMark u) ends-mark ih = text-here m.mark at (due_from t u (at + 1) (counted count (text_due m.mark at)) (marking (at + 1) m)) l

@@ -137,6 +137,7 @@ module _ {size : ℕ} {rs : List Rec} {ns : List Range} {top : ℕ} {area : List
     where
       go : (is : List ℕ) (ms : List Range) → Lies size rs (length rs) is ms → ms ≡ [] → top ≡ link is → area ≡ chained is (laid_out rs (length area)) → (top ≡ 0) × (area ≡ laid_out rs (length area))
       go [] ms none e p h = (p, h)
+      go (i ∷ is) [] x5 e p h = elim x5 [ ]
       go (i ∷ is) (m ∷ ms) (some a b x y z r) e p h = let z : ◌≡◌ {A = ℕ} 0 1 = cc in absurd (omega arith)
 
 -- what is read of the innermost open element, and what is left when it is closed
@@ -200,6 +201,7 @@ unfolding chained
 pop {size} {rs} {s} {l} {ns} {top} {area} st = go st.opens st.lies st.points st.fits st.holds
   where
     go : (js : List ℕ) → Lies size rs (length rs) js (range s l ∷ ns) → top ≡ link js → length rs * 5 ≤ length area → area ≡ chained js (laid_out rs (length area)) → Popped size rs s l ns top area
+    go [] x4 t fits h = elim x4 [ ]
     go (i ∷ is) (some below z p q w rest) t fits h = popped size rs s l ns top area i is below z p q w rest t fits h
 
 -- the innermost open element is a record
@@ -208,4 +210,5 @@ top_below {size} {rs} {ns} {top} {area} st = go st.opens ns st.lies st.points
   where
     go : (is : List ℕ) (ms : List Range) → Lies size rs (length rs) is ms → top ≡ link is → top ≤ length rs
     go [] ms none p = omega arith
+    go (i ∷ is) [] x3 p = elim x3 [ ]
     go (i ∷ is) (m ∷ ms) (some below z x y w rest) p = omega arith

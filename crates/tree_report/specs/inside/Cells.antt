@@ -5,7 +5,7 @@ use Rattle.utf8.specs.Utf8.{utf8}
 use Rattle.text_filter.specs.Filter.{unfiltered}
 use Rattle.timestamp.specs.Timestamp.{in_range}
 use Rattle.timestamp.specs.declared.Moment.{Moment}
-use Rattle.uuid.specs.declared.Words.{Words}
+use Rattle.uuids.specs.declared.Words.{Words}
 use Rattle.tree_record.specs.Kinds as kind
 pub use Rattle.schema.specs.Records.{is_some, flags_of}
 use Rattle.tree_report.specs.Report.{Text, Duration, Pair, FlakyOrRerun, flaky, TestRerun}

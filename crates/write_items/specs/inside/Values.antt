@@ -9,7 +9,7 @@ use Rattle.time_text.specs.Written.{written_time}
 use Rattle.write_escape.specs.Escape.{escaped}
 use Rattle.write_moment.specs.Written.{timestamp_text}
 use Rattle.write_uuid.specs.Written.{uuid_text}
-use Rattle.uuid.specs.declared.Words.{Words}
+use Rattle.uuids.specs.declared.Words.{Words}
 use Rattle.tree_record.specs.Words as word
 use Rattle.schema.specs.Schema.{Presence, always, must, may, unkept, Row}
 use Rattle.schema.specs.Lookups.{in_order_of}

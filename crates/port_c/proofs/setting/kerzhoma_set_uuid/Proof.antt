@@ -1,6 +1,6 @@
 use Rattle.build_draft.specs.Draft.{Draft}
 use Rattle.build_draft.specs.Calls.{set_uuid}
-use Rattle.uuid.specs.declared.Words.{Words}
+use Rattle.uuids.specs.declared.Words.{Words}
 use Rattle.port_c.proofs.Building.{passed}
 use mathlib.Core.Path.{ap}
 use borrow.Author.Rules.{rules}

@@ -1,0 +1,7 @@
+use Rattle.build_draft.specs.Calls.{is_non_success}
+use mathlib.Core.Path.{refl}
+use Rattle.build_runs.proofs.is_non_success.Goals as goal
+
+pub returns : goal.returns
+unfolding is_non_success
+returns c = λ text. rw (c.is_of.ensures, c.is_of-2.ensures) refl

@@ -1,0 +1,10 @@
+use mathlib.Core.Path.{sym}
+use native.Mathlib.Nat.{le_of_lt}
+use lib.Seq.{length-take-le, take_all}
+use Rattle.explain_spot.proofs.before.Goals as goal
+
+pub slice_bounds-result-end : goal.slice_bounds-result-end
+slice_bounds-result-end c = sym (length-take-le _ _ (le_of_lt c.if-at-s.true))
+
+pub returns : goal.returns
+returns c = sym (take_all _ _ c.if-at-s.false)

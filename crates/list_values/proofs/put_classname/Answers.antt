@@ -1,0 +1,16 @@
+use mathlib.Core.Path.{sym, ◌∙◌}
+use Rattle.list_values.proofs.put_classname.Goals as goal
+
+pub returns-then-has_bit : goal.returns-then-has_bit
+returns-then-has_bit c =
+    let has-bit = c.has_bit in
+    let if1 = c.if-has_bit in
+    let field = c.field in
+    let field2 = c.field-then-has_bit in
+    rw (sym has-bit.ensures ∙ if1.true) (rw (c.part_of.ensures, field.ensures, field2.ensures) at c.put_quoted.ensures)
+
+pub returns : goal.returns
+returns c =
+    let has-bit = c.has_bit in
+    let if1 = c.if-has_bit in
+    rw (sym has-bit.ensures ∙ if1.false) c.put.ensures

@@ -1,0 +1,5 @@
+use mathlib.Core.Path.{refl}
+use Rattle.read_fault.proofs.refused_at.Goals as goal
+
+pub returns : goal.returns
+returns c = refl

@@ -1,0 +1,15 @@
+use mathlib.Core.Path.{sym, ap, ◌∙◌}
+use mathlib.Core.Bool.{false≢true}
+use mathlib.Core.List.{List}
+use Prim.Native.Nat.{ℕ}
+use native.Mathlib.Omega.{arith}
+use Rattle.names.specs.Names.{same_bytes}
+use Rattle.text.specs.Value.{value_text}
+use Rattle.read_places.proofs.is_at.Goals as goal
+
+pub returns-then-extras-i : goal.returns-then-extras-i
+returns-then-extras-i c = record { i_lt_extras = λ e. absurd (false≢true e); key_value = λ e. absurd (false≢true e) }
+
+pub returns : goal.returns
+returns c =
+    let s = c.args in record { i_lt_extras = λ e. omega (arith, c.if-extras-i.false); key_value = λ e. ap (λ (l : List ℕ). same_bytes l (value_text s.key.now)) (sym c.stored_key.ensures) ∙ sym c.is_stored.ensures ∙ e }

@@ -1,0 +1,7 @@
+use mathlib.Core.Path.{refl}
+use Rattle.tree_report.specs.inside.Parts.{good_common}
+use Rattle.tree_shape.proofs.good_common.Goals as goal
+
+pub returns : goal.returns
+unfolding good_common
+returns c = rw (c.text_slot.ensures, c.moment_slot.ensures, c.time_slot.ensures) refl

@@ -1,0 +1,8 @@
+use mathlib.Core.Path.{ap, ◌∙◌}
+use Rattle.tree_record.specs.Record.{marked}
+use Rattle.tree_values.proofs.put_time.Goals as goal
+
+pub returns : goal.returns
+returns c =
+    let put-pair = c.put_pair in
+    c.put_bit.ensures ∙ ap (marked 4) put-pair.ensures

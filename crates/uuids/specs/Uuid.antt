@@ -1,0 +1,45 @@
+-- UUIDs as text (RFC 9562, section 4). Definitions only.
+use Rattle.std.specs.Prelude.{ℕ, ◌+◌, ◌*◌, Bool, cond, List, [], ◌∷◌, length, get_or, eqb}
+use Rattle.area.specs.Answer.{Answer, gives, refuses}
+use Rattle.utf8.specs.Utf8.{utf8}
+use Rattle.digits.specs.Digits.{all_digits, value}
+use Rattle.fixed.specs.Fields.{part, all}
+use Rattle.uuids.specs.declared.Words.{Words}
+use Rattle.uuids.specs.declared.Uuid.{Uuid}
+use Rattle.uuids.specs.declared.Uuid.TheVariants.{Is, NotUtf8, Bad}
+use Rattle.uuids.specs.declared.Form.{Form}
+use Rattle.uuids.specs.declared.Form.TheVariants.{Right, Wrong}
+use Rattle.refusal.specs.declared.Cause.TheVariants as cause
+
+-- UUID = 4hexOctet "-" 2hexOctet "-" 2hexOctet "-" 2hexOctet "-" 6hexOctet, which are 36 characters (rule V9)
+abbrev pub uuid_tests : List ℕ → List Bool
+uuid_tests s =
+    eqb (length s) 36
+    ∷ eqb (get_or s 8 0) 0x2D ∷ eqb (get_or s 13 0) 0x2D ∷ eqb (get_or s 18 0) 0x2D ∷ eqb (get_or s 23 0) 0x2D
+    ∷ all_digits 16 (part 0 8 s) ∷ all_digits 16 (part 9 4 s) ∷ all_digits 16 (part 14 4 s) ∷ all_digits 16 (part 19 4 s) ∷ all_digits 16 (part 24 12 s)
+    ∷ []
+
+-- rule V9
+unfoldable pub is_uuid : List ℕ → Bool
+is_uuid s = all (uuid_tests s)
+
+-- the 16 octets as four words, the most significant octet first
+abbrev pub words_of : List ℕ → Words
+words_of s = record {
+  a = value 16 (part 0 8 s);
+  b = value 16 (part 9 4 s) * 65536 + value 16 (part 14 4 s);
+  c = value 16 (part 19 4 s) * 65536 + value 16 (part 24 4 s);
+  d = value 16 (part 28 8 s);
+}
+
+abbrev pub form_of : List ℕ → Form
+form_of s = cond (is_uuid s) (Right (words_of s)) Wrong
+
+abbrev pub uuid_answer : Uuid → Answer Words
+uuid_answer (Is w) = gives w
+uuid_answer NotUtf8 = refuses cause.NotUtf8
+uuid_answer Bad = refuses cause.BadUuid
+
+-- rule V1
+unfoldable pub uuid_of : List ℕ → Answer Words
+uuid_of s = cond (utf8 s) (cond (is_uuid s) (gives (words_of s)) (refuses cause.BadUuid)) (refuses cause.NotUtf8)

@@ -1,0 +1,17 @@
+use Rattle.list_text.proofs.Putting.{other, more}
+use Rattle.write_tags.proofs.Tags.{key-table, key-xml}
+use Rattle.write_tags.proofs.put_raw_key.Goals as goal
+
+pub returns-then-form-eq-TABLE : goal.returns-then-form-eq-TABLE
+returns-then-form-eq-TABLE c =
+    let args = c.args in
+    let if1 = c.if-form-eq-TABLE in
+    other c.put.ensures (key-table args.form args.key.now if1.true)
+
+pub returns : goal.returns
+returns c =
+    let args = c.args in
+    let if1 = c.if-form-eq-TABLE in
+    let put2 = c.put-begun in
+    let put3 = c.put-named in
+    other (more put2.ensures (more put3.ensures c.put-2.ensures)) (key-xml args.form args.key.now if1.false)
