@@ -1,3 +1,0 @@
-pub mod Operations
-pub mod Stands
-pub mod Builders

@@ -1,2 +1,0 @@
-// How the events of a written report come back from its XML document: definitions only.
-#![tactic(auto)]

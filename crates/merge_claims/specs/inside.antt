@@ -1,4 +1,0 @@
-pub mod Pairs
-pub mod Alike
-pub mod Stands
-pub mod Fair

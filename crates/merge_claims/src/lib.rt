@@ -1,2 +1,0 @@
-// What is claimed of a merge: definitions and laws.
-#![tactic(auto)]

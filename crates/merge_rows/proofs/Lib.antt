@@ -1,4 +1,0 @@
-pub mod Splicing
-pub mod Slots
-pub mod Rows
-pub mod Steps

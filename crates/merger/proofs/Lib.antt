@@ -1,4 +1,0 @@
-pub mod Trees
-pub mod Agree
-pub mod Steps
-pub mod Known

@@ -1,3 +1,0 @@
-pub mod Rehearsal
-pub mod Answer
-pub mod inside

@@ -1,2 +1,0 @@
-mod Wider
-mod Marked

@@ -1,4 +1,0 @@
-pub mod Missing
-pub mod FreeKeys
-pub mod Growing
-mod Sparing

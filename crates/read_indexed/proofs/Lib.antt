@@ -1,4 +1,0 @@
-mod StoredKeys
-mod Narrow
-mod Hinting
-mod Indexing

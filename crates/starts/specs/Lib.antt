@@ -1,4 +1,0 @@
-pub mod Starts
-pub mod Answer
-pub mod FirstLast
-pub mod inside

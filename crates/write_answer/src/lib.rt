@@ -1,2 +1,0 @@
-// What writing answers, and what it leaves in the three areas: definitions.
-#![tactic(auto)]

@@ -1,3 +1,0 @@
-pub mod Escaped
-pub mod Uuids
-pub mod Moments

@@ -1,2 +1,0 @@
-pub mod Escape
-pub mod inside

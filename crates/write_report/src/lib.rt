@@ -1,2 +1,0 @@
-// The events that a report is written as: definitions.
-#![tactic(auto)]

@@ -1,2 +1,0 @@
-pub mod Behind
-mod Examples

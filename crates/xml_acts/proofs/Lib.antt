@@ -1,2 +1,0 @@
-pub mod FurtherBytes
-pub mod Letters

@@ -1,2 +1,0 @@
-// What writing a report's XML document answers and leaves: definitions.
-#![tactic(auto)]

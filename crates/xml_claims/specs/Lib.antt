@@ -1,2 +1,0 @@
-pub mod MiscStar
-pub mod Tokenizing

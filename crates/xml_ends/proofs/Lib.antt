@@ -1,2 +1,0 @@
-pub mod Doctype
-pub mod Answers

@@ -1,2 +1,0 @@
-// Laws only: what the areas hold while a document is read.
-#![tactic(auto)]

@@ -1,2 +1,0 @@
-// How the tokenizer's registers stand for the definition's state: definitions, and what is true of them.
-#![tactic(auto)]
