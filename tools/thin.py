@@ -5,7 +5,7 @@ usage: tools/thin.py [--tell]      at the top; --tell only says what would chang
 
 rt walks from each crate along every way to the crates below it. With everything listed that a crate names there are millions of such ways,
 and rt ci doesn't begin in an hour. So a crate passes on what those above it name: `pub use Rattle.area.specs as of_area` in its specs/Lib.antt,
-the same in proofs/Lib.antt, `pub use area as area;` in its lib.rt; and those above write `Rattle.NAME.specs.of_area.Area`, `NAME::area::Stored`.
+the same in proofs/Lib.antt, `pub use area as the_area;` in its lib.rt; and those above write `Rattle.NAME.specs.of_area.Area`, `NAME::the_area::Stored`.
 It may be run again: what is passed on already stays.
 """
 import re
@@ -39,7 +39,9 @@ def files(c):
 
 
 NAMED = re.compile(r"\bRattle\.([a-z_0-9]+)\.(specs|proofs)\b(?:\.of_([a-z_0-9]+))?")
-PATH = re.compile(r"(?<![\w:])([a-z_0-9]+)::(?:([a-z_0-9]+)::)?")
+# what lib.rt passes on, as rt fmt lays it out
+ON = re.compile(r"(?m)^pub use (?:\w+ as the_\w+|\w+::the_\w+|\w+::\{(?:\n? *the_\w+,?)+\n?\});\n?")
+PATH = re.compile(r"(?<![\w:])([a-z_0-9]+)::(?:the_([a-z_0-9]+)::)?")
 
 
 def needs(c, own):
@@ -51,14 +53,14 @@ def needs(c, own):
         if f.name == "Lib.antt":
             text = re.sub(r"(?m)^pub use \S+ as of_\w+$", "", text)
         if f.suffix == ".rt":
-            text = re.sub(r"(?m)^pub use \S+ as \w+;$", "", text)
+            text = ON.sub("", text)
         for a, kind, b in NAMED.findall(text):
             if a != c and a in own:
                 found.add((b or a, kind))
         if f.suffix == ".rt":
             for a, b in PATH.findall(re.sub(r"(?m)^ *ghost use [^;]*;", "", text)):
                 if a in own and a != c:
-                    found.add((b if b in own else a, "src"))
+                    found.add((b or a, "src"))
     return {x for x in found if x[0] != c}
 
 
@@ -111,8 +113,8 @@ def main():
             a, b = m[1], m[2]
             if a not in own or a == c:
                 return m[0]
-            t, rest = (b, "") if b in own else (a, f"{b}::" if b else "")
-            return f"{t}::{rest}" if t in direct[c] else f"{by(c, t)}::{t}::{rest}"
+            t = b or a
+            return f"{t}::" if t in direct[c] else f"{by(c, t)}::the_{t}::"
 
         return one
 
@@ -123,7 +125,7 @@ def main():
             if f.name == "Lib.antt":
                 text = re.sub(r"(?m)^pub use \S+ as of_\w+\n?", "", text)
             if f.suffix == ".rt":
-                text = re.sub(r"(?m)^pub use (?:\w+::)?(\w+) as \1;\n?", "", text)
+                text = ON.sub("", text)
             new = NAMED.sub(named(c), text)
             if f.suffix == ".rt":
                 lines = new.split("\n")
@@ -154,7 +156,7 @@ def main():
             k = next(i for i, l in enumerate(lines) if "#![tactic" in l) + 1
             while k < len(lines) and (not lines[k].strip() or lines[k].startswith("ghost use")):
                 k += 1
-            lines[k:k] = [f"pub use {t} as {t};" if t in direct[c] else f"pub use {by(c, t)}::{t} as {t};" for t in on] + ([""] if k < len(lines) and lines[k].strip() and not lines[k].startswith("use ") else [])
+            lines[k:k] = [f"pub use {t} as the_{t};" if t in direct[c] else f"pub use {by(c, t)}::the_{t};" for t in on] + ([""] if k < len(lines) and lines[k].strip() and not lines[k].startswith("use ") else [])
             lib.write_text("\n".join(lines))
     out = []
     for line in (TOP / "crates.txt").read_text().split("\n"):

@@ -29,8 +29,14 @@ def read_clauses():
             sig = head.split("requires")[0].split("ensures")[0]
             mut = re.findall(r"[(,]\s*(?:mut )?(\w+)\s*:(?!:)", sig)
             if re.search(r"\(\s*(&(?:'\w+ )?(?:mut )?)?self\b", sig): mut = ["self"] + mut
-            CLAUSES.setdefault(m[1], []).append((crate, req, ens, mut))
+            over = bool(re.search(r"\bimpl\b", sig.split("->")[0]) or re.match(r"<(?!')", sig))
+            CLAUSES.setdefault(m[1], []).append((crate, req, ens, mut, over))
 read_clauses()
+FIELDS = {a for l in CLAUSES.values() for c in l for a in c[3] if "_" in a}
+for rt in TOP.glob("crates/*/src/**/*.rt"):
+    FIELDS |= set(re.findall(r"(?m)^ +(?:pub )?(\w+_\w+): ", rt.read_text()))
+def underscored(text):
+    return re.sub(rf"(?<=[\w'])\.([a-z]{W}*-{W}*)(?![\w'-])", lambda m: "." + m[1].replace("-", "_") if m[1].replace("-", "_") in FIELDS else m[0], text)
 def clauses_of(path):
     """path: crate::..::fn or fn"""
     parts = path.split("::")
@@ -156,7 +162,7 @@ def convert_path(fn, text, heads):
             for k, v in fn.arm.items():
                 if k.endswith("."):
                     continue
-                if k.startswith(t + ".") and rest.startswith("." + k[len(t) + 1:]):
+                if k.startswith(t + ".") and re.match(re.escape("." + k[len(t) + 1:]) + r"(?![\w'-])", rest):
                     return f"{head}.{v}" + rest[len(k) - len(t):]
         if re.fullmatch(r"match\d*", norm(step)) and (rest.startswith(".rest") or not rest and re.search(r"\.(rest|keys\d)\b", text)):
             arms = sorted((v for v in set(fn.step.values()) if v.startswith("in_default")), key=len, reverse=True)
@@ -177,6 +183,7 @@ def convert_path(fn, text, heads):
             PROBLEMS.append(f"{fn.key}: step {step}")
             new = step
         if new in fn.calls:
+            rest = re.sub(r"^\.last(?![\w-])", ".new", re.sub(r"^\.kept(?![\w-])", ".auto", rest))
             e = re.match(r"\.(ensures|new|auto)(?![\w-])", rest)
             if e:
                 c = clauses_of(fn.calls[new])
@@ -204,9 +211,20 @@ def convert_path(fn, text, heads):
         parts = m[2].split(".")
         st = parts[-2] if len(parts) > 2 else stepof.get(parts[0], parts[0])
         x = re.sub(r"-\d+$", "", re.sub(r"^if-not-", "", st))
-        return f"(ap not {m[2]})" if st.startswith("if-not-") and any(k == x or k.startswith(x + "-") for k in fn.calls) else m[0]
+        return f"(ap not {m[2]})" if st.startswith("if-not-") and ("-" in x or any(k == x or k.startswith(x + "-") for k in fn.calls)) else m[0]
     text = re.sub(rf"(\x00?)(?<![\w.'-])({W}+(?:\.{W}+)*\.(?:true|false))(?![\w.'-])", wrap, text)
     text = text.replace("\x00", "")
+    # let k = r.auto.1.1 in .. k.1.0
+    for m in list(re.finditer(rf"\blet ({W}+) = ({W}+)((?:\.{W}+?)?)\.(auto|new)((?:\.1)+) in", text)):
+        st = m[3][1:] if m[3] else stepof.get(m[2])
+        c = clauses_of(fn.calls[st]) if st in fn.calls else None
+        if not c: continue
+        n, names = len(m[5]) // 2, c[3]
+        text = text.replace(m[0], f"let {m[1]} = {m[2]}{m[3]}.{m[4]} in", 1)
+        def name(k):
+            i = n + len(k[1]) // 2
+            return f"{m[1]}.{names[i]}" if i < len(names) else k[0]
+        text = re.sub(rf"(?<![\w.'-]){re.escape(m[1])}((?:\.1)*)\.0(?![\w-])", name, text)
     # let pre = c.requires in .. pre.0
     for m in list(re.finditer(rf"\blet ({W}+) = (?:{al})\.requires(?= *(?:in\b|\n))", text)):
         c = clauses_of(fn.path)
@@ -219,6 +237,7 @@ def convert_path(fn, text, heads):
         if st in fn.calls:
             c = clauses_of(fn.calls[st])
             if c and not en and c[3]:
+                text = re.sub(rf"(?<![\w.'-]){re.escape(v)}\.last(?=\.)", v + ".new", re.sub(rf"(?<![\w.'-]){re.escape(v)}\.kept(?=\.)", v + ".auto", text))
                 for w in ("new", "auto"):
                     text = re.sub(rf"(?<![\w.'-]){re.escape(v)}\.{w}((?:\.\d)+)(?![\w-])", lambda k: v + "." + w + argument(k[1], c[3]), text)
             if c and len(c[2]) > 1:
@@ -272,19 +291,26 @@ def recorded(body, names):
                 return rec(parts[0], names)
             if len(parts) == 2 and len(names) > 2:
                 sub = rec(parts[1], names[1:])
-                mm = re.fullmatch(rf"({W}+)\.({W}+)\.ensures\.1|({W}+)\.ensures\.1", parts[1])
+                mm = re.fullmatch(rf"(?:{W}+\.)?({W}+)\.ensures((?:\.1)+)", parts[1])
                 if sub is None and mm and recorded.fn:
-                    st = mm[2] or recorded.alias.get(mm[3])
+                    st = mm[1] if mm[1] in recorded.fn.calls else recorded.alias.get(mm[1])
                     c = clauses_of(recorded.fn.calls[st]) if st in recorded.fn.calls else None
-                    if c and len(c[2]) == len(names):
-                        sub = [(n, parts[1][:-2] + "." + o) for n, o in zip(names[1:], c[2][1:])]
+                    k = len(mm[2]) // 2
+                    if c and len(c[2]) - k == len(names) - 1:
+                        sub = [(n, parts[1][: -len(mm[2])] + "." + o) for n, o in zip(names[1:], c[2][k:])]
                 return None if sub is None else [(names[0], parts[0])] + sub
             if len(parts) == len(names):
                 return list(zip(names, parts))
         elif len(names) == 1:
             return [(names[0], t)]
+        mm = re.fullmatch(rf"({W}+)\.({W}+)\.ensures|({W}+)\.ensures", t)
+        if mm and recorded.fn:
+            st = mm[2] or recorded.alias.get(mm[3])
+            c = clauses_of(recorded.fn.calls[st]) if st in recorded.fn.calls else None
+            if c and len(c[2]) == len(names) and all(c[2]):
+                return [(n, t + "." + o) for n, o in zip(names, c[2])]
         return None
-    r = rec(t, names)
+    r = None if re.fullmatch(rf"{W}+(?:\.{W}+)*", t) else rec(t, names)
     if r:
         return head + lead + "record { " + "; ".join(f"{a} = {b}" for a, b in r) + " }"
     m = re.match(r"rw ", t)
@@ -299,6 +325,10 @@ def recorded(body, names):
             return head + lead + t[:j] + " (" + recorded(inner, names).strip() + ")"
     if t in ("search rules",) or t.startswith(("omega", "absurd", "record", "grind", "search")):
         return body
+    if recorded.fn and (t == "c.requires" or recorded.alias.get(t) == "requires"):
+        c = clauses_of(recorded.fn.path)
+        if c and len(c[1]) == len(names) and all(c[1]):
+            return head + lead + "record { " + "; ".join(f"{n} = {t}.{o}" for n, o in zip(names, c[1])) + " }"
     m = re.fullmatch(rf"({W}+)\.({W}+)\.ensures|({W}+)\.ensures", t)
     if m and recorded.fn:
         st = m[2] or recorded.alias.get(m[3])
@@ -377,7 +407,7 @@ def convert(folder):
     fn.path = CRATE + "::" + folder.split("/")[-1]
     if not fn.n["needs"] and not fn.loops:
         pass
-    text = proof.read_text().replace(".type-inv", ".type_inv").replace(".well-formed", ".well_formed")
+    text = underscored(proof.read_text()).replace(".type-inv", ".type_inv").replace(".well-formed", ".well_formed")
     if "tie.close" not in text:
         print(f"by hand: {folder}")
         return False
@@ -511,6 +541,10 @@ def convert(folder):
     if own and len(own[2]) > 1:
         ans = [re.sub(rf"\((returns{W}*) c\)((?:\.\d)+)(?![\w-])", lambda k: f"({k[1]} c)" + nested(k[2], own[2]), a) for a in ans]
     helpers = [re.sub(rf"\(c : ({W}+) invariant-{W}+ decreases-{W}+\)", r"(c : \1)", h) for h in helpers]
+    own = clauses_of(fn.path)
+    if own and own[4]:
+        inv = [re.sub(r"(?m)^((?:invariant|decreases)-\S+) l =", r"\1 g l =", x) for x in inv]
+        ans = [re.sub(rf"(?m)^({W}+) c =", r"\1 g c =", x) for x in ans]
     base = f"Rattle.{CRATE}.proofs." + folder.replace("/", ".")
     out = NEW / folder
     out.mkdir(parents=True, exist_ok=True)
