@@ -1,0 +1,108 @@
+-- The elements opened and closed, from what the parts of the code came to. Assumes nothing.
+use Prim.Native.Nat.{ℕ}
+use mathlib.Core.Path.{◌≡◌, refl, sym, ap, ◌∙◌}
+use mathlib.Core.Bool.{Bool, true, false, not}
+use mathlib.Core.List.{List}
+use lib.ListN.{length}
+use lib.Dec.{eqb}
+use borrow.Author.Tests.{ne_eqb}
+use Rattle.area.specs.Area.{zeros}
+use Rattle.refusal.specs.Refusal.{nowhere, Outcome}
+use Rattle.refusal.specs.declared.Cause.{Cause}
+use Rattle.refusal.specs.declared.Cause.TheVariants as cause
+use Rattle.tree_record.specs.Kinds as kind
+use Rattle.tree_counts.specs.declared.Outcome.{Outcome as Status}
+use Rattle.tree_counts.specs.Counts.{with_case}
+use Rattle.build_draft.specs.declared.Builder.{Builder}
+use Rattle.build_draft.specs.declared.Step.{Step}
+use Rattle.build_draft.specs.declared.Step.TheVariants.{Done, Not}
+use Rattle.build_draft.specs.Draft.{Draft, no_builder, next, ◌>>=◌, draft_of, is_of, last_of}
+use Rattle.build_draft.specs.Parts.{counts_at, counting, summing}
+use Rattle.build_draft.specs.Calls.{marks, unnamed_report, open_suite, open_case, main_kind, open_main, finish}
+use Rattle.build_elements.proofs.Steps.{stopped, went, done, unasked, part-stopped, part-went, remarked, opening}
+
+-- the marks behind each record taken
+abbrev pub report_marks : Builder → Builder
+report_marks b = marks 0 nowhere nowhere nowhere b
+
+abbrev pub suite_marks : Builder → Builder
+suite_marks b = marks b.report (last_of b) nowhere nowhere b
+
+abbrev pub case_marks : Builder → Builder
+case_marks b = marks b.report b.suite (last_of b) nowhere b
+
+abbrev pub main_marks : Builder → Builder
+main_marks b = marks b.report b.suite b.case (last_of b) b
+
+abbrev pub no_marks : Builder → Builder
+no_marks b = marks nowhere nowhere nowhere nowhere b
+
+-- ---- the report: no builder, and both areas cleared
+pub report-said : (words text : List ℕ) {b : Builder} {words' text' : List ℕ} → b ≡ no_builder → words' ≡ zeros (length words) → text' ≡ zeros (length text)
+    → opening kind.report report_marks (record { builder = b; words = words'; text = text' }) ≡ unnamed_report (length words) (length text)
+unfolding unnamed_report
+report-said words text p q r = λ i. opening kind.report report_marks (record { builder = p i; words = q i; text = r i })
+
+-- ---- a suite: the test of the report, the sums with the suite before, the record
+module _ (d : Draft) {there : Bool} (e : there ≡ is_of d.builder d.words d.builder.report kind.report) where
+  pub suite-refused : (words : List ℕ) → not there ≡ true → draft_of (Not cause.NotLayout) words d.text ≡ open_suite d
+  unfolding open_suite
+  suite-refused words h = unasked words d.text cause.NotLayout (summing d >>= opening kind.suite suite_marks) e h
+
+  module _ (h : not there ≡ false) (words : List ℕ) {s : Step} where
+    pub suite-stopped : {why : Cause} → s ≡ Not why → draft_of s words d.text ≡ summing d → draft_of s words d.text ≡ open_suite d
+    unfolding open_suite
+    suite-stopped n p = part-stopped e h cause.NotLayout (opening kind.suite suite_marks) words d.text n p
+
+    pub suite-went : {b : Builder} → s ≡ Done b → draft_of s words d.text ≡ summing d → opening kind.suite suite_marks (record { builder = b; words = words; text = d.text }) ≡ open_suite d
+    unfolding open_suite
+    suite-went n p = part-went e h cause.NotLayout (opening kind.suite suite_marks) words d.text n p
+
+-- ---- a case: the test of the suite, its counts, the record
+abbrev pub counted : Status → Draft → Outcome Draft
+counted o d = counting d.builder.suite (with_case (counts_at d.words d.builder.suite) o) d
+
+module _ (o : Status) (d : Draft) {there : Bool} (e : there ≡ is_of d.builder d.words d.builder.suite kind.suite) where
+  pub case-refused : (words : List ℕ) → not there ≡ true → draft_of (Not cause.NotLayout) words d.text ≡ open_case o d
+  unfolding open_case
+  case-refused words h = unasked words d.text cause.NotLayout (counted o d >>= opening kind.case case_marks) e h
+
+  module _ (h : not there ≡ false) (words : List ℕ) {s : Step} where
+    pub case-stopped : {why : Cause} → s ≡ Not why → draft_of s words d.text ≡ counted o d → draft_of s words d.text ≡ open_case o d
+    unfolding open_case
+    case-stopped n p = part-stopped e h cause.NotLayout (opening kind.case case_marks) words d.text n p
+
+    pub case-went : {b : Builder} → s ≡ Done b → draft_of s words d.text ≡ counted o d → opening kind.case case_marks (record { builder = b; words = words; text = d.text }) ≡ open_case o d
+    unfolding open_case
+    case-went n p = part-went e h cause.NotLayout (opening kind.case case_marks) words d.text n p
+
+-- ---- a case's main: k is its kind
+module _ (o : Status) {k : ℕ} (e : k ≡ main_kind o) (words text : List ℕ) {s : Step} where
+  pub main-stopped : {why : Cause} → s ≡ Not why → draft_of s words text ≡ next (draft_of s words text) (open_main o)
+  main-stopped n = stopped words text (open_main o) n refl
+
+  pub no_main : {b : Builder} → s ≡ Done b → k ≡ 0 → draft_of (Done b) words text ≡ next (draft_of s words text) (open_main o)
+  unfolding open_main draft_of ◌>>=◌
+  no_main n z = rw (n, sym e ∙ z) refl
+
+  pub main-went : {b : Builder} → s ≡ Done b → (k ≡ 0 → ⊥) → opening k main_marks (record { builder = b; words = words; text = text }) ≡ next (draft_of s words text) (open_main o)
+  unfolding open_main
+  main-went {b} n z =
+      let q : eqb (main_kind o) 0 ≡ false = ne_eqb (main_kind o) 0 (λ y. z (e ∙ y)) in
+      let d : Draft = record { builder = b; words = words; text = text } in
+      ap (λ (x : ℕ). opening x main_marks d) e ∙ rw q refl ∙ went words text (open_main o) n refl
+
+-- ---- the end: the test of the report, the sums with the last suite
+module _ (d : Draft) {there : Bool} (e : there ≡ is_of d.builder d.words d.builder.report kind.report) where
+  pub finish-refused : (words : List ℕ) → not there ≡ true → draft_of (Not cause.NotLayout) words d.text ≡ finish d
+  unfolding finish
+  finish-refused words h = unasked words d.text cause.NotLayout (summing d >>= remarked no_marks) e h
+
+  module _ (h : not there ≡ false) (words : List ℕ) {s : Step} where
+    pub finish-stopped : {why : Cause} → s ≡ Not why → draft_of s words d.text ≡ summing d → draft_of s words d.text ≡ finish d
+    unfolding finish
+    finish-stopped n p = part-stopped e h cause.NotLayout (remarked no_marks) words d.text n p
+
+    pub finish-went : {b r : Builder} → s ≡ Done b → draft_of s words d.text ≡ summing d → r ≡ no_marks b → draft_of (Done r) words d.text ≡ finish d
+    unfolding finish
+    finish-went n p m = done words d.text m ∙ part-went e h cause.NotLayout (remarked no_marks) words d.text n p

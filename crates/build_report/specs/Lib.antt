@@ -1,0 +1,3 @@
+pub mod Operations
+pub mod Stands
+pub mod Builders

@@ -1,0 +1,12 @@
+use Rattle.build_draft.proofs.Settling.{ends}
+use Rattle.builder.proofs.unnamed_report.Goals as goal
+
+pub returns : goal.returns
+returns c =
+    let p₁ = c in
+    let p₂ = p₁ in
+    let a = p₂.args in
+    let both = ends a.records.now a.text.now p₂.open_report-step.result p₂.open_report-step.new.records p₂.open_report-step.new.text
+    p₂.open_report-step.ensures
+    p₂.open_report-step.auto.records p₂.open_report-step.auto.text
+    (p₁.settle.ensures.value, (p₁.settle.ensures.records_after, p₁.settle.ensures.text_after)) in record { value = both.0; records_after = both.1.0; text_after = both.1.1 }

@@ -1,0 +1,3 @@
+pub mod Going
+pub mod Unrolling
+pub mod Lines

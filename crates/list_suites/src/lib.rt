@@ -1,0 +1,60 @@
+// The suites of the public listing: the text of an element is put from its record and the words behind it. A loop along the
+// records ends once a text didn't fit.
+#![tactic(auto)]
+
+ghost use Rattle.list_text.specs.inside.Behind.{filled, Puts};
+ghost use Rattle.list_sums.specs.inside.Rows.{records_in};
+ghost use Rattle.list_suites.specs.inside.Shown.{cases_shown, suite_shown, suites_shown};
+
+use area::Stored;
+use list_sums::rows::stands_here;
+use list_text::put;
+use tree_record::{field, kind, word};
+
+// The cases of the suite that stands before these words.
+fn put_cases(out: &mut [u8], k: Stored, text: &[u8], words: &[u32]) -> Stored
+    ensures { Puts (filled k out.old) (cases_shown text.now (records_in words.now)) (filled result out.new) }
+{
+    let mut at = 0;
+    let mut mark = k;
+    while list_text::is_open(mark) & stands_here(&words[at..]) {
+        let end = at + 32;
+        let r = &words[at..end];
+        let here = field(r, word::KIND);
+        at = end;
+        if here == kind::SUITE {
+            return mark;
+        }
+        if here == kind::CASE {
+            mark = list_case::put_case(out, mark, text, r, &words[end..]);
+        }
+    }
+    mark
+}
+
+// By rule L6.
+fn put_suite(out: &mut [u8], k: Stored, text: &[u8], r: &[u32], below: &[u32]) -> Stored
+    ensures { Puts (filled k out.old) (suite_shown text.now r.now (records_in below.now)) (filled result out.new) }
+{
+    let opened = put(out, k, b"\n(suite");
+    let name = list_values::put_name(out, opened, text, r);
+    let counts = list_values::put_counts(out, name, r);
+    let cases = put_cases(out, counts, text, below);
+    put(out, cases, b")")
+}
+
+pub fn put_suites(out: &mut [u8], k: Stored, text: &[u8], words: &[u32]) -> Stored
+    ensures { Puts (filled k out.old) (suites_shown text.now (records_in words.now)) (filled result out.new) }
+{
+    let mut at = 0;
+    let mut mark = k;
+    while list_text::is_open(mark) & stands_here(&words[at..]) {
+        let end = at + 32;
+        let r = &words[at..end];
+        at = end;
+        if field(r, word::KIND) == kind::SUITE {
+            mark = put_suite(out, mark, text, r, &words[end..]);
+        }
+    }
+    mark
+}

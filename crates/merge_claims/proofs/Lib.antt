@@ -1,0 +1,17 @@
+pub mod Order
+pub mod Branches
+pub mod Showing
+pub mod Words
+pub mod Texts
+pub mod Rows
+pub mod Moved
+pub mod Tables
+pub mod Records
+pub mod Trees
+pub mod Head
+pub mod Whole
+pub mod Listings
+pub mod Sizes
+pub mod Exactly
+pub mod Merging
+pub mod Examples

@@ -1,0 +1,4 @@
+pub mod Pairs
+pub mod Alike
+pub mod Stands
+pub mod Fair

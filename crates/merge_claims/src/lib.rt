@@ -1,0 +1,2 @@
+// What is claimed of a merge: definitions and laws.
+#![tactic(auto)]

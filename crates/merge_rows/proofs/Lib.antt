@@ -1,0 +1,4 @@
+pub mod Splicing
+pub mod Slots
+pub mod Rows
+pub mod Steps

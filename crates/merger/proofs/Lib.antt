@@ -1,0 +1,4 @@
+pub mod Trees
+pub mod Agree
+pub mod Steps
+pub mod Known

@@ -1,0 +1,3 @@
+pub mod Rehearsal
+pub mod Answer
+pub mod inside

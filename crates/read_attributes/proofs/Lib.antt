@@ -1,0 +1,4 @@
+pub mod Missing
+pub mod FreeKeys
+pub mod Growing
+mod Sparing

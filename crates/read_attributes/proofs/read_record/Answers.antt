@@ -1,0 +1,66 @@
+use lib.ListN.{take}
+use native.Mathlib.Omega.{arith}
+use Rattle.read_attributes.proofs.Growing.{begun, record-extras, record-halted, record_lacking, record-grown}
+use Rattle.read_attributes.proofs.read_record.Goals as goal
+
+pub read_all-read-requires : goal.read_all-read-requires
+read_all-read-requires c =
+    let start = c in
+    let put-field = c.put_field in
+    let p = start.requires in record {
+      kind_bound = p.kind_bound;
+      begins = (
+        p.vacant.0,
+        (
+          p.vacant.1.0,
+          (
+            p.vacant.1.1.0,
+            (
+              p.vacant.1.1.1.1.0,
+              (
+                begun start.args.kind start.args.fill start.args.own.now start.args.text.now
+                    p.vacant.1.1.1.1.1.0 p.in_bounds p.vacant.1.1.1.0 p.vacant.1.1.1.1.1.1.0 put-field.ensures,
+                p.free,
+              ),
+            ),
+          ),
+        ),
+      );
+    }
+
+pub returns-in-Not : goal.returns-in-Not
+returns-in-Not c =
+    let start = c in
+    let put-field = c.put_field in
+    let read_all = c.read_all-read in
+    λ rooms p before w ro. record-halted start.args.kind start.args.attributes.now start.args.source.now start.args.range (take start.args.fill start.args.text.now)
+    start.args.own.now start.args.text.now put-field.ensures start.requires.in_bounds read_all.ensures rooms p before w ro c.in-Not.is
+
+pub returns-then-lacking-ne0 : goal.returns-then-lacking-ne0
+returns-then-lacking-ne0 c =
+    let at-put-field = c in
+    let start = at-put-field in
+    let read_all = c.read_all-read in
+    λ rooms p before w ro. record_lacking start.args.kind start.args.attributes.now start.args.source.now start.args.range
+    (take start.args.fill start.args.text.now) start.args.own.now start.args.text.now at-put-field.put_field.ensures start.requires.in_bounds
+    read_all.ensures rooms p before w ro c.in-To.is c.missing_of-lacking.ensures c.if-lacking-ne0.true c.refused.ensures
+
+pub overflow_add-result : goal.overflow_add-result
+overflow_add-result c =
+    let args = c.args in
+    let pre = c.requires in
+    let put-field = c.put_field in
+    let read_all = c.read_all-read in
+    let h =
+    record-extras args.kind args.attributes.now args.source.now args.range (take args.fill args.text.now) args.own.now args.text.now put-field.ensures pre.in_bounds
+    read_all.ensures c.in-To.is in let k = read_all.auto.own in let l = put-field.auto.words in let g = c.well_formed.1.1.1.1.1.1.1.0 in record { fits = omega arith }
+
+pub returns : goal.returns
+returns c =
+    let at-put-field = c in
+    let start = at-put-field in
+    let read_all = c.read_all-read in
+    λ rooms p before w ro.
+    record-grown start.args.kind start.args.attributes.now start.args.source.now start.args.range (take start.args.fill start.args.text.now) start.args.own.now
+    start.args.text.now at-put-field.put_field.ensures start.requires.in_bounds read_all.ensures rooms p before w ro c.in-To.is c.missing_of-lacking.ensures
+    c.if-lacking-ne0.false start.requires.vacant.0 start.args.known start.requires.vacant.1.1.1.1.1.1.1 c.known_of-free.ensures

@@ -1,0 +1,95 @@
+// What actions do to records and texts.
+#![tactic(auto)]
+
+ghost use Rattle.std.specs.Prelude.{◌≡◌};
+ghost use Rattle.read_state.specs.inside.Coded.{level_of};
+ghost use Rattle.read_place.specs.inside.Coded.{marks_of};
+ghost use Rattle.read_content.specs.declared.Performed.TheVariants.{Not};
+ghost use Rattle.read_content.specs.Content.{property_kind, takes};
+ghost use Rattle.read_content.specs.inside.Holds.{fault_of, no_content};
+
+use read_attribute::Range;
+use read_fault::Fault;
+use read_place::Marks;
+use read_state::Level;
+use refusal::{Cause, NOWHERE};
+use tree_record::kind;
+
+// Records from number `first` on.
+#[derive(Clone, Copy)]
+pub struct List {
+    pub first: usize,
+    pub count: usize,
+}
+
+// How many records and bytes of text are there, how many bytes the open description and the text of a child have, and where the
+// child's begins in scratch: behind the description, or at the front, over it (rule M6); the record of the live report, the last
+// properties list of the open suite and case, and a range of attributes without a repeated key.
+#[derive(Clone, Copy)]
+pub struct Content {
+    pub used: usize,
+    pub fill: usize,
+    pub description: usize,
+    pub gathered: usize,
+    pub child: usize,
+    pub report_at: usize,
+    pub suite_list: List,
+    pub case_list: List,
+    pub free: Range,
+}
+
+#[derive(Clone, Copy)]
+pub enum Performed {
+    To(Content),
+    Not(Fault),
+}
+
+pub fn no_content() -> Content
+    ensures { result ≡ no_content }
+{
+    let none = List { first: 0, count: 0 };
+    Content {
+        used: 0,
+        fill: 0,
+        description: 0,
+        gathered: 0,
+        child: 0,
+        report_at: 0,
+        suite_list: none,
+        case_list: none,
+        free: Range { first: 0, end: 0 },
+    }
+}
+
+pub fn refused(cause: Cause) -> Performed
+    ensures { result ≡ Not (fault_of cause) }
+{
+    Performed::Not(Fault {
+        cause,
+        key: 0,
+        attribute: NOWHERE,
+    })
+}
+
+pub fn property_kind(level: Level) -> u32
+    ensures { result ≡ property_kind (level_of level) }
+{
+    match level {
+        Level::Top => kind::SUITE_PROPERTY,
+        Level::Suite => kind::SUITE_PROPERTY,
+        Level::Case => kind::CASE_PROPERTY,
+        Level::Status => kind::CASE_PROPERTY,
+    }
+}
+
+// The record of a main takes no stack trace and no outputs (rule S12).
+pub fn is_taken(level: Level, marks: Marks) -> bool
+    ensures { result ≡ takes (level_of level) (marks_of marks) }
+{
+    match level {
+        Level::Top => false,
+        Level::Suite => true,
+        Level::Case => true,
+        Level::Status => kind::FLAKY_FAILURE <= marks.status_kind,
+    }
+}

@@ -1,0 +1,4 @@
+mod StoredKeys
+mod Narrow
+mod Hinting
+mod Indexing

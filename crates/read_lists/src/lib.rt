@@ -1,0 +1,76 @@
+// Records marked dead, and the properties lists.
+#![tactic(auto)]
+
+ghost use Rattle.std.specs.Prelude.{◌≡◌, ◌≤◌, ◌+◌, ◌-◌, ◌*◌, length};
+ghost use Rattle.read_content.specs.Content.{killed};
+ghost use Rattle.read_state.specs.inside.Coded.{level_of};
+ghost use Rattle.read_content.specs.inside.Holds.{kill_words, list_of, with_list};
+
+use read_content::{Content, List};
+use read_state::Level;
+use tree_record::{field, kind, put_field, word};
+
+// The record at the front of the part is marked dead, if it isn't.
+fn kill_record(words: &mut [u32])
+    ensures { words.new ≡ killed words.old }
+{
+    let k = field(words, word::KIND);
+    if k < kind::DEAD {
+        put_field(words, word::KIND, k + kind::DEAD);
+    }
+}
+
+// The records from number `first` to before number `end` are marked dead (rule M3).
+pub fn kill(records: &mut [u32], first: usize, end: usize)
+    requires first_le_end { first ≤ end }
+    requires end_in_bounds { end * 32 ≤ length records.old }
+    ensures { records.new ≡ kill_words (end - first) first records.old }
+{
+    let mut i = first;
+    while i < end {
+        let at = i * 32;
+        kill_record(&mut records[at..]);
+        i += 1;
+    }
+}
+
+pub fn list_of(level: Level, content: Content) -> List
+    ensures { result ≡ list_of (level_of level) content }
+{
+    let suite = content.suite_list;
+    let case = content.case_list;
+    match level {
+        Level::Top => suite,
+        Level::Suite => suite,
+        Level::Case => case,
+        Level::Status => case,
+    }
+}
+
+pub fn with_list(level: Level, content: Content, list: List) -> Content
+    ensures { result ≡ with_list (level_of level) content list }
+{
+    let mut c = content;
+    match level {
+        Level::Top => c.suite_list = list,
+        Level::Suite => c.suite_list = list,
+        Level::Case => c.case_list = list,
+        Level::Status => c.case_list = list,
+    }
+    c
+}
+
+// The list before is marked dead (rule R17).
+pub fn open_list(level: Level, content: Content, records: &mut [u32]) -> Content
+    requires { ((list_of (level_of level) content).first + (list_of (level_of level) content).count) * 32 ≤ length records.old }
+    ensures value { result ≡ with_list (level_of level) content (record { first = content.used; count = 0 }) }
+    ensures records_after { records.new ≡ kill_words (list_of (level_of level) content).count (list_of (level_of level) content).first records.old }
+{
+    let old = list_of(level, content);
+    kill(records, old.first, old.first + old.count);
+    let list = List {
+        first: content.used,
+        count: 0,
+    };
+    with_list(level, content, list)
+}

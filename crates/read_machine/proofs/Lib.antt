@@ -1,0 +1,12 @@
+pub mod Rooms
+pub mod RoomsNumbers
+pub mod RoomsReading
+pub mod TreeOrder
+pub mod TreeLevels
+pub mod TreeKept
+pub mod TreePlans
+pub mod TreeContent
+pub mod TreeInvariant
+pub mod TreeReport
+pub mod TreeReading
+pub mod Skipping

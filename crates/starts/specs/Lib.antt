@@ -1,0 +1,4 @@
+pub mod Starts
+pub mod Answer
+pub mod FirstLast
+pub mod inside

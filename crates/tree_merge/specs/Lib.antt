@@ -1,0 +1,3 @@
+pub mod Merged
+pub mod Moved
+pub mod Answer

@@ -1,0 +1,2 @@
+// What writing answers, and what it leaves in the three areas: definitions.
+#![tactic(auto)]

@@ -1,0 +1,3 @@
+pub mod Escaped
+pub mod Uuids
+pub mod Moments

@@ -1,0 +1,5 @@
+pub mod Escaping
+pub mod Putting
+pub mod Blocks
+pub mod Keeping
+pub mod Examples

@@ -1,0 +1,144 @@
+// Text and values as they are written, put into an area that the caller lends.
+#![tactic(auto)]
+
+ghost use Rattle.std.specs.Prelude.{◌≡◌, ◌+◌, ◌≤◌, length};
+ghost use Rattle.area.specs.Area.{stored_answer, placing, laid};
+ghost use Rattle.write_escape.specs.Escape.{written, escaped};
+ghost use Rattle.write_escape.specs.inside.Plain.{plain};
+ghost use Rattle.refusal.specs.declared.Cause.TheVariants as cause;
+
+use area::{Stored, least};
+use copying::copy_into;
+
+// Puts what stands for b at the front of out.
+fn put_byte(out: &mut [u8], b: u8) -> Stored
+    ensures result_value { stored_answer cause.OutputFull result ≡ placing cause.OutputFull (length out.old) (written b) }
+    ensures out_after { out.new ≡ laid out.old (written b) }
+{
+    match b {
+        b'&' => copy_into(out, b"&amp;"),
+        b'<' => copy_into(out, b"&lt;"),
+        b'>' => copy_into(out, b"&gt;"),
+        b'\'' => copy_into(out, b"&apos;"),
+        b'"' => copy_into(out, b"&quot;"),
+        _ => {
+            if out.len() == 0 {
+                return Stored::Full;
+            }
+            out[0] = b;
+            Stored::Put(1)
+        }
+    }
+}
+
+// Puts s, escaped, at the front of out, byte by byte.
+fn escape_bytes(out: &mut [u8], s: &[u8]) -> Stored
+    ensures result_value { stored_answer cause.OutputFull result ≡ placing cause.OutputFull (length out.old) (escaped s.now) }
+    ensures out_after { out.new ≡ laid out.old (escaped s.now) }
+{
+    let mut i = 0;
+    let mut k = 0;
+    while i < s.len() {
+        let put = put_byte(&mut out[k..], s[i]);
+        let Stored::Put(n) = put else {
+            return Stored::Full;
+        };
+        k += n;
+        i += 1;
+    }
+    Stored::Put(k)
+}
+
+// Whether each byte stands for itself. No exit before the end and one mark for each of the five: so the compiler takes many bytes at a time.
+fn is_plain(s: &[u8]) -> bool
+    ensures { result ≡ plain s.now }
+{
+    let mut amp = false;
+    let mut lt = false;
+    let mut gt = false;
+    let mut apos = false;
+    let mut quot = false;
+    let mut i = 0;
+    while i < s.len() {
+        let b = s[i];
+        amp = amp | (b == b'&');
+        lt = lt | (b == b'<');
+        gt = gt | (b == b'>');
+        apos = apos | (b == b'\'');
+        quot = quot | (b == b'"');
+        i += 1;
+    }
+    !(amp | (lt | (gt | (apos | quot))))
+}
+
+// n bytes at the front and n at the end, which together are all.
+fn is_plain_around(s: &[u8], n: usize) -> bool
+    requires { (n ≤ length s.now) × (length s.now ≤ n + n) }
+    ensures { result ≡ plain s.now }
+{
+    let last = s.len() - n;
+    is_plain(&s[..n]) & is_plain(&s[last..])
+}
+
+// Sixteen bytes at a time, and the last sixteen, some of them again.
+fn is_plain_long(s: &[u8]) -> bool
+    requires { 16 ≤ length s.now }
+    ensures { result ≡ plain s.now }
+{
+    let mut i = 0;
+    while 16 <= s.len() - i {
+        let end = i + 16;
+        if is_plain(&s[i..end]) {
+            i = end;
+        } else {
+            return false;
+        }
+    }
+    let last = s.len() - 16;
+    is_plain(&s[last..])
+}
+
+// Where the compiler knows how many bytes are tested, none of them goes by itself.
+fn is_plain_text(s: &[u8]) -> bool
+    ensures { result ≡ plain s.now }
+{
+    if 16 <= s.len() {
+        return is_plain_long(s);
+    }
+    if 8 <= s.len() {
+        return is_plain_around(s, 8);
+    }
+    if 4 <= s.len() {
+        return is_plain_around(s, 4);
+    }
+    is_plain(s)
+}
+
+fn put_block(out: &mut [u8], s: &[u8]) -> Stored
+    ensures result_value { stored_answer cause.OutputFull result ≡ placing cause.OutputFull (length out.old) (escaped s.now) }
+    ensures out_after { out.new ≡ laid out.old (escaped s.now) }
+{
+    if is_plain_text(s) {
+        return copy_into(out, s);
+    }
+    escape_bytes(out, s)
+}
+
+// Puts s, escaped, at the front of out (rule W8), block by block, so that only a block with one of the five goes byte by byte.
+pub fn escape_into(out: &mut [u8], s: &[u8]) -> Stored
+    ensures result_value { stored_answer cause.OutputFull result ≡ placing cause.OutputFull (length out.old) (escaped s.now) }
+    ensures out_after { out.new ≡ laid out.old (escaped s.now) }
+{
+    let mut i = 0;
+    let mut k = 0;
+    while i < s.len() {
+        let end = i + least(s.len() - i, 64);
+        let put = put_block(&mut out[k..], &s[i..end]);
+        let Stored::Put(n) = put else {
+            return Stored::Full;
+        };
+        k += n;
+        i = end;
+    }
+    Stored::Put(k)
+}

@@ -1,0 +1,10 @@
+pub mod Lists
+pub mod Walks
+pub mod Dead
+pub mod Attributes
+pub mod Tags
+pub mod Rows
+pub mod Statuses
+pub mod Cases
+pub mod Suites
+pub mod Documents

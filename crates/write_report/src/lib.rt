@@ -1,0 +1,2 @@
+// The events that a report is written as: definitions.
+#![tactic(auto)]

@@ -1,0 +1,8 @@
+use Rattle.write_values.proofs.Naming.{key-cut}
+use Rattle.list_text.proofs.Putting.{other}
+use Rattle.write_values.proofs.put_any_key.Goals as goal
+
+pub returns : goal.returns
+returns c =
+    let args = c.args in
+    other c.put_named.ensures (key-cut args.code)

@@ -1,0 +1,7 @@
+use Rattle.write_values.proofs.put_number_at.Goals as goal
+
+pub returns : goal.returns
+returns c =
+    let field = c.field in
+    let field2 = c.field-2 in
+    rw (c.number_of.ensures, field.ensures, field2.ensures) at c.put_decimal.ensures

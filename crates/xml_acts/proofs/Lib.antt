@@ -1,0 +1,2 @@
+pub mod FurtherBytes
+pub mod Letters

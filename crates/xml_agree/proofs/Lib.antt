@@ -1,0 +1,12 @@
+pub mod Agreeing
+pub mod Characters
+pub mod Further
+pub mod Words
+pub mod Names
+pub mod Records
+pub mod Declaration
+pub mod Misc
+pub mod Content
+pub mod Tags
+pub mod Ends
+pub mod Whole

@@ -1,0 +1,2 @@
+// Every move of the tokenizer agrees with the definition: what is true of both.
+#![tactic(auto)]

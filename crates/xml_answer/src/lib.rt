@@ -1,0 +1,2 @@
+// What writing a report's XML document answers and leaves: definitions.
+#![tactic(auto)]

@@ -1,0 +1,7 @@
+use Rattle.xml_chars.specs.Chars.{crosses}
+use mathlib.Core.Path.{refl}
+use Rattle.xml_checks.proofs.crosses.Goals as goal
+
+pub returns : goal.returns
+unfolding crosses
+returns c = refl

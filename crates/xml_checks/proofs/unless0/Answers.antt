@@ -1,0 +1,8 @@
+use borrow.Author.Tests.{eq-eqb, ne_eqb}
+use Rattle.xml_checks.proofs.unless0.Goals as goal
+
+pub returns-then-size-eq0 : goal.returns-then-size-eq0
+returns-then-size-eq0 c = simp (eq-eqb _ _ c.if-size-eq0.true)
+
+pub returns-else-size-eq0 : goal.returns-else-size-eq0
+returns-else-size-eq0 c = simp (ne_eqb _ _ c.if-size-eq0.false)

@@ -1,0 +1,10 @@
+pub mod Plain
+pub mod Steps
+pub mod Probe
+pub mod Behind
+pub mod Exact
+pub mod MiscStar
+pub mod Before
+pub mod Verdicts
+pub mod Placed
+pub mod Tokenizing

@@ -1,0 +1,2 @@
+pub mod MiscStar
+pub mod Tokenizing

@@ -1,0 +1,2 @@
+pub mod Doctype
+pub mod Answers

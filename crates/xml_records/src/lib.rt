@@ -1,0 +1,2 @@
+// Laws only: what the areas hold while a document is read.
+#![tactic(auto)]

@@ -1,0 +1,3 @@
+pub mod Modes
+pub mod Rep
+pub mod Agree

@@ -1,0 +1,2 @@
+// How the tokenizer's registers stand for the definition's state: definitions, and what is true of them.
+#![tactic(auto)]
