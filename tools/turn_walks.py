@@ -464,6 +464,9 @@ def convert(folder):
             if not lp:
                 PROBLEMS.append(f"{key}: loop {what}"); continue
             new, vars_, ch = lp
+            if "rt" in vars_:
+                # a handle that came with printing
+                vars_, ch = zip(*[(v, c) for v, c in zip(vars_, ch) if v != "rt"])
             body = b[m.end():].lstrip("\n")
             h = re.match(rf"{re.escape(name)} ([^=]*?)\s*=\s*", body)
             if not h:
@@ -492,6 +495,8 @@ def convert(folder):
         body = re.sub(rf"(?m)^{re.escape(name)} ", f"{goal} ", body)
         plain = re.sub(r"\s+", " ", body.split(" =", 1)[1].strip()) if " =" in body else ""
         allnames.add(name)
+        if goal.startswith("enum_told") or plain == "tt":
+            continue
         if plain in ("search rules", "search needs", "omega arith") and "unfolding" not in body.split(" =")[0]:
             continue
         fn.goal = goal
