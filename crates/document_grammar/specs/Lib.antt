@@ -1,0 +1,2 @@
+pub mod XmlFit
+pub mod Needed

@@ -1,0 +1,3 @@
+pub mod Areas
+pub mod Looping
+pub mod Whole

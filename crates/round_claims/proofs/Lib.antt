@@ -1,0 +1,3 @@
+pub mod Layouts
+pub mod Demand2
+pub mod Examples

@@ -1,0 +1,11 @@
+pub mod Suiting
+pub mod Elements
+pub mod Scratch
+pub mod Actions
+pub mod Sufficing
+pub mod Alike
+pub mod AlikeElements
+pub mod AlikeSteps
+pub mod Sparing
+pub mod Covering
+pub mod Written

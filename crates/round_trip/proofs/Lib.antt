@@ -1,0 +1,2 @@
+pub mod OwnTable
+pub mod Areas

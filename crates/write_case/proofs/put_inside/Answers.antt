@@ -1,0 +1,10 @@
+use Rattle.write_items.specs.inside.Case.{inside_items}
+use Rattle.write_table.proofs.Writing.{then}
+use Rattle.write_case.proofs.put_inside.Goals as goal
+
+pub returns : goal.returns
+unfolding inside_items
+returns c =
+    let put-properties = c.put_properties-properties in
+    let put-elements = c.put_elements in
+    then put-properties.ensures put-elements.ensures

@@ -1,0 +1,4 @@
+pub mod Printing
+pub mod Trees
+pub mod Reports
+mod Examples

@@ -1,0 +1,4 @@
+pub mod Used
+pub mod Leaving
+pub mod Answered
+mod Examples
