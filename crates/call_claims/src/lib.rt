@@ -1,2 +1,0 @@
-// Demand 1 in one place: its claims in specs/, their proofs in proofs/.
-#![tactic(auto)]

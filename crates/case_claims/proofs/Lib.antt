@@ -1,4 +1,0 @@
-pub mod Planned
-pub mod Growing
-pub mod Tags
-mod Examples

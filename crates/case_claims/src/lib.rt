@@ -1,2 +1,0 @@
-// Laws only: each case of a report comes from a `testcase` tag.
-#![tactic(auto)]

@@ -1,3 +1,0 @@
-mod InUse
-mod Tokenized
-pub mod XmlBack

@@ -1,2 +1,0 @@
-pub mod XmlFit
-pub mod Needed

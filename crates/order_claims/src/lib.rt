@@ -1,2 +1,0 @@
-// What is claimed of a report to order: definitions and laws.
-#![tactic(auto)]

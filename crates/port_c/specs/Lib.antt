@@ -1,4 +1,0 @@
-pub mod Answers
-pub mod Documents
-pub mod Sheets
-pub mod Started

@@ -1,5 +1,0 @@
-pub mod Document
-pub mod Reports
-pub mod Cases
-pub mod OneCall
-pub mod ShortAreas

@@ -1,3 +1,0 @@
-pub mod ElementKinds
-pub mod Adding
-pub mod Opening

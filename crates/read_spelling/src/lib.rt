@@ -1,2 +1,0 @@
-// Empty children spelled as Start and End: definitions and laws only.
-#![tactic(auto)]

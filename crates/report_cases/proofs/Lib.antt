@@ -1,3 +1,0 @@
-pub mod Public
-mod Examples
-mod ShortAreas

@@ -1,2 +1,0 @@
-pub mod Amid
-pub mod Kept

@@ -1,5 +1,0 @@
-pub mod Conditions
-pub mod Apart
-pub mod Cases
-pub mod Kept
-pub mod Limits

@@ -1,3 +1,0 @@
-pub mod Layouts
-pub mod Demand2
-pub mod Examples

@@ -1,4 +1,0 @@
-pub mod Opened
-pub mod Held
-pub mod Read
-pub mod PlainCase

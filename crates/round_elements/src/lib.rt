@@ -1,2 +1,0 @@
-// Elements read back from the attributes that they are written with: definitions, and that it is so.
-#![tactic(auto)]

@@ -1,2 +1,0 @@
-// A plain report comes back from its own table, with areas as without: laws only, in proofs/.
-#![tactic(auto)]

@@ -1,2 +1,0 @@
-pub mod Related
-pub mod Scratch

@@ -1,2 +1,0 @@
-// Definitions and laws only: refusal 14, exactly.
-#![tactic(auto)]

@@ -1,4 +1,0 @@
-pub mod Printing
-pub mod Trees
-pub mod Reports
-mod Examples

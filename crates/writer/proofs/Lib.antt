@@ -1,4 +1,0 @@
-pub mod Used
-pub mod Leaving
-pub mod Answered
-mod Examples

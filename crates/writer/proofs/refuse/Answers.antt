@@ -1,4 +1,0 @@
-use Rattle.writer.proofs.refuse.Goals as goal
-
-pub returns : goal.returns
-returns c = rw c.refuse_late.ensures

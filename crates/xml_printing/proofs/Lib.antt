@@ -1,2 +1,0 @@
-pub mod Documents
-mod Examples

@@ -1,3 +1,0 @@
-pub mod Documents
-pub mod Leaving
-pub mod Answered
