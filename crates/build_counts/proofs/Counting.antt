@@ -5,18 +5,18 @@ use mathlib.Core.Bool.{Bool, true, false, not}
 use mathlib.Core.List.{List, ◌++◌}
 use native.Mathlib.Omega.{arith}
 use lib.ListN.{take, drop}
-use Rattle.refusal.specs.Refusal.{verdict_of}
-use Rattle.refusal.specs.declared.Cause.TheVariants as cause
-use Rattle.refusal.specs.declared.Verdict.TheVariants.{Accepted, Refused}
-use Rattle.tree_record.specs.Words as word
-use Rattle.tree_record.specs.Bits as bit
-use Rattle.tree_record.specs.Kinds as kind
-use Rattle.tree_record.specs.Record.{has_bit, marked, number_at}
-use Rattle.tree_put.specs.Put.{put_count_of}
-use Rattle.tree_counts.specs.declared.Counts.{Counts}
-use Rattle.tree_counts.specs.declared.Counted.{Counted}
-use Rattle.tree_counts.specs.Counts.{are_counts, added, with_suite, kept, counted_from}
-use Rattle.tree_counts.proofs.Adding.{adding, refusing}
+use Rattle.build_draft.specs.of_refusal.Refusal.{verdict_of}
+use Rattle.build_draft.specs.of_refusal.declared.Cause.TheVariants as cause
+use Rattle.build_draft.specs.of_refusal.declared.Verdict.TheVariants.{Accepted, Refused}
+use Rattle.build_draft.specs.of_tree_record.Words as word
+use Rattle.build_draft.specs.of_tree_record.Bits as bit
+use Rattle.build_draft.specs.of_tree_record.Kinds as kind
+use Rattle.build_draft.specs.of_tree_record.Record.{has_bit, marked, number_at}
+use Rattle.build_draft.specs.of_tree_put.Put.{put_count_of}
+use Rattle.build_draft.specs.of_tree_counts.declared.Counts.{Counts}
+use Rattle.build_draft.specs.of_tree_counts.declared.Counted.{Counted}
+use Rattle.build_draft.specs.of_tree_counts.Counts.{are_counts, added, with_suite, kept, counted_from}
+use Rattle.build_draft.proofs.of_tree_counts.Adding.{adding, refusing}
 use Rattle.build_draft.specs.declared.Builder.{Builder}
 use Rattle.build_draft.specs.declared.Step.TheVariants.{Done, Not}
 use Rattle.build_draft.specs.Draft.{◌>>=◌, draft_of, is_of}

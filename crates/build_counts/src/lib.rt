@@ -2,17 +2,17 @@
 #![tactic(auto)]
 
 ghost use Rattle.std.specs.Prelude.{◌≡◌, List, ℕ, ◌≤◌};
-ghost use Rattle.tree_record.specs.Record.{number_at};
-ghost use Rattle.tree_counts.specs.Counts.{counted_from, with_suite, with_case};
-ghost use Rattle.tree_counts.specs.declared.Counts.{Counts as Sums};
+ghost use Rattle.build_draft.specs.of_tree_record.Record.{number_at};
+ghost use Rattle.build_draft.specs.of_tree_counts.Counts.{counted_from, with_suite, with_case};
+ghost use Rattle.build_draft.specs.of_tree_counts.declared.Counts.{Counts as Sums};
 ghost use Rattle.build_draft.specs.Draft.{draft_of};
 ghost use Rattle.build_draft.specs.Parts.{counts_in, counts_at, put_disabled, put_counts, counting, summing};
 
+use build_draft::the_refusal::{Cause, Verdict};
+use build_draft::the_tree_counts::{Counted, Counts, Outcome};
+use build_draft::the_tree_put::put_count;
+use build_draft::the_tree_record::{bit, field, has_bit, kind, put_bit, word};
 use build_draft::{Builder, Step, is_of};
-use refusal::{Cause, Verdict};
-use tree_counts::{Counted, Counts, Outcome};
-use tree_put::put_count;
-use tree_record::{bit, field, has_bit, kind, put_bit, word};
 
 // The count at the words o and o + 1.
 fn number_at(r: &[u32], o: usize) -> u64
@@ -42,7 +42,7 @@ pub fn counts_in(r: &[u32]) -> Counts
 fn counts_at(words: &[u32], i: u32) -> Counts
     ensures { result ≡ counts_at words.now i }
 {
-    let at = area::least((i as usize) * 32, words.len());
+    let at = build_draft::the_area::least((i as usize) * 32, words.len());
     counts_in(&words[at..])
 }
 
@@ -75,7 +75,7 @@ fn put_counted(b: Builder, records: &mut [u32], i: u32, counted: Counted) -> Ste
     let Verdict::Accepted = verdict else {
         return Step::Not(Cause::CountLimit);
     };
-    let at = area::least((i as usize) * 32, records.len());
+    let at = build_draft::the_area::least((i as usize) * 32, records.len());
     let c = counted.counts;
     put_counts(&mut records[at..], c);
     Step::Done(b)

@@ -3,7 +3,7 @@ use Prim.Native.Nat.{ℕ}
 use mathlib.Core.Path.{◌≡◌, refl}
 use mathlib.Core.List.{List, [], ◌∷◌, ◌++◌}
 use mathlib.Core.Bool.{Bool, cond}
-use Rattle.tree_record.specs.Kinds as kind
+use Rattle.tree_put.specs.of_tree_record.Kinds as kind
 use Rattle.build_draft.specs.declared.TextField.TheVariants.{Classname, Message, Ty, Description, StackTrace, SystemOut, SystemErr, Hostname}
 use Rattle.build_draft.specs.Parts.{has_text, has_times, is_output}
 

@@ -5,7 +5,7 @@ use mathlib.Core.List.{List, [], ◌∷◌, ◌++◌}
 use native.Mathlib.Nat.{zero-min, min-zero, suc-min-suc}
 use lib.ListN.{length, take, drop}
 use borrow.Rule.Slice.PartMut.{put_mid}
-use Rattle.area.proofs.Parts.{rest_part, rest_back}
+use Rattle.text_lossy.proofs.of_area.Parts.{rest_part, rest_back}
 use Rattle.build_draft.specs.Draft.{on_record_of}
 
 -- an area ends at its length

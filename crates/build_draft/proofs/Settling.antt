@@ -3,11 +3,11 @@ use Prim.Native.Nat.{ℕ}
 use mathlib.Core.List.{List}
 use mathlib.Core.Path.{◌≡◌, refl, ap, ◌∙◌}
 use lib.ListN.{length}
-use Rattle.area.specs.Area.{zeros}
-use Rattle.refusal.specs.Refusal.{Outcome, late, refusal_from, no_refusal}
-use Rattle.refusal.specs.declared.Refusal.{Refusal}
-use Rattle.refusal.specs.declared.Cause.{Cause}
-use Rattle.refusal.specs.declared.Verdict.TheVariants.{Accepted, Refused}
+use Rattle.text_lossy.specs.of_area.Area.{zeros}
+use Rattle.tree_counts.specs.of_refusal.Refusal.{Outcome, late, refusal_from, no_refusal}
+use Rattle.tree_counts.specs.of_refusal.declared.Refusal.{Refusal}
+use Rattle.tree_counts.specs.of_refusal.declared.Cause.{Cause}
+use Rattle.tree_counts.specs.of_refusal.declared.Verdict.TheVariants.{Accepted, Refused}
 use Rattle.build_draft.specs.declared.Builder.{Builder}
 use Rattle.build_draft.specs.declared.Built.{Built}
 use Rattle.build_draft.specs.declared.Step.{Step}

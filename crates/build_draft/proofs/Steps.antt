@@ -2,8 +2,8 @@
 use Prim.Native.Nat.{ℕ}
 use mathlib.Core.Path.{◌≡◌, sym, ap, ◌∙◌}
 use mathlib.Core.List.{List}
-use Rattle.refusal.specs.Refusal.{Outcome, accepted}
-use Rattle.refusal.specs.declared.Cause.{Cause}
+use Rattle.tree_counts.specs.of_refusal.Refusal.{Outcome, accepted}
+use Rattle.tree_counts.specs.of_refusal.declared.Cause.{Cause}
 use Rattle.build_draft.specs.declared.Builder.{Builder}
 use Rattle.build_draft.specs.declared.Step.{Step}
 use Rattle.build_draft.specs.declared.Step.TheVariants.{Done, Not}

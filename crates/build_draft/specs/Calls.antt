@@ -1,17 +1,17 @@
 -- The calls of a builder: what each makes of a draft, and when it refuses. A call of the code equals one of these on every builder and
 -- all areas. Definitions only.
 use Rattle.std.specs.Prelude.{ℕ, ◌+◌, ◌-◌, ◌*◌, List, Bool, true, false, cond, not, ◌&&◌, ◌||◌, drop, leb, ltb, eqb}
-use Rattle.area.specs.Area.{zeros}
-use Rattle.text_filter.specs.Filter.{filtered}
-use Rattle.timestamp.specs.Timestamp.{in_range}
-use Rattle.timestamp.specs.declared.Moment.{Moment}
-use Rattle.uuids.specs.declared.Words.{Words}
-use Rattle.refusal.specs.Refusal.{nowhere, Outcome, accepted}
-use Rattle.refusal.specs.declared.Cause.TheVariants as cause
-use Rattle.tree_record.specs.Words as word
-use Rattle.tree_record.specs.Bits as bit
-use Rattle.tree_record.specs.Kinds as kind
-use Rattle.tree_record.specs.Record.{has_bit, marked, unmarked}
+use Rattle.text_lossy.specs.of_area.Area.{zeros}
+use Rattle.text_lossy.specs.of_text_filter.Filter.{filtered}
+use Rattle.tree_put.specs.of_timestamp.Timestamp.{in_range}
+use Rattle.tree_put.specs.of_timestamp.declared.Moment.{Moment}
+use Rattle.tree_put.specs.of_uuids.declared.Words.{Words}
+use Rattle.tree_counts.specs.of_refusal.Refusal.{nowhere, Outcome, accepted}
+use Rattle.tree_counts.specs.of_refusal.declared.Cause.TheVariants as cause
+use Rattle.tree_put.specs.of_tree_record.Words as word
+use Rattle.tree_put.specs.of_tree_record.Bits as bit
+use Rattle.tree_put.specs.of_tree_record.Kinds as kind
+use Rattle.tree_put.specs.of_tree_record.Record.{has_bit, marked, unmarked}
 use Rattle.tree_put.specs.Put.{put_pair, put_text, put_uuid, put_moment, put_time}
 use Rattle.tree_counts.specs.declared.Outcome.{Outcome as Status}
 use Rattle.tree_counts.specs.declared.Outcome.TheVariants as status

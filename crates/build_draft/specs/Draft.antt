@@ -1,9 +1,9 @@
 -- A report being built in two lent areas: the builder's marks, what a call answers and leaves. Definitions only.
 use Rattle.std.specs.Prelude.{ℕ, ◌-◌, ◌*◌, ◌/◌, min, List, ◌++◌, Bool, true, false, cond, ◌&&◌, length, get_or, take, drop, leb, ltb, eqb}
-use Rattle.area.specs.Area.{zeros}
-use Rattle.area.specs.Limits.{most_records, most_bytes}
-use Rattle.refusal.specs.Refusal.{nowhere, Outcome, accepted, refused, late, verdict_of, refusal_of}
-use Rattle.refusal.specs.declared.Cause.{Cause}
+use Rattle.text_lossy.specs.of_area.Area.{zeros}
+use Rattle.text_lossy.specs.of_area.Limits.{most_records, most_bytes}
+use Rattle.tree_counts.specs.of_refusal.Refusal.{nowhere, Outcome, accepted, refused, late, verdict_of, refusal_of}
+use Rattle.tree_counts.specs.of_refusal.declared.Cause.{Cause}
 use Rattle.build_draft.specs.declared.Builder.{Builder}
 use Rattle.build_draft.specs.declared.Step.{Step}
 use Rattle.build_draft.specs.declared.Step.TheVariants.{Done, Not}

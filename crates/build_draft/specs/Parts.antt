@@ -1,15 +1,15 @@
 -- What the calls of a builder are made of: a record taken, a text stored, counts raised. Definitions only.
 use Rattle.std.specs.Prelude.{ℕ, zero, suc, ◌+◌, ◌-◌, ◌*◌, List, ◌++◌, Bool, true, false, cond, ◌&&◌, ◌||◌, length, set, take, drop, leb, ltb, eqb}
-use Rattle.names.specs.Names.{same_bytes}
-use Rattle.utf8.specs.Utf8.{utf8}
-use Rattle.text_filter.specs.Filter.{filtered}
+use Rattle.tree_put.specs.of_names.Names.{same_bytes}
+use Rattle.text_lossy.specs.of_utf8.Utf8.{utf8}
+use Rattle.text_lossy.specs.of_text_filter.Filter.{filtered}
 use Rattle.text_lossy.specs.LossyText.{lossy_text}
-use Rattle.refusal.specs.Refusal.{Outcome, accepted}
-use Rattle.refusal.specs.declared.Cause.TheVariants as cause
-use Rattle.tree_record.specs.Words as word
-use Rattle.tree_record.specs.Bits as bit
-use Rattle.tree_record.specs.Kinds as kind
-use Rattle.tree_record.specs.Record.{kind_of, has_bit, marked, text_at, number_at}
+use Rattle.tree_counts.specs.of_refusal.Refusal.{Outcome, accepted}
+use Rattle.tree_counts.specs.of_refusal.declared.Cause.TheVariants as cause
+use Rattle.tree_put.specs.of_tree_record.Words as word
+use Rattle.tree_put.specs.of_tree_record.Bits as bit
+use Rattle.tree_put.specs.of_tree_record.Kinds as kind
+use Rattle.tree_put.specs.of_tree_record.Record.{kind_of, has_bit, marked, text_at, number_at}
 use Rattle.tree_put.specs.Put.{put_text, put_count_of}
 use Rattle.tree_counts.specs.declared.Counts.{Counts}
 use Rattle.tree_counts.specs.Counts.{with_suite}

@@ -2,12 +2,18 @@
 #![tactic(auto)]
 
 ghost use Rattle.std.specs.Prelude.{◌≡◌, length};
-ghost use Rattle.area.specs.Area.{zeros};
+ghost use Rattle.text_lossy.specs.of_area.Area.{zeros};
 ghost use Rattle.build_draft.specs.Draft.{no_builder, draft_of, built_from, words_left_of, text_left, room_for, is_record, kind_at, is_of, last_of, last_open, mark_of};
 
-use area::{clear, clear_words, least, limit, wide};
-use refusal::{Cause, NOWHERE, Refusal, Verdict, no_refusal, refuse_late};
-use tree_record::field;
+pub use text_lossy as the_text_lossy;
+use text_lossy::the_area::{clear, clear_words, least, limit, wide};
+pub use text_lossy::{the_area, the_text_filter, the_utf8};
+pub use tree_counts as the_tree_counts;
+pub use tree_counts::the_refusal;
+use tree_counts::the_refusal::{Cause, NOWHERE, Refusal, Verdict, no_refusal, refuse_late};
+pub use tree_put as the_tree_put;
+use tree_put::the_tree_record::field;
+pub use tree_put::{the_timestamp, the_tree_record, the_uuids};
 
 // How many records and bytes are used, and the records of the report, the open suite, the open case and its main status element;
 // 4294967295 where there is none.

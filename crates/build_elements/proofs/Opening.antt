@@ -6,19 +6,19 @@ use mathlib.Core.List.{List}
 use lib.ListN.{length}
 use lib.Dec.{eqb}
 use borrow.Author.Tests.{ne_eqb}
-use Rattle.area.specs.Area.{zeros}
-use Rattle.refusal.specs.Refusal.{nowhere, Outcome}
-use Rattle.refusal.specs.declared.Cause.{Cause}
-use Rattle.refusal.specs.declared.Cause.TheVariants as cause
-use Rattle.tree_record.specs.Kinds as kind
-use Rattle.tree_counts.specs.declared.Outcome.{Outcome as Status}
-use Rattle.tree_counts.specs.Counts.{with_case}
-use Rattle.build_draft.specs.declared.Builder.{Builder}
-use Rattle.build_draft.specs.declared.Step.{Step}
-use Rattle.build_draft.specs.declared.Step.TheVariants.{Done, Not}
-use Rattle.build_draft.specs.Draft.{Draft, no_builder, next, ◌>>=◌, draft_of, is_of, last_of}
-use Rattle.build_draft.specs.Parts.{counts_at, counting, summing}
-use Rattle.build_draft.specs.Calls.{marks, unnamed_report, open_suite, open_case, main_kind, open_main, finish}
+use Rattle.build_kinds.specs.of_area.Area.{zeros}
+use Rattle.build_kinds.specs.of_refusal.Refusal.{nowhere, Outcome}
+use Rattle.build_kinds.specs.of_refusal.declared.Cause.{Cause}
+use Rattle.build_kinds.specs.of_refusal.declared.Cause.TheVariants as cause
+use Rattle.build_kinds.specs.of_tree_record.Kinds as kind
+use Rattle.build_kinds.specs.of_tree_counts.declared.Outcome.{Outcome as Status}
+use Rattle.build_kinds.specs.of_tree_counts.Counts.{with_case}
+use Rattle.build_kinds.specs.of_build_draft.declared.Builder.{Builder}
+use Rattle.build_kinds.specs.of_build_draft.declared.Step.{Step}
+use Rattle.build_kinds.specs.of_build_draft.declared.Step.TheVariants.{Done, Not}
+use Rattle.build_kinds.specs.of_build_draft.Draft.{Draft, no_builder, next, ◌>>=◌, draft_of, is_of, last_of}
+use Rattle.build_kinds.specs.of_build_draft.Parts.{counts_at, counting, summing}
+use Rattle.build_kinds.specs.of_build_draft.Calls.{marks, unnamed_report, open_suite, open_case, main_kind, open_main, finish}
 use Rattle.build_elements.proofs.Steps.{stopped, went, done, unasked, part-stopped, part-went, remarked, opening}
 
 -- the marks behind each record taken

@@ -4,14 +4,14 @@ use mathlib.Core.Path.{◌≡◌, refl, sym, ap, ◌∙◌}
 use mathlib.Core.Bool.{Bool, true, false, not}
 use mathlib.Core.List.{List}
 use native.Mathlib.Omega.{arith}
-use Rattle.refusal.specs.Refusal.{Outcome, accepted}
-use Rattle.refusal.specs.declared.Cause.{Cause}
-use Rattle.build_draft.specs.declared.Builder.{Builder}
-use Rattle.build_draft.specs.declared.Step.{Step}
-use Rattle.build_draft.specs.declared.Step.TheVariants.{Done, Not}
-use Rattle.build_draft.specs.Draft.{Draft, ◌>>=◌, asks, draft_of, with_builder}
-use Rattle.build_draft.specs.Parts.{taking}
-use Rattle.build_draft.proofs.Steps.{then-refused, then-done}
+use Rattle.build_kinds.specs.of_refusal.Refusal.{Outcome, accepted}
+use Rattle.build_kinds.specs.of_refusal.declared.Cause.{Cause}
+use Rattle.build_kinds.specs.of_build_draft.declared.Builder.{Builder}
+use Rattle.build_kinds.specs.of_build_draft.declared.Step.{Step}
+use Rattle.build_kinds.specs.of_build_draft.declared.Step.TheVariants.{Done, Not}
+use Rattle.build_kinds.specs.of_build_draft.Draft.{Draft, ◌>>=◌, asks, draft_of, with_builder}
+use Rattle.build_kinds.specs.of_build_draft.Parts.{taking}
+use Rattle.build_kinds.proofs.of_build_draft.Steps.{then-refused, then-done}
 
 module _ (words text : List ℕ) where
   -- a part that refuses ends the call

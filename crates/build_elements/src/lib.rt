@@ -2,16 +2,18 @@
 #![tactic(auto)]
 
 ghost use Rattle.std.specs.Prelude.{◌≡◌, List, ℕ, length};
-ghost use Rattle.build_draft.specs.Draft.{draft_of, next};
-ghost use Rattle.build_draft.specs.Calls.{marks, unnamed_report, open_suite, open_case, open_main, finish};
+ghost use Rattle.build_kinds.specs.of_build_draft.Draft.{draft_of, next};
+ghost use Rattle.build_kinds.specs.of_build_draft.Calls.{marks, unnamed_report, open_suite, open_case, open_main, finish};
 
 use build_counts::{count_case, sum_suite};
-use build_draft::{Builder, Step, is_of, last_of, no_builder};
+pub use build_kinds as the_build_kinds;
 use build_kinds::main_kind;
+use build_kinds::the_build_draft::{Builder, Step, is_of, last_of, no_builder};
+use build_kinds::the_refusal::{Cause, NOWHERE};
+use build_kinds::the_tree_counts::Outcome;
+use build_kinds::the_tree_record::kind;
+pub use build_kinds::{the_build_draft, the_tree_counts};
 use build_records::take_record;
-use refusal::{Cause, NOWHERE};
-use tree_counts::Outcome;
-use tree_record::kind;
 
 fn with_marks(b: Builder, report: u32, suite: u32, case: u32, main: u32) -> Builder
     ensures { result ≡ marks report suite case main b }
@@ -30,8 +32,8 @@ fn with_marks(b: Builder, report: u32, suite: u32, case: u32, main: u32) -> Buil
 pub fn open_report(records: &mut [u32], text: &mut [u8]) -> Step
     ensures { draft_of result records.new text.new ≡ unnamed_report (length records.old) (length text.old) }
 {
-    area::clear_words(records);
-    area::clear(text);
+    build_kinds::the_area::clear_words(records);
+    build_kinds::the_area::clear(text);
     let taken = take_record(no_builder(), records, kind::REPORT);
     let Step::Done(b) = taken else {
         return taken;

@@ -2,23 +2,23 @@
 #![tactic(auto)]
 
 ghost use Rattle.std.specs.Prelude.{◌≡◌, List, ◌&&◌, ℕ, leb};
-ghost use Rattle.refusal.specs.Refusal.{accepted};
-ghost use Rattle.refusal.specs.declared.Cause.TheVariants as cause;
-ghost use Rattle.timestamp.specs.Timestamp.{in_range};
-ghost use Rattle.tree_put.specs.Put.{put_moment, put_time, put_uuid};
+ghost use Rattle.tree_values.specs.of_refusal.Refusal.{accepted};
+ghost use Rattle.tree_values.specs.of_refusal.declared.Cause.TheVariants as cause;
+ghost use Rattle.tree_values.specs.of_timestamp.Timestamp.{in_range};
+ghost use Rattle.tree_values.specs.of_tree_put.Put.{put_moment, put_time, put_uuid};
 ghost use Rattle.build_draft.specs.Draft.{draft_of, asks, is_of, on_record_of};
 ghost use Rattle.build_draft.specs.Parts.{put_number, is_status, is_run, has_text, word_for, bit_for, is_output, has_times};
 ghost use Rattle.build_draft.specs.Calls.{is_timed, set_uuid, set_number};
 ghost use Rattle.build_draft.specs.declared.TextField.TheVariants as field;
 
-use area::least;
 use build_draft::{Builder, NumberField, Step, TextField, is_of, is_record, kind_at};
-use refusal::Cause;
-use timestamp::Moment;
-use tree_put::put_count;
-use tree_record::{bit, kind, put_bit, word};
+use tree_values::the_area::least;
+use tree_values::the_refusal::Cause;
+use tree_values::the_timestamp::Moment;
+use tree_values::the_tree_put::put_count;
+use tree_values::the_tree_record::{bit, kind, put_bit, word};
+use tree_values::the_uuids::Words;
 use tree_values::{put_moment, put_time, put_uuid};
-use uuids::Words;
 
 fn is_run(k: u32) -> bool
     ensures { result ≡ is_run k }
@@ -119,7 +119,7 @@ pub fn stamp(b: Builder, records: &mut [u32], i: u32, m: Moment) -> Step
     if !is_timed(b, records, i) {
         return Step::Not(Cause::NotLayout);
     }
-    if !timestamp::in_range(m) {
+    if !tree_values::the_timestamp::in_range(m) {
         return Step::Not(Cause::BadTimestamp);
     }
     let at = least((i as usize) * 32, records.len());

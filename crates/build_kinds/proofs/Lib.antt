@@ -1,1 +1,2 @@
 pub mod Behind
+pub use Rattle.build_draft.proofs as of_build_draft

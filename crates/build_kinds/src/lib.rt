@@ -5,9 +5,11 @@ ghost use Rattle.std.specs.Prelude.{◌≡◌};
 ghost use Rattle.build_draft.specs.Parts.{may_stand_behind};
 ghost use Rattle.build_draft.specs.Calls.{main_kind, property_kind, extra_kind};
 
+pub use build_draft as the_build_draft;
 use build_draft::Holder;
-use tree_counts::Outcome;
-use tree_record::kind;
+use build_draft::the_tree_counts::Outcome;
+use build_draft::the_tree_record::kind;
+pub use build_draft::{the_area, the_refusal, the_tree_counts, the_tree_put, the_tree_record};
 
 pub fn property_kind(holder: Holder) -> u32
     ensures { result ≡ property_kind holder }

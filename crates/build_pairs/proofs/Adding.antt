@@ -8,21 +8,21 @@ use lib.Dec.{leb, ltb, eqb}
 use lib.ListN.{length, take, drop, length-append, length-drop}
 use lib.Seq.{length-take-le, take-add, take_at, drop_at}
 use borrow.Author.Tests.{lt-ltb, le-ltb, ltb-true, leb-true}
-use Rattle.text_filter.specs.Filter.{filtered}
-use Rattle.refusal.specs.Refusal.{Outcome, accepted, refused}
-use Rattle.refusal.specs.declared.Cause.{Cause}
-use Rattle.refusal.specs.declared.Cause.TheVariants as cause
-use Rattle.tree_record.specs.Words as word
-use Rattle.tree_put.specs.Put.{put_pair}
-use Rattle.build_draft.specs.declared.Builder.{Builder}
-use Rattle.build_draft.specs.declared.Step.{Step}
-use Rattle.build_draft.specs.declared.Step.TheVariants.{Done, Not}
-use Rattle.build_draft.specs.Draft.{Draft, draft_of, ◌>>=◌, next, asks, room_for, is_record, kind_at, is_of, on_record_of, last_of, with_words}
-use Rattle.build_draft.specs.Parts.{put_at, keeping, taking, is_main_kind, place_for, may_stand_behind}
-use Rattle.tree_record.specs.Kinds as kind
-use Rattle.build_draft.specs.Calls.{is_suites, is_held, old_place, put_pair_in, add_pair}
+use Rattle.list_values.specs.of_text_filter.Filter.{filtered}
+use Rattle.list_values.specs.of_refusal.Refusal.{Outcome, accepted, refused}
+use Rattle.list_values.specs.of_refusal.declared.Cause.{Cause}
+use Rattle.list_values.specs.of_refusal.declared.Cause.TheVariants as cause
+use Rattle.list_values.specs.of_tree_record.Words as word
+use Rattle.build_kinds.specs.of_tree_put.Put.{put_pair}
+use Rattle.build_kinds.specs.of_build_draft.declared.Builder.{Builder}
+use Rattle.build_kinds.specs.of_build_draft.declared.Step.{Step}
+use Rattle.build_kinds.specs.of_build_draft.declared.Step.TheVariants.{Done, Not}
+use Rattle.build_kinds.specs.of_build_draft.Draft.{Draft, draft_of, ◌>>=◌, next, asks, room_for, is_record, kind_at, is_of, on_record_of, last_of, with_words}
+use Rattle.build_kinds.specs.of_build_draft.Parts.{put_at, keeping, taking, is_main_kind, place_for, may_stand_behind}
+use Rattle.list_values.specs.of_tree_record.Kinds as kind
+use Rattle.build_kinds.specs.of_build_draft.Calls.{is_suites, is_held, old_place, put_pair_in, add_pair}
 use Rattle.build_text.proofs.Keeping.{with_bytes, Kept, is-kept}
-use Rattle.build_draft.proofs.Steps.{plain, then-refused, then-done, is-done}
+use Rattle.build_kinds.proofs.of_build_draft.Steps.{plain, then-refused, then-done, is-done}
 use Rattle.build_pairs.specs.inside.Adding.{putting_kept}
 
 both_true : (t u : Bool) → (t && u) ≡ true → (t ≡ true) × (u ≡ true)

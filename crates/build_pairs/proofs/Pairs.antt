@@ -6,20 +6,20 @@ use native.Mathlib.Omega.{arith}
 use lib.Dec.{ltb}
 use lib.ListN.{length, set, length-set}
 use borrow.Author.Tests.{lt-ltb, le-ltb, ltb-true}
-use Rattle.refusal.specs.Refusal.{Outcome, accepted}
-use Rattle.refusal.specs.declared.Cause.{Cause}
-use Rattle.refusal.specs.declared.Cause.TheVariants as cause
-use Rattle.tree_record.specs.Words as word
-use Rattle.tree_record.specs.Bits as bit
-use Rattle.tree_put.specs.Put.{put_text}
-use Rattle.build_draft.specs.declared.Builder.{Builder}
-use Rattle.build_draft.specs.declared.Step.{Step}
-use Rattle.build_draft.specs.declared.Step.TheVariants.{Done, Not}
-use Rattle.build_draft.specs.Draft.{Draft, draft_of, next, room_for, on_record_of, last_of}
-use Rattle.build_draft.specs.Parts.{taking, exchanged}
-use Rattle.build_draft.specs.Calls.{marks, put_pair_in}
+use Rattle.list_values.specs.of_refusal.Refusal.{Outcome, accepted}
+use Rattle.list_values.specs.of_refusal.declared.Cause.{Cause}
+use Rattle.list_values.specs.of_refusal.declared.Cause.TheVariants as cause
+use Rattle.list_values.specs.of_tree_record.Words as word
+use Rattle.list_values.specs.of_tree_record.Bits as bit
+use Rattle.build_kinds.specs.of_tree_put.Put.{put_text}
+use Rattle.build_kinds.specs.of_build_draft.declared.Builder.{Builder}
+use Rattle.build_kinds.specs.of_build_draft.declared.Step.{Step}
+use Rattle.build_kinds.specs.of_build_draft.declared.Step.TheVariants.{Done, Not}
+use Rattle.build_kinds.specs.of_build_draft.Draft.{Draft, draft_of, next, room_for, on_record_of, last_of}
+use Rattle.build_kinds.specs.of_build_draft.Parts.{taking, exchanged}
+use Rattle.build_kinds.specs.of_build_draft.Calls.{marks, put_pair_in}
 use Rattle.build_text.proofs.Keeping.{asks-passed}
-use Rattle.build_draft.proofs.Steps.{plain, then-refused, then-done, is-done}
+use Rattle.build_kinds.proofs.of_build_draft.Steps.{plain, then-refused, then-done, is-done}
 
 -- ---- the texts in the record that was taken last
 module _ (b : Builder) (words : List ℕ) (place x y z : ℕ) {last : ℕ} (l : last ≡ last_of b) {words₁ : List ℕ}

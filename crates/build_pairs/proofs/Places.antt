@@ -6,16 +6,16 @@ use mathlib.Core.List.{List}
 use native.Mathlib.Omega.{arith}
 use lib.ListN.{length, get_or, take, drop}
 use borrow.Author.Tests.{le-leb, lt-leb}
-use Rattle.names.specs.Names.{same_bytes}
-use Rattle.tree_record.specs.Words as word
-use Rattle.tree_record.specs.Kinds as kind
-use Rattle.tree_record.specs.Record.{text_at}
-use Rattle.build_draft.specs.declared.Builder.{Builder}
-use Rattle.build_draft.specs.Draft.{kind_at, is_of, last_of}
-use Rattle.build_draft.specs.Parts.{is_main_kind, place_for, may_stand_behind, key_place}
-use Rattle.build_draft.specs.Calls.{is_suites, holder_of, is_held, old_place}
-use Rattle.build_draft.proofs.Places.{record-part}
-use Rattle.build_draft.proofs.Steps.{plain}
+use Rattle.list_values.specs.of_names.Names.{same_bytes}
+use Rattle.list_values.specs.of_tree_record.Words as word
+use Rattle.list_values.specs.of_tree_record.Kinds as kind
+use Rattle.list_values.specs.of_tree_record.Record.{text_at}
+use Rattle.build_kinds.specs.of_build_draft.declared.Builder.{Builder}
+use Rattle.build_kinds.specs.of_build_draft.Draft.{kind_at, is_of, last_of}
+use Rattle.build_kinds.specs.of_build_draft.Parts.{is_main_kind, place_for, may_stand_behind, key_place}
+use Rattle.build_kinds.specs.of_build_draft.Calls.{is_suites, holder_of, is_held, old_place}
+use Rattle.build_kinds.proofs.of_build_draft.Places.{record-part}
+use Rattle.build_kinds.proofs.of_build_draft.Steps.{plain}
 
 -- ---- the place of a new one
 module _ (b : Builder) (words : List ℕ) {last k : ℕ} {t : Bool} (l : last ≡ last_of b) (e : k ≡ kind_at words last) (f : t ≡ is_main_kind k) where

@@ -2,27 +2,28 @@
 #![tactic(auto)]
 
 ghost use Rattle.std.specs.Prelude.{◌≡◌, List, ◌&&◌, true, false, ℕ, ◌+◌, ◌-◌, ◌*◌, ◌≤◌, length};
-ghost use Rattle.names.specs.Names.{same_bytes};
-ghost use Rattle.refusal.specs.Refusal.{accepted};
-ghost use Rattle.tree_record.specs.Record.{text_at};
-ghost use Rattle.tree_put.specs.Put.{put_pair, put_text};
-ghost use Rattle.tree_record.specs.Words as word;
-ghost use Rattle.tree_record.specs.Bits as bit;
-ghost use Rattle.build_draft.specs.Draft.{draft_of, is_record, kind_at, on_record_of, last_of, next};
-ghost use Rattle.build_draft.specs.Parts.{keeping, taking, is_main_kind, place_for, may_stand_behind, key_place};
-ghost use Rattle.build_draft.specs.Calls.{is_suites, holder_of, is_held, old_place, put_pair_in, add_pair};
+ghost use Rattle.list_values.specs.of_names.Names.{same_bytes};
+ghost use Rattle.list_values.specs.of_refusal.Refusal.{accepted};
+ghost use Rattle.list_values.specs.of_tree_record.Record.{text_at};
+ghost use Rattle.build_kinds.specs.of_tree_put.Put.{put_pair, put_text};
+ghost use Rattle.list_values.specs.of_tree_record.Words as word;
+ghost use Rattle.list_values.specs.of_tree_record.Bits as bit;
+ghost use Rattle.build_kinds.specs.of_build_draft.Draft.{draft_of, is_record, kind_at, on_record_of, last_of, next};
+ghost use Rattle.build_kinds.specs.of_build_draft.Parts.{keeping, taking, is_main_kind, place_for, may_stand_behind, key_place};
+ghost use Rattle.build_kinds.specs.of_build_draft.Calls.{is_suites, holder_of, is_held, old_place, put_pair_in, add_pair};
 ghost use Rattle.build_pairs.specs.inside.Adding.{putting_kept};
 
-use area::least;
-use build_draft::{Builder, Step, is_of, kind_at, last_of};
 use build_kinds::may_stand_behind;
+use build_kinds::the_build_draft::{Builder, Step, is_of, kind_at, last_of};
+use build_kinds::the_tree_put::{put_pair, put_text};
 use build_records::{exchange, take_record};
+pub use build_text as the_build_text;
 use build_text::keep;
 use list_values::part_of;
-use names::same;
-use refusal::Cause;
-use tree_put::{put_pair, put_text};
-use tree_record::{bit, field, kind, word};
+use list_values::the_area::least;
+use list_values::the_names::same;
+use list_values::the_refusal::Cause;
+use list_values::the_tree_record::{bit, field, kind, word};
 
 fn is_main(k: u32) -> bool
     ensures { result ≡ is_main_kind k }

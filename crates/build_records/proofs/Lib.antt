@@ -1,2 +1,3 @@
 pub mod Taking
 pub mod Exchanging
+pub use Rattle.build_draft.proofs as of_build_draft

@@ -4,7 +4,7 @@ use mathlib.Core.Path.{◌≡◌, refl}
 use mathlib.Core.List.{List}
 use borrow.Author.Tests.{lt-ltb, le-ltb}
 use lib.ListN.{set}
-use Rattle.refusal.specs.declared.Cause.TheVariants as cause
+use Rattle.build_draft.specs.of_refusal.declared.Cause.TheVariants as cause
 use Rattle.build_draft.specs.declared.Builder.{Builder}
 use Rattle.build_draft.specs.declared.Step.TheVariants.{Done, Not}
 use Rattle.build_draft.specs.Draft.{draft_of, asks, room_for}

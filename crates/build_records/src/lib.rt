@@ -5,9 +5,11 @@ ghost use Rattle.std.specs.Prelude.{◌≡◌, List, ℕ, ◌+◌, ◌*◌, ◌�
 ghost use Rattle.build_draft.specs.Draft.{draft_of};
 ghost use Rattle.build_draft.specs.Parts.{taking, exchanged};
 
+pub use build_draft as the_build_draft;
+use build_draft::the_refusal::Cause;
+use build_draft::the_tree_record::put_field;
+pub use build_draft::{the_area, the_refusal, the_tree_record};
 use build_draft::{Builder, Step, room_for};
-use refusal::Cause;
-use tree_record::put_field;
 
 // A record more, of a kind.
 pub fn take_record(b: Builder, records: &mut [u32], kind: u32) -> Step

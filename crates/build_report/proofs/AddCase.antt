@@ -7,20 +7,20 @@ use mathlib.Core.Path.{◌≡◌, refl, sym, ap, ap₂, subst, ◌∙◌}
 use native.Mathlib.Omega.{arith}
 use lib.Dec.{leb, ltb}
 use lib.ListN.{length, length-set}
-use Rattle.refusal.specs.Refusal.{nowhere, Outcome, accepted}
-use Rattle.refusal.specs.declared.Cause.{Cause}
-use Rattle.refusal.specs.declared.Cause.TheVariants as cause
-use Rattle.utf8.specs.Utf8.{utf8}
-use Rattle.text_filter.specs.Filter.{filtered, unfiltered}
-use Rattle.text_filter.proofs.Filtering.{utf8-filtered, unfiltered-filtered}
-use Rattle.tree_record.specs.Kinds as kind
-use Rattle.tree_counts.specs.declared.Counts.{Counts as Numbers}
-use Rattle.tree_counts.specs.declared.Outcome.{Outcome as Status}
-use Rattle.tree_counts.specs.declared.Outcome.TheVariants as status
-use Rattle.tree_counts.specs.Counts.{with_suite, with_case}
-use Rattle.tree_report.specs.Report.{Text, Counts, TestSuite, Report}
-use Rattle.tree_report.specs.inside.Cells.{Row, every, fits_row, case_row, status_rows, suite_row, rows_of}
-use Rattle.tree_report.proofs.EncodeLists.{both}
+use Rattle.tree_placed.specs.of_refusal.Refusal.{nowhere, Outcome, accepted}
+use Rattle.tree_placed.specs.of_refusal.declared.Cause.{Cause}
+use Rattle.tree_placed.specs.of_refusal.declared.Cause.TheVariants as cause
+use Rattle.tree_placed.specs.of_utf8.Utf8.{utf8}
+use Rattle.tree_placed.specs.of_text_filter.Filter.{filtered, unfiltered}
+use Rattle.tree_placed.proofs.of_text_filter.Filtering.{utf8-filtered, unfiltered-filtered}
+use Rattle.tree_placed.specs.of_tree_record.Kinds as kind
+use Rattle.build_draft.specs.of_tree_counts.declared.Counts.{Counts as Numbers}
+use Rattle.build_draft.specs.of_tree_counts.declared.Outcome.{Outcome as Status}
+use Rattle.build_draft.specs.of_tree_counts.declared.Outcome.TheVariants as status
+use Rattle.build_draft.specs.of_tree_counts.Counts.{with_suite, with_case}
+use Rattle.tree_placed.specs.of_tree_report.Report.{Text, Counts, TestSuite, Report}
+use Rattle.tree_placed.specs.of_tree_report.inside.Cells.{Row, every, fits_row, case_row, status_rows, suite_row, rows_of}
+use Rattle.tree_placed.proofs.of_tree_report.EncodeLists.{both}
 use Rattle.tree_placed.specs.inside.Placed.{Placed, rows_in}
 use Rattle.tree_placed.specs.inside.Changed.{blank_row, blank_placed, first_text_of}
 use Rattle.build_draft.specs.declared.Builder.{Builder}

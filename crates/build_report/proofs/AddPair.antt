@@ -8,16 +8,16 @@ use native.Mathlib.Omega.{arith}
 use borrow.Author.Tests.{le-ltb, leb-true}
 use lib.Dec.{leb, ltb}
 use lib.ListN.{length, length-append, length-map}
-use Rattle.area.specs.Limits.{most_bytes}
-use Rattle.refusal.specs.Refusal.{Outcome, accepted}
-use Rattle.refusal.specs.declared.Cause.{Cause}
-use Rattle.refusal.specs.declared.Cause.TheVariants as cause
-use Rattle.utf8.specs.Utf8.{utf8}
-use Rattle.text_filter.specs.Filter.{filtered}
-use Rattle.text_filter.proofs.Filtering.{utf8-filtered, unfiltered-filtered}
-use Rattle.tree_put.specs.Put.{put_pair, put_text}
-use Rattle.tree_report.specs.Report.{Pair, TestCase, TestSuite, Report}
-use Rattle.tree_report.specs.inside.Cells.{Row, written, pair_row_of, fits_row}
+use Rattle.tree_placed.specs.of_area.Limits.{most_bytes}
+use Rattle.tree_placed.specs.of_refusal.Refusal.{Outcome, accepted}
+use Rattle.tree_placed.specs.of_refusal.declared.Cause.{Cause}
+use Rattle.tree_placed.specs.of_refusal.declared.Cause.TheVariants as cause
+use Rattle.tree_placed.specs.of_utf8.Utf8.{utf8}
+use Rattle.tree_placed.specs.of_text_filter.Filter.{filtered}
+use Rattle.tree_placed.proofs.of_text_filter.Filtering.{utf8-filtered, unfiltered-filtered}
+use Rattle.tree_placed.specs.of_tree_put.Put.{put_pair, put_text}
+use Rattle.tree_placed.specs.of_tree_report.Report.{Pair, TestCase, TestSuite, Report}
+use Rattle.tree_placed.specs.of_tree_report.inside.Cells.{Row, written, pair_row_of, fits_row}
 use Rattle.tree_placed.specs.inside.Placed.{StandsAt}
 use Rattle.tree_placed.proofs.Growing.{text-new, stands-more}
 use Rattle.build_draft.specs.declared.Builder.{Builder}

@@ -5,15 +5,15 @@ use mathlib.Core.List.{List, [], ◌∷◌, ◌++◌}
 use mathlib.Core.Path.{◌≡◌, refl, sym, ap, ◌∙◌}
 use lib.Dec.{leb, ltb}
 use lib.ListN.{length}
-use Rattle.refusal.specs.Refusal.{nowhere, Outcome, accepted}
-use Rattle.refusal.specs.declared.Cause.TheVariants as cause
-use Rattle.utf8.specs.Utf8.{utf8}
-use Rattle.text_filter.specs.Filter.{filtered, unfiltered}
-use Rattle.text_filter.proofs.Filtering.{utf8-filtered, unfiltered-filtered}
-use Rattle.tree_record.specs.Kinds as kind
-use Rattle.tree_report.specs.Report.{Text, Report}
-use Rattle.tree_report.specs.inside.Cells.{fits_row, suite_row}
-use Rattle.tree_report.proofs.EncodeLists.{both, done, more, each_append}
+use Rattle.tree_placed.specs.of_refusal.Refusal.{nowhere, Outcome, accepted}
+use Rattle.tree_placed.specs.of_refusal.declared.Cause.TheVariants as cause
+use Rattle.tree_placed.specs.of_utf8.Utf8.{utf8}
+use Rattle.tree_placed.specs.of_text_filter.Filter.{filtered, unfiltered}
+use Rattle.tree_placed.proofs.of_text_filter.Filtering.{utf8-filtered, unfiltered-filtered}
+use Rattle.tree_placed.specs.of_tree_record.Kinds as kind
+use Rattle.tree_placed.specs.of_tree_report.Report.{Text, Report}
+use Rattle.tree_placed.specs.of_tree_report.inside.Cells.{fits_row, suite_row}
+use Rattle.tree_placed.proofs.of_tree_report.EncodeLists.{both, done, more, each_append}
 use Rattle.tree_placed.specs.inside.Placed.{Placed, record_of_it, records_in}
 use Rattle.tree_placed.specs.inside.Changed.{blank_places, blank_placed, at_first_of, first_text_of}
 use Rattle.build_draft.specs.declared.Builder.{Builder}

@@ -5,10 +5,10 @@ use mathlib.Core.Path.{◌≡◌, refl, sym, ap, ap₂, ◌∙◌}
 use native.Mathlib.Omega.{arith}
 use lib.ListN.{length, take, drop, length-append, length-replicate}
 use lib.Seq.{take_at, drop_at}
-use Rattle.area.specs.Area.{zeros, laid}
-use Rattle.area.proofs.Laying.{laid-zeros, length-laid}
-use Rattle.utf8.specs.Characters.{joined}
-use Rattle.tree_report.proofs.EncodeLists.{Each, done, more, each_append}
+use Rattle.tree_placed.specs.of_area.Area.{zeros, laid}
+use Rattle.tree_placed.proofs.of_area.Laying.{laid-zeros, length-laid}
+use Rattle.tree_placed.specs.of_utf8.Characters.{joined}
+use Rattle.tree_placed.proofs.of_tree_report.EncodeLists.{Each, done, more, each_append}
 use Rattle.build_draft.specs.Draft.{on_record_of}
 
 -- records of 32 words

@@ -6,13 +6,13 @@ use native.Mathlib.Omega.{arith}
 use lib.Dec.{eqb}
 use lib.ListN.{length, get_or, set, take, drop, length-append, get_or-append, replicate-append-replicate}
 use lib.Seq.{take_at, drop_at, set_at, get_or-drop, get_or-append-add, drop-append-add, drop-drop}
-use Rattle.area.specs.Area.{zeros, laid}
-use Rattle.area.proofs.Laying.{laid-zeros}
-use Rattle.area.proofs.Lists.{drop-zeros}
-use Rattle.utf8.specs.Characters.{joined}
-use Rattle.tree_record.specs.Record.{kind_of, mask_of, has_bit, text_at, number_at}
-use Rattle.tree_put.specs.Put.{blank}
-use Rattle.tree_report.proofs.EncodeLists.{done, more, each_append}
+use Rattle.tree_placed.specs.of_area.Area.{zeros, laid}
+use Rattle.tree_placed.proofs.of_area.Laying.{laid-zeros}
+use Rattle.tree_placed.proofs.of_area.Lists.{drop-zeros}
+use Rattle.tree_placed.specs.of_utf8.Characters.{joined}
+use Rattle.tree_placed.specs.of_tree_record.Record.{kind_of, mask_of, has_bit, text_at, number_at}
+use Rattle.tree_placed.specs.of_tree_put.Put.{blank}
+use Rattle.tree_placed.proofs.of_tree_report.EncodeLists.{done, more, each_append}
 use Rattle.build_draft.specs.Draft.{kind_at}
 use Rattle.build_draft.specs.Parts.{put_at, exchanged, counts_in, counts_at}
 use Rattle.build_report.proofs.Areas.{Sized, sized-length, sized-front, sized-back, sized-first, joined-append, area-is, behind, on-records, drop-record}

@@ -6,10 +6,10 @@ use mathlib.Core.Path.{◌≡◌, refl, sym, ap, ap₂, subst, ◌∙◌}
 use native.Mathlib.Omega.{arith}
 use lib.ListN.{length, set, length-append, length-set, get_or-append}
 use lib.Seq.{set-append_left}
-use Rattle.area.specs.Area.{zeros, laid}
-use Rattle.names.specs.Names.{same_bytes}
-use Rattle.utf8.specs.Characters.{joined}
-use Rattle.tree_record.specs.Record.{kind_of, text_at}
+use Rattle.tree_placed.specs.of_area.Area.{zeros, laid}
+use Rattle.tree_placed.specs.of_names.Names.{same_bytes}
+use Rattle.tree_placed.specs.of_utf8.Characters.{joined}
+use Rattle.tree_placed.specs.of_tree_record.Record.{kind_of, text_at}
 use Rattle.build_draft.specs.Parts.{key_place, turned_kind, turned, turn_runs}
 use Rattle.build_draft.specs.declared.FlakyOrRerun.{FlakyOrRerun}
 use Rattle.build_report.proofs.Areas.{Sized, sized-back, sized-first, sized-other, as_many, on_record}

@@ -6,12 +6,12 @@ use mathlib.Core.Option.{some}
 use mathlib.Core.Path.{◌≡◌, refl, ap, ◌∙◌}
 use lib.Dec.{lit≤}
 use lib.ListN.{length}
-use Rattle.timestamp.specs.declared.Moment.{Moment}
-use Rattle.uuids.specs.declared.Words.{Words}
-use Rattle.tree_record.specs.Record.{marked, unmarked}
-use Rattle.tree_put.specs.Put.{put_text, put_count_of, put_uuid, put_moment, put_time}
-use Rattle.tree_report.specs.Report.{Text}
-use Rattle.tree_report.specs.inside.Cells.{written, is_given, of_number, of_count, uuid_front, uuid_back, Row}
+use Rattle.tree_placed.specs.of_timestamp.declared.Moment.{Moment}
+use Rattle.tree_placed.specs.of_uuids.declared.Words.{Words}
+use Rattle.tree_placed.specs.of_tree_record.Record.{marked, unmarked}
+use Rattle.tree_placed.specs.of_tree_put.Put.{put_text, put_count_of, put_uuid, put_moment, put_time}
+use Rattle.tree_placed.specs.of_tree_report.Report.{Text}
+use Rattle.tree_placed.specs.of_tree_report.inside.Cells.{written, is_given, of_number, of_count, uuid_front, uuid_back, Row}
 use Rattle.tree_placed.specs.inside.Placed.{Placed, record_of_it, StandsAt, InTexts}
 use Rattle.tree_placed.specs.inside.Changed.{with_first_of, with_out, with_err, with_middle, with_timestamp, with_time, with_second, with_third, with_fourth}
 use Rattle.tree_placed.specs.inside.Changed.{with_fifth, with_sixth, with_seventh, with_flaky, on_row, first_text_of, out_text, err_text, second_text_of, third_text, fourth_text, seventh_text}

@@ -5,13 +5,13 @@ use mathlib.Core.List.{List, ◌∷◌}
 use mathlib.Core.Path.{◌≡◌, refl, sym, ap, subst, ◌∙◌}
 use lib.Dec.{ltb}
 use lib.ListN.{length, set}
-use Rattle.refusal.specs.Refusal.{Outcome, accepted, refused}
-use Rattle.refusal.specs.declared.Cause.{Cause}
-use Rattle.refusal.specs.declared.Cause.TheVariants as cause
-use Rattle.utf8.specs.Utf8.{utf8}
-use Rattle.text_filter.specs.Filter.{filtered}
-use Rattle.text_lossy.specs.LossyText.{lossy_text}
-use Rattle.tree_put.specs.Put.{put_text}
+use Rattle.tree_placed.specs.of_refusal.Refusal.{Outcome, accepted, refused}
+use Rattle.tree_placed.specs.of_refusal.declared.Cause.{Cause}
+use Rattle.tree_placed.specs.of_refusal.declared.Cause.TheVariants as cause
+use Rattle.tree_placed.specs.of_utf8.Utf8.{utf8}
+use Rattle.tree_placed.specs.of_text_filter.Filter.{filtered}
+use Rattle.build_draft.specs.of_text_lossy.LossyText.{lossy_text}
+use Rattle.tree_placed.specs.of_tree_put.Put.{put_text}
 use Rattle.build_draft.specs.Draft.{Draft, ◌>>=◌, asks, room_for, is_record, on_record_of, last_of, with_words}
 use Rattle.build_draft.specs.Parts.{taking, text_for, put_at, keeping, putting, naming}
 use Rattle.build_report.specs.Stands.{Comes}

@@ -2,8 +2,8 @@
 use mathlib.Core.Bool.{Bool, true, false, false≢true}
 use mathlib.Core.List.{List, ◌∷◌, ◌++◌}
 use mathlib.Core.Path.{◌≡◌, refl, sym, subst}
-use Rattle.refusal.specs.Refusal.{Outcome}
-use Rattle.refusal.specs.declared.Cause.{Cause}
+use Rattle.tree_placed.specs.of_refusal.Refusal.{Outcome}
+use Rattle.tree_placed.specs.of_refusal.declared.Cause.{Cause}
 use Rattle.build_draft.specs.Draft.{Draft, ◌>>=◌, asks}
 use Rattle.build_report.specs.Stands.{Comes, gives, passes, fails}
 

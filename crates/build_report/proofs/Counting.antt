@@ -8,17 +8,17 @@ use native.Mathlib.Nat.{mod-add-div'}
 use native.Mathlib.Omega.{arith}
 use borrow.Author.Tests.{leb-true, le-leb}
 use lib.Dec.{leb}
-use Rattle.tree_report.specs.Report.{Counts}
-use Rattle.tree_report.specs.inside.Cells.{Cell, first_word, second_word, low_word, high_word, of_number, of_count, is_given, fits_cell, fits_row, presence, Row}
-use Rattle.tree_report.proofs.EncodeCells.{bit-flag}
-use Rattle.tree_report.proofs.EncodeLists.{both, and_left, and_right}
+use Rattle.tree_placed.specs.of_tree_report.Report.{Counts}
+use Rattle.tree_placed.specs.of_tree_report.inside.Cells.{Cell, first_word, second_word, low_word, high_word, of_number, of_count, is_given, fits_cell, fits_row, presence, Row}
+use Rattle.tree_placed.proofs.of_tree_report.EncodeCells.{bit-flag}
+use Rattle.tree_placed.proofs.of_tree_report.EncodeLists.{both, and_left, and_right}
 use Rattle.tree_placed.specs.inside.Placed.{Placed, record_of_it, InTexts}
 use Rattle.tree_placed.specs.inside.Changed.{with_second, with_third, with_fourth, with_fifth, with_sixth}
-use Rattle.tree_put.specs.Put.{put_count_of}
-use Rattle.tree_counts.specs.declared.Counts.{Counts as Numbers}
-use Rattle.tree_counts.specs.declared.Outcome.{Outcome}
-use Rattle.tree_counts.specs.declared.Outcome.TheVariants as outcome
-use Rattle.tree_counts.specs.Counts.{are_counts, added, case_counts}
+use Rattle.tree_placed.specs.of_tree_put.Put.{put_count_of}
+use Rattle.build_draft.specs.of_tree_counts.declared.Counts.{Counts as Numbers}
+use Rattle.build_draft.specs.of_tree_counts.declared.Outcome.{Outcome}
+use Rattle.build_draft.specs.of_tree_counts.declared.Outcome.TheVariants as outcome
+use Rattle.build_draft.specs.of_tree_counts.Counts.{are_counts, added, case_counts}
 use Rattle.build_draft.specs.Parts.{counts_in, put_counts}
 use Rattle.build_report.specs.Operations.{sum_disabled, sum, one_more_of}
 use Rattle.build_report.specs.Builders.{is_some, is_number, disabled_in, are_numbers}

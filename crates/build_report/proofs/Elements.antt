@@ -6,11 +6,11 @@ use mathlib.Core.Option.{some}
 use mathlib.Core.Path.{◌≡◌, refl, sym, ap, ◌∙◌}
 use native.Mathlib.Omega.{arith}
 use lib.ListN.{length, length-append, length-map}
-use Rattle.refusal.specs.Refusal.{nowhere}
-use Rattle.tree_record.specs.Kinds as kind
-use Rattle.tree_counts.specs.declared.Outcome.{Outcome}
-use Rattle.tree_report.specs.Report.{Text, TestCase, TestSuite, Report}
-use Rattle.tree_report.specs.inside.Cells.{Row, pair_row_of, status_rows, case_row, case_rows, rows_of_each, suite_row, suite_rows, report_row, rows_of}
+use Rattle.tree_placed.specs.of_refusal.Refusal.{nowhere}
+use Rattle.tree_placed.specs.of_tree_record.Kinds as kind
+use Rattle.build_draft.specs.of_tree_counts.declared.Outcome.{Outcome}
+use Rattle.tree_placed.specs.of_tree_report.Report.{Text, TestCase, TestSuite, Report}
+use Rattle.tree_placed.specs.of_tree_report.inside.Cells.{Row, pair_row_of, status_rows, case_row, case_rows, rows_of_each, suite_row, suite_rows, report_row, rows_of}
 use Rattle.build_draft.specs.declared.Builder.{Builder}
 use Rattle.build_report.specs.Operations.{last_in, has_main, new_suite, new_case, new_status, with_suites, with_cases, on_suite, sum, one_more_of, add_test_case}
 use Rattle.build_report.specs.Stands.{all_but_last, suite_mark, case_mark, main_mark, Marked}

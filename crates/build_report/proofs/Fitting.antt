@@ -7,12 +7,12 @@ use mathlib.Core.Path.{◌≡◌, refl}
 use native.Mathlib.Omega.{arith}
 use borrow.Author.Tests.{leb-true, le-leb}
 use lib.Dec.{leb}
-use Rattle.timestamp.specs.declared.Moment.{Moment}
-use Rattle.utf8.specs.Utf8.{utf8}
-use Rattle.text_filter.specs.Filter.{unfiltered}
-use Rattle.tree_report.specs.Report.{Text, Duration}
-use Rattle.tree_report.specs.inside.Cells.{Cell, written, low_word, high_word, of_number, of_count, Row, every, fits_cell, fits_moment, fits_time, fits_row}
-use Rattle.tree_report.proofs.EncodeLists.{both, and_left, and_right}
+use Rattle.tree_placed.specs.of_timestamp.declared.Moment.{Moment}
+use Rattle.tree_placed.specs.of_utf8.Utf8.{utf8}
+use Rattle.tree_placed.specs.of_text_filter.Filter.{unfiltered}
+use Rattle.tree_placed.specs.of_tree_report.Report.{Text, Duration}
+use Rattle.tree_placed.specs.of_tree_report.inside.Cells.{Cell, written, low_word, high_word, of_number, of_count, Row, every, fits_cell, fits_moment, fits_time, fits_row}
+use Rattle.tree_placed.proofs.of_tree_report.EncodeLists.{both, and_left, and_right}
 use Rattle.tree_placed.specs.inside.Changed.{with_first_of, with_out, with_err, with_middle, with_timestamp, with_time, with_second, with_third, with_fourth, with_fifth, with_sixth, with_seventh}
 use Rattle.build_draft.specs.declared.TextField.{TextField}
 use Rattle.build_draft.specs.declared.TextField.TheVariants as field

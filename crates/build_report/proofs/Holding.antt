@@ -7,12 +7,12 @@ use native.Mathlib.Omega.{arith}
 use borrow.Author.Tests.{leb-true, ltb-true}
 use lib.Dec.{leb, ltb}
 use lib.ListN.{length, set, length-append, length-map}
-use Rattle.area.specs.Area.{zeros, laid}
-use Rattle.utf8.specs.Characters.{joined}
-use Rattle.utf8.specs.Utf8.{utf8}
-use Rattle.utf8.proofs.Rules.{utf8_append}
-use Rattle.text_filter.specs.Filter.{dropped, unfiltered}
-use Rattle.tree_report.proofs.EncodeLists.{both, and_left, and_right, Each, done, more, each_append}
+use Rattle.tree_placed.specs.of_area.Area.{zeros, laid}
+use Rattle.tree_placed.specs.of_utf8.Characters.{joined}
+use Rattle.tree_placed.specs.of_utf8.Utf8.{utf8}
+use Rattle.tree_placed.proofs.of_utf8.Rules.{utf8_append}
+use Rattle.tree_placed.specs.of_text_filter.Filter.{dropped, unfiltered}
+use Rattle.tree_placed.proofs.of_tree_report.EncodeLists.{both, and_left, and_right, Each, done, more, each_append}
 use Rattle.tree_placed.specs.inside.Placed.{Placed, record_of_it, records_in, InTexts}
 use Rattle.tree_placed.specs.inside.Changed.{with_kind, on_row, blank_placed}
 use Rattle.tree_placed.proofs.Putting.{record-length, put-blank, put-kind}

@@ -5,8 +5,8 @@ use mathlib.Core.List.{List, [], ◌∷◌, ◌++◌}
 use mathlib.Core.Path.{◌≡◌, refl, sym, ap, ◌∙◌}
 use native.Mathlib.Omega.{arith}
 use lib.ListN.{length}
-use Rattle.names.specs.Names.{same_bytes}
-use Rattle.tree_report.specs.Report.{Text, Pair}
+use Rattle.tree_placed.specs.of_names.Names.{same_bytes}
+use Rattle.tree_placed.specs.of_tree_report.Report.{Text, Pair}
 use Rattle.build_report.specs.Operations.{insert, is_empty}
 use Rattle.build_report.specs.Builders.{has_key}
 

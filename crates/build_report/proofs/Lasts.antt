@@ -4,7 +4,7 @@ use mathlib.Core.List.{List, [], ◌∷◌, ◌++◌, append_assoc, append-nil}
 use mathlib.Core.Option.{none, some}
 use mathlib.Core.Path.{◌≡◌, refl, sym, ap, ◌∙◌}
 use native.Mathlib.Omega.{arith}
-use Rattle.tree_report.specs.inside.Cells.{Row, rows_of_each}
+use Rattle.tree_placed.specs.of_tree_report.inside.Cells.{Row, rows_of_each}
 use Rattle.build_report.specs.Operations.{on_last, last_in}
 use Rattle.build_report.specs.Stands.{all_but_last}
 

@@ -5,9 +5,9 @@ use mathlib.Core.List.{List}
 use mathlib.Core.Option.{Option, none, some}
 use mathlib.Core.Path.{◌≡◌, refl, sym, ap, ◌∙◌}
 use lib.ListN.{length}
-use Rattle.refusal.specs.Refusal.{nowhere}
-use Rattle.tree_report.specs.Report.{TestCaseStatus, success, non_success, skipped, TestCase, TestSuite, Report, Reason, TestRerun, FlakyOrRerun}
-use Rattle.tree_report.specs.inside.Cells.{rows_of_each, case_rows, suite_rows}
+use Rattle.tree_placed.specs.of_refusal.Refusal.{nowhere}
+use Rattle.tree_placed.specs.of_tree_report.Report.{TestCaseStatus, success, non_success, skipped, TestCase, TestSuite, Report, Reason, TestRerun, FlakyOrRerun}
+use Rattle.tree_placed.specs.of_tree_report.inside.Cells.{rows_of_each, case_rows, suite_rows}
 use Rattle.build_draft.specs.declared.Builder.{Builder}
 use Rattle.build_report.specs.Operations.{on_last, last_in, open_case, has_main, with_cases, with_status, on_suite, on_case, on_status, on_reason, on_run, with_run, with_family}
 use Rattle.build_report.specs.Stands.{all_but_last, suite_mark, case_mark, main_mark, suite_mark_of, case_mark_of, main_mark_of, Marked}

@@ -4,9 +4,9 @@ use mathlib.Core.List.{List}
 use mathlib.Core.Path.{ap₂, ◌∙◌}
 use native.Mathlib.Omega.{arith}
 use lib.ListN.{length}
-use Rattle.tree_report.specs.Report.{Report}
-use Rattle.tree_report.specs.Layout.{layout}
-use Rattle.tree_report.specs.ReportOf.{report_of}
+use Rattle.tree_placed.specs.of_tree_report.Report.{Report}
+use Rattle.tree_placed.specs.of_tree_report.Layout.{layout}
+use Rattle.tree_placed.specs.of_tree_report.ReportOf.{report_of}
 use Rattle.tree_placed.proofs.Whole.{placed-layout, placed-report}
 use Rattle.build_draft.specs.declared.Builder.{Builder}
 use Rattle.build_draft.specs.Draft.{room_for, bytes_for}

@@ -6,15 +6,15 @@ use mathlib.Core.Path.{◌≡◌, refl, sym, ap, subst, ◌∙◌}
 use native.Mathlib.Omega.{arith}
 use lib.Dec.{leb, lit≤}
 use lib.ListN.{length, length-append, length-map, length-replicate}
-use Rattle.area.specs.Area.{zeros, laid}
-use Rattle.area.proofs.Laying.{laid-zeros}
-use Rattle.utf8.specs.Characters.{joined}
-use Rattle.utf8.specs.Utf8.{utf8}
-use Rattle.text_filter.specs.Filter.{unfiltered}
-use Rattle.tree_put.specs.Put.{put_text}
-use Rattle.tree_report.specs.Report.{Text}
-use Rattle.tree_report.specs.inside.Cells.{Row, written, every, fits_row}
-use Rattle.tree_report.proofs.EncodeLists.{Each, done}
+use Rattle.tree_placed.specs.of_area.Area.{zeros, laid}
+use Rattle.tree_placed.proofs.of_area.Laying.{laid-zeros}
+use Rattle.tree_placed.specs.of_utf8.Characters.{joined}
+use Rattle.tree_placed.specs.of_utf8.Utf8.{utf8}
+use Rattle.tree_placed.specs.of_text_filter.Filter.{unfiltered}
+use Rattle.tree_placed.specs.of_tree_put.Put.{put_text}
+use Rattle.tree_placed.specs.of_tree_report.Report.{Text}
+use Rattle.tree_placed.specs.of_tree_report.inside.Cells.{Row, written, every, fits_row}
+use Rattle.tree_placed.proofs.of_tree_report.EncodeLists.{Each, done}
 use Rattle.tree_placed.specs.inside.Placed.{Placed, record_of_it, records_in, StandsAt, InTexts}
 use Rattle.tree_placed.specs.inside.Changed.{first_text_of}
 use Rattle.tree_placed.proofs.Putting.{record-length, put_first}

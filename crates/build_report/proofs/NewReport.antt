@@ -6,18 +6,18 @@ use mathlib.Core.Option.{none, some}
 use mathlib.Core.Path.{◌≡◌, refl, ap}
 use lib.Dec.{leb}
 use lib.ListN.{length}
-use Rattle.area.specs.Area.{zeros}
-use Rattle.refusal.specs.Refusal.{nowhere, Outcome, accepted}
-use Rattle.refusal.specs.declared.Cause.{Cause}
-use Rattle.refusal.specs.declared.Cause.TheVariants as cause
-use Rattle.utf8.specs.Utf8.{utf8}
-use Rattle.text_filter.specs.Filter.{filtered, unfiltered}
-use Rattle.text_filter.proofs.Filtering.{utf8-filtered, unfiltered-filtered}
-use Rattle.tree_record.specs.Kinds as kind
-use Rattle.tree_put.specs.Put.{put_text}
-use Rattle.tree_report.specs.Report.{Text}
-use Rattle.tree_report.specs.inside.Cells.{Row, written, fits_row, report_row}
-use Rattle.tree_report.proofs.EncodeLists.{both, done, more}
+use Rattle.tree_placed.specs.of_area.Area.{zeros}
+use Rattle.tree_placed.specs.of_refusal.Refusal.{nowhere, Outcome, accepted}
+use Rattle.tree_placed.specs.of_refusal.declared.Cause.{Cause}
+use Rattle.tree_placed.specs.of_refusal.declared.Cause.TheVariants as cause
+use Rattle.tree_placed.specs.of_utf8.Utf8.{utf8}
+use Rattle.tree_placed.specs.of_text_filter.Filter.{filtered, unfiltered}
+use Rattle.tree_placed.proofs.of_text_filter.Filtering.{utf8-filtered, unfiltered-filtered}
+use Rattle.tree_placed.specs.of_tree_record.Kinds as kind
+use Rattle.tree_placed.specs.of_tree_put.Put.{put_text}
+use Rattle.tree_placed.specs.of_tree_report.Report.{Text}
+use Rattle.tree_placed.specs.of_tree_report.inside.Cells.{Row, written, fits_row, report_row}
+use Rattle.tree_placed.proofs.of_tree_report.EncodeLists.{both, done, more}
 use Rattle.tree_placed.specs.inside.Placed.{Placed, record_of_it, records_in}
 use Rattle.tree_placed.specs.inside.Changed.{blank_places, blank_placed, with_first_of}
 use Rattle.build_draft.specs.declared.Builder.{Builder}

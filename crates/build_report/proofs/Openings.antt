@@ -5,9 +5,9 @@ use mathlib.Core.Option.{some}
 use mathlib.Core.Path.{◌≡◌, sym, ap, ◌∙◌}
 use native.Mathlib.Omega.{arith}
 use lib.ListN.{length, length-append, length-map}
-use Rattle.tree_record.specs.Kinds as kind
-use Rattle.tree_report.specs.Report.{TestCaseStatus, TestCase, TestSuite, Report}
-use Rattle.tree_report.specs.inside.Cells.{Row, pair_row_of, status_rows, case_row, case_rows, rows_of_each, suite_row, suite_rows, report_row, rows_of}
+use Rattle.tree_placed.specs.of_tree_record.Kinds as kind
+use Rattle.tree_placed.specs.of_tree_report.Report.{TestCaseStatus, TestCase, TestSuite, Report}
+use Rattle.tree_placed.specs.of_tree_report.inside.Cells.{Row, pair_row_of, status_rows, case_row, case_rows, rows_of_each, suite_row, suite_rows, report_row, rows_of}
 use Rattle.build_report.specs.Operations.{on_last, last_in, with_cases, with_status, on_suite, on_case, on_status}
 use Rattle.build_report.specs.Stands.{all_but_last, suite_mark, case_mark, main_mark}
 use Rattle.build_report.proofs.Lasts.{rows_last, rows-on-last}

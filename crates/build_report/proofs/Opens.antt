@@ -6,10 +6,10 @@ use mathlib.Core.Option.{Option, none, some}
 use mathlib.Core.Path.{◌≡◌, refl, sym, ap, ◌∙◌}
 use lib.Dec.{eqb}
 use lib.ListN.{length}
-use Rattle.refusal.specs.Refusal.{nowhere}
-use Rattle.tree_record.specs.Kinds as kind
-use Rattle.tree_report.specs.Report.{TestCase, TestSuite, Report}
-use Rattle.tree_report.specs.inside.Cells.{Row, pair_row_of, status_rows, case_row, case_rows, rows_of_each, suite_row, suite_rows, report_row, rows_of}
+use Rattle.tree_placed.specs.of_refusal.Refusal.{nowhere}
+use Rattle.tree_placed.specs.of_tree_record.Kinds as kind
+use Rattle.tree_placed.specs.of_tree_report.Report.{TestCase, TestSuite, Report}
+use Rattle.tree_placed.specs.of_tree_report.inside.Cells.{Row, pair_row_of, status_rows, case_row, case_rows, rows_of_each, suite_row, suite_rows, report_row, rows_of}
 use Rattle.build_draft.specs.declared.Builder.{Builder}
 use Rattle.build_draft.specs.declared.Element.TheVariants as element
 use Rattle.build_draft.specs.declared.TextField.TheVariants as field

@@ -6,12 +6,12 @@ use mathlib.Core.Path.{◌≡◌, refl, ap, ap₂, ◌∙◌}
 use native.Mathlib.Omega.{arith}
 use borrow.Author.Tests.{le-ltb, leb-true}
 use lib.Dec.{leb, ltb, eqb}
-use Rattle.refusal.specs.Refusal.{nowhere, Outcome}
-use Rattle.refusal.specs.declared.Cause.TheVariants as cause
-use Rattle.timestamp.specs.declared.Moment.{Moment}
-use Rattle.uuids.specs.declared.Words.{Words}
-use Rattle.tree_record.specs.Kinds as kind
-use Rattle.tree_counts.specs.declared.Outcome.{Outcome as Status}
+use Rattle.tree_placed.specs.of_refusal.Refusal.{nowhere, Outcome}
+use Rattle.tree_placed.specs.of_refusal.declared.Cause.TheVariants as cause
+use Rattle.tree_placed.specs.of_timestamp.declared.Moment.{Moment}
+use Rattle.tree_placed.specs.of_uuids.declared.Words.{Words}
+use Rattle.tree_placed.specs.of_tree_record.Kinds as kind
+use Rattle.build_draft.specs.of_tree_counts.declared.Outcome.{Outcome as Status}
 use Rattle.build_draft.specs.declared.Builder.{Builder}
 use Rattle.build_draft.specs.declared.Element.{Element}
 use Rattle.build_draft.specs.declared.Element.TheVariants as element

@@ -7,9 +7,9 @@ use native.Mathlib.Omega.{arith}
 use borrow.Author.Tests.{lt-ltb, le-ltb}
 use lib.Dec.{ltb}
 use lib.ListN.{length, length-map}
-use Rattle.names.specs.Names.{same_bytes}
-use Rattle.tree_report.specs.Report.{Text, Pair}
-use Rattle.tree_report.specs.inside.Cells.{Row, pair_row_of}
+use Rattle.tree_placed.specs.of_names.Names.{same_bytes}
+use Rattle.tree_placed.specs.of_tree_report.Report.{Text, Pair}
+use Rattle.tree_placed.specs.of_tree_report.inside.Cells.{Row, pair_row_of}
 use Rattle.tree_placed.specs.inside.Placed.{Placed, rows_in}
 use Rattle.build_draft.specs.declared.Builder.{Builder}
 use Rattle.build_draft.specs.Parts.{key_place}

@@ -6,9 +6,9 @@ use mathlib.Core.Option.{Option, none, some}
 use mathlib.Core.Path.{◌≡◌, refl, sym, ap, subst, ◌∙◌}
 use native.Mathlib.Omega.{arith}
 use lib.ListN.{length, length-append}
-use Rattle.tree_record.specs.Kinds as kind
-use Rattle.tree_report.specs.Report.{Pair, NonSuccessKind, failure, error, FlakyOrRerun, flaky, rerun, TestRerun, TestCaseStatus, success, non_success, skipped, TestCase, TestSuite, Report}
-use Rattle.tree_report.specs.inside.Cells.{Row, pair_row_of, main_row, kind_of_main, run_row, kind_of_run, is_flaky_alone, status_rows, case_row, case_rows, rows_of_each, suite_row, suite_rows, report_row, rows_of}
+use Rattle.tree_placed.specs.of_tree_record.Kinds as kind
+use Rattle.tree_placed.specs.of_tree_report.Report.{Pair, NonSuccessKind, failure, error, FlakyOrRerun, flaky, rerun, TestRerun, TestCaseStatus, success, non_success, skipped, TestCase, TestSuite, Report}
+use Rattle.tree_placed.specs.of_tree_report.inside.Cells.{Row, pair_row_of, main_row, kind_of_main, run_row, kind_of_run, is_flaky_alone, status_rows, case_row, case_rows, rows_of_each, suite_row, suite_rows, report_row, rows_of}
 use Rattle.build_draft.specs.declared.Holder.{Holder}
 use Rattle.build_draft.specs.declared.Holder.TheVariants as holder
 use Rattle.build_draft.specs.Parts.{is_main_kind, may_stand_behind}

@@ -6,10 +6,10 @@ use mathlib.Core.Option.{Option, none, some}
 use mathlib.Core.Path.{◌≡◌, refl, sym, ap, subst, ◌∙◌}
 use native.Mathlib.Omega.{arith}
 use lib.ListN.{length, length-append}
-use Rattle.tree_record.specs.Kinds as kind
-use Rattle.tree_report.specs.Report.{Pair, TestCaseStatus, success, non_success, skipped, TestCase, TestSuite, Report}
-use Rattle.tree_report.specs.inside.Cells.{Row, pair_row_of, status_rows, case_row, suite_row, rows_of}
-use Rattle.tree_report.proofs.EncodeLists.{and_left, and_right}
+use Rattle.tree_placed.specs.of_tree_record.Kinds as kind
+use Rattle.tree_placed.specs.of_tree_report.Report.{Pair, TestCaseStatus, success, non_success, skipped, TestCase, TestSuite, Report}
+use Rattle.tree_placed.specs.of_tree_report.inside.Cells.{Row, pair_row_of, status_rows, case_row, suite_row, rows_of}
+use Rattle.tree_placed.proofs.of_tree_report.EncodeLists.{and_left, and_right}
 use Rattle.build_draft.specs.declared.Builder.{Builder}
 use Rattle.build_draft.specs.declared.Holder.{Holder}
 use Rattle.build_draft.specs.declared.Holder.TheVariants as holder

@@ -7,12 +7,12 @@ use native.Mathlib.Omega.{arith}
 use borrow.Author.Tests.{lt-ltb, le-ltb}
 use lib.Dec.{ltb, lit≤}
 use lib.ListN.{length, set, take, drop, length-append, length-map, length-take, length-drop}
-use Rattle.utf8.specs.Utf8.{utf8}
-use Rattle.text_filter.specs.Filter.{unfiltered}
-use Rattle.tree_put.specs.Put.{put_pair, put_text}
-use Rattle.tree_report.specs.Report.{Text, Pair, Report}
-use Rattle.tree_report.specs.inside.Cells.{written, is_given, is_some, flags_of, Row, pair_row_of, every, fits_row, rows_of}
-use Rattle.tree_report.proofs.EncodeLists.{both}
+use Rattle.tree_placed.specs.of_utf8.Utf8.{utf8}
+use Rattle.tree_placed.specs.of_text_filter.Filter.{unfiltered}
+use Rattle.tree_placed.specs.of_tree_put.Put.{put_pair, put_text}
+use Rattle.tree_placed.specs.of_tree_report.Report.{Text, Pair, Report}
+use Rattle.tree_placed.specs.of_tree_report.inside.Cells.{written, is_given, is_some, flags_of, Row, pair_row_of, every, fits_row, rows_of}
+use Rattle.tree_placed.proofs.of_tree_report.EncodeLists.{both}
 use Rattle.tree_placed.specs.inside.Placed.{Placed, record_of_it, rows_in, StandsAt, InTexts}
 use Rattle.tree_placed.specs.inside.Changed.{blank_placed, with_out, out_text}
 use Rattle.tree_placed.proofs.Putting.{record-length}

@@ -6,9 +6,9 @@ use mathlib.Core.Option.{some}
 use mathlib.Core.Path.{◌≡◌, refl, sym, ap, ◌∙◌}
 use native.Mathlib.Omega.{arith}
 use lib.ListN.{length, length-append}
-use Rattle.tree_record.specs.Kinds as kind
-use Rattle.tree_report.specs.Report.{FlakyOrRerun, flaky, TestRerun, TestCaseStatus, success, non_success, skipped, TestCase, TestSuite, Report}
-use Rattle.tree_report.specs.inside.Cells.{Row, pair_row_of, kind_of_main, run_row, main_row, is_flaky_alone, status_rows, case_row, case_rows, rows_of_each, suite_row, suite_rows, report_row, rows_of}
+use Rattle.tree_placed.specs.of_tree_record.Kinds as kind
+use Rattle.tree_placed.specs.of_tree_report.Report.{FlakyOrRerun, flaky, TestRerun, TestCaseStatus, success, non_success, skipped, TestCase, TestSuite, Report}
+use Rattle.tree_placed.specs.of_tree_report.inside.Cells.{Row, pair_row_of, kind_of_main, run_row, main_row, is_flaky_alone, status_rows, case_row, case_rows, rows_of_each, suite_row, suite_rows, report_row, rows_of}
 use Rattle.build_report.specs.Operations.{last_in, has_main, runs_in, Target, main, run}
 use Rattle.build_report.specs.Stands.{all_but_last, suite_mark, case_mark, main_mark}
 use Rattle.build_report.proofs.Openings.{before_suite, up_to_case, up_to_status, length-before-suite, length-up_to-case, length-up_to-status, rows-suite, rows-case, rows-status}

@@ -7,9 +7,9 @@ use mathlib.Core.Path.{◌≡◌, refl, sym, ap, ◌∙◌}
 use native.Mathlib.Omega.{arith}
 use lib.Dec.{eqb}
 use lib.ListN.{length, length-append}
-use Rattle.tree_record.specs.Kinds as kind
-use Rattle.tree_report.specs.Report.{Pair, NonSuccessKind, failure, error, FlakyOrRerun, flaky, rerun, TestCaseStatus, success, non_success, skipped, Report}
-use Rattle.tree_report.specs.inside.Cells.{Row, pair_row_of, kind_of_main, kind_of_run, status_rows, rows_of}
+use Rattle.tree_placed.specs.of_tree_record.Kinds as kind
+use Rattle.tree_placed.specs.of_tree_report.Report.{Pair, NonSuccessKind, failure, error, FlakyOrRerun, flaky, rerun, TestCaseStatus, success, non_success, skipped, Report}
+use Rattle.tree_placed.specs.of_tree_report.inside.Cells.{Row, pair_row_of, kind_of_main, kind_of_run, status_rows, rows_of}
 use Rattle.build_draft.specs.declared.TextField.{TextField}
 use Rattle.build_draft.specs.declared.TextField.TheVariants as field
 use Rattle.build_draft.specs.Parts.{is_status, is_run, has_text}

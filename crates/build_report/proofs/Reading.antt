@@ -7,16 +7,16 @@ use native.Mathlib.Omega.{arith}
 use borrow.Author.Tests.{lt-ltb, le-ltb, le-leb}
 use lib.Dec.{eqb}
 use lib.ListN.{length, get_or, take, drop, length-append, length-map}
-use Rattle.area.specs.Area.{zeros, laid}
-use Rattle.area.proofs.Laying.{laid-zeros}
-use Rattle.refusal.specs.Refusal.{nowhere}
-use Rattle.utf8.specs.Characters.{joined}
-use Rattle.tree_record.specs.Record.{has_bit, text_at}
-use Rattle.tree_record.proofs.Bits.{mask_power}
-use Rattle.tree_report.specs.Report.{Text}
-use Rattle.tree_report.specs.inside.Cells.{Cell, written, first_word, second_word, presence}
-use Rattle.tree_report.proofs.EncodeCells.{bit-flag}
-use Rattle.tree_report.proofs.EncodeLists.{Each, done, more, each_append}
+use Rattle.tree_placed.specs.of_area.Area.{zeros, laid}
+use Rattle.tree_placed.proofs.of_area.Laying.{laid-zeros}
+use Rattle.tree_placed.specs.of_refusal.Refusal.{nowhere}
+use Rattle.tree_placed.specs.of_utf8.Characters.{joined}
+use Rattle.tree_placed.specs.of_tree_record.Record.{has_bit, text_at}
+use Rattle.tree_placed.proofs.of_tree_record.Bits.{mask_power}
+use Rattle.tree_placed.specs.of_tree_report.Report.{Text}
+use Rattle.tree_placed.specs.of_tree_report.inside.Cells.{Cell, written, first_word, second_word, presence}
+use Rattle.tree_placed.proofs.of_tree_report.EncodeCells.{bit-flag}
+use Rattle.tree_placed.proofs.of_tree_report.EncodeLists.{Each, done, more, each_append}
 use Rattle.tree_placed.specs.inside.Placed.{Placed, record_of_it, records_in, StandsAt, InTexts}
 use Rattle.tree_placed.proofs.Growing.{stands_read}
 use Rattle.build_draft.specs.declared.Builder.{Builder}

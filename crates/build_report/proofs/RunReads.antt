@@ -8,10 +8,10 @@ use native.Mathlib.Omega.{arith}
 use borrow.Author.Tests.{eq-eqb, ne_eqb}
 use lib.Dec.{leb, eqb, lit≤}
 use lib.ListN.{length, drop, length-append, length-map}
-use Rattle.refusal.specs.Refusal.{nowhere}
-use Rattle.tree_record.specs.Record.{has_bit}
-use Rattle.tree_report.specs.Report.{NonSuccessKind, failure, error, FlakyOrRerun, flaky, rerun, TestRerun, Reason, TestCaseStatus, success, non_success, skipped, TestCase, TestSuite, Report}
-use Rattle.tree_report.specs.inside.Cells.{Row, main_row, kind_of_main, kind_of_run, run_row, is_flaky_alone, status_rows, rows_of}
+use Rattle.tree_placed.specs.of_refusal.Refusal.{nowhere}
+use Rattle.tree_placed.specs.of_tree_record.Record.{has_bit}
+use Rattle.tree_placed.specs.of_tree_report.Report.{NonSuccessKind, failure, error, FlakyOrRerun, flaky, rerun, TestRerun, Reason, TestCaseStatus, success, non_success, skipped, TestCase, TestSuite, Report}
+use Rattle.tree_placed.specs.of_tree_report.inside.Cells.{Row, main_row, kind_of_main, kind_of_run, run_row, is_flaky_alone, status_rows, rows_of}
 use Rattle.build_draft.specs.declared.Builder.{Builder}
 use Rattle.build_draft.specs.declared.FlakyOrRerun.{FlakyOrRerun as Family}
 use Rattle.build_draft.specs.declared.FlakyOrRerun.TheVariants as families

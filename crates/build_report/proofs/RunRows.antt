@@ -4,8 +4,8 @@ use mathlib.Core.Bool.{false}
 use mathlib.Core.List.{List, [], ◌∷◌, ◌++◌, map, append_assoc, map-append}
 use mathlib.Core.Option.{some}
 use mathlib.Core.Path.{◌≡◌, refl, sym, ap, ◌∙◌}
-use Rattle.tree_report.specs.Report.{NonSuccessKind, failure, error, FlakyOrRerun, flaky, rerun, TestRerun, Reason, TestCaseStatus, success, non_success, TestCase, TestSuite, Report}
-use Rattle.tree_report.specs.inside.Cells.{Row, main_row, kind_of_main, kind_of_run, run_row, is_flaky_alone, status_rows, rows_of}
+use Rattle.tree_placed.specs.of_tree_report.Report.{NonSuccessKind, failure, error, FlakyOrRerun, flaky, rerun, TestRerun, Reason, TestCaseStatus, success, non_success, TestCase, TestSuite, Report}
+use Rattle.tree_placed.specs.of_tree_report.inside.Cells.{Row, main_row, kind_of_main, kind_of_run, run_row, is_flaky_alone, status_rows, rows_of}
 use Rattle.tree_placed.specs.inside.Changed.{with_kind}
 use Rattle.build_draft.specs.declared.NonSuccessKind.{NonSuccessKind as KindOfRun}
 use Rattle.build_draft.specs.declared.NonSuccessKind.TheVariants as kinds

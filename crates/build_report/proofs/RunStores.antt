@@ -7,9 +7,9 @@ use mathlib.Core.Path.{◌≡◌, refl, sym, ap, ap₂, subst, ◌∙◌}
 use native.Mathlib.Omega.{arith}
 use lib.Dec.{ltb}
 use lib.ListN.{length, length-append, length-map}
-use Rattle.tree_record.specs.Record.{unmarked}
-use Rattle.tree_report.specs.Report.{NonSuccessKind, FlakyOrRerun, flaky, rerun, TestRerun, Reason, TestCaseStatus, success, non_success, skipped, TestCase, TestSuite, Report}
-use Rattle.tree_report.specs.inside.Cells.{Row, main_row, kind_of_main, run_row, is_flaky_alone, status_rows, every, fits_row, rows_of}
+use Rattle.tree_placed.specs.of_tree_record.Record.{unmarked}
+use Rattle.tree_placed.specs.of_tree_report.Report.{NonSuccessKind, FlakyOrRerun, flaky, rerun, TestRerun, Reason, TestCaseStatus, success, non_success, skipped, TestCase, TestSuite, Report}
+use Rattle.tree_placed.specs.of_tree_report.inside.Cells.{Row, main_row, kind_of_main, run_row, is_flaky_alone, status_rows, every, fits_row, rows_of}
 use Rattle.tree_placed.specs.inside.Placed.{Placed, rows_in, InTexts}
 use Rattle.tree_placed.specs.inside.Changed.{blank_row, blank_placed, with_kind, with_flaky}
 use Rattle.build_draft.specs.declared.Builder.{Builder}

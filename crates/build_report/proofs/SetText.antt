@@ -4,16 +4,16 @@ use mathlib.Core.Bool.{Bool, true, false, ◌&&◌}
 use mathlib.Core.List.{List, [], ◌∷◌}
 use mathlib.Core.Path.{◌≡◌, sym, ap}
 use lib.ListN.{length}
-use Rattle.refusal.specs.Refusal.{accepted}
-use Rattle.refusal.specs.declared.Cause.TheVariants as cause
-use Rattle.utf8.specs.Utf8.{utf8}
-use Rattle.text_filter.specs.Filter.{filtered, unfiltered}
-use Rattle.text_filter.proofs.Filtering.{unfiltered-filtered, utf8-filtered}
-use Rattle.text_lossy.specs.LossyText.{lossy_text}
-use Rattle.text_lossy.proofs.Storing.{lossy-stored}
-use Rattle.tree_put.specs.Put.{put_text}
-use Rattle.tree_report.specs.Report.{Text, Report}
-use Rattle.tree_report.proofs.EncodeLists.{and_right}
+use Rattle.tree_placed.specs.of_refusal.Refusal.{accepted}
+use Rattle.tree_placed.specs.of_refusal.declared.Cause.TheVariants as cause
+use Rattle.tree_placed.specs.of_utf8.Utf8.{utf8}
+use Rattle.tree_placed.specs.of_text_filter.Filter.{filtered, unfiltered}
+use Rattle.tree_placed.proofs.of_text_filter.Filtering.{unfiltered-filtered, utf8-filtered}
+use Rattle.build_draft.specs.of_text_lossy.LossyText.{lossy_text}
+use Rattle.build_draft.proofs.of_text_lossy.Storing.{lossy-stored}
+use Rattle.tree_placed.specs.of_tree_put.Put.{put_text}
+use Rattle.tree_placed.specs.of_tree_report.Report.{Text, Report}
+use Rattle.tree_placed.proofs.of_tree_report.EncodeLists.{and_right}
 use Rattle.build_draft.specs.declared.Builder.{Builder}
 use Rattle.build_draft.specs.declared.Element.{Element}
 use Rattle.build_draft.specs.declared.TextField.{TextField}

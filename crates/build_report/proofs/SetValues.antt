@@ -5,15 +5,15 @@ use mathlib.Core.List.{List, [], ◌∷◌}
 use mathlib.Core.Option.{Option, none, some}
 use mathlib.Core.Path.{◌≡◌, refl, sym, ap, ◌∙◌}
 use lib.Dec.{leb}
-use Rattle.refusal.specs.declared.Cause.TheVariants as cause
-use Rattle.timestamp.specs.Timestamp.{in_range}
-use Rattle.timestamp.specs.declared.Moment.{Moment}
-use Rattle.uuids.specs.declared.Words.{Words}
-use Rattle.tree_record.specs.Kinds as kind
-use Rattle.tree_put.specs.Put.{put_uuid, put_moment, put_time}
-use Rattle.tree_report.specs.Report.{Duration, TestCase, TestSuite, Report}
-use Rattle.tree_report.specs.inside.Cells.{Row, is_given, of_number, uuid_front, uuid_back, fits_row, report_row, rows_of_each, suite_rows}
-use Rattle.tree_report.proofs.EncodeLists.{both, and_left, and_right}
+use Rattle.tree_placed.specs.of_refusal.declared.Cause.TheVariants as cause
+use Rattle.tree_placed.specs.of_timestamp.Timestamp.{in_range}
+use Rattle.tree_placed.specs.of_timestamp.declared.Moment.{Moment}
+use Rattle.tree_placed.specs.of_uuids.declared.Words.{Words}
+use Rattle.tree_placed.specs.of_tree_record.Kinds as kind
+use Rattle.tree_placed.specs.of_tree_put.Put.{put_uuid, put_moment, put_time}
+use Rattle.tree_placed.specs.of_tree_report.Report.{Duration, TestCase, TestSuite, Report}
+use Rattle.tree_placed.specs.of_tree_report.inside.Cells.{Row, is_given, of_number, uuid_front, uuid_back, fits_row, report_row, rows_of_each, suite_rows}
+use Rattle.tree_placed.proofs.of_tree_report.EncodeLists.{both, and_left, and_right}
 use Rattle.tree_placed.specs.inside.Placed.{Placed, InTexts}
 use Rattle.tree_placed.specs.inside.Changed.{with_middle, with_timestamp, with_time, with_third, with_sixth}
 use Rattle.build_draft.specs.declared.Builder.{Builder}

@@ -3,8 +3,8 @@ use Prim.Native.Nat.{ℕ}
 use mathlib.Core.List.{List, ◌∷◌, ◌++◌}
 use mathlib.Core.Path.{◌≡◌}
 use lib.ListN.{length}
-use Rattle.tree_report.specs.Report.{Report}
-use Rattle.tree_report.specs.inside.Cells.{Row, rows_of}
+use Rattle.tree_placed.specs.of_tree_report.Report.{Report}
+use Rattle.tree_placed.specs.of_tree_report.inside.Cells.{Row, rows_of}
 
 -- the same rows but for the one of number i
 pub record Spot (r : Report) (i : ℕ) (row : Row) (r' : Report) (row' : Row) : Type 0 where

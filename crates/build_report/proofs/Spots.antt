@@ -6,9 +6,9 @@ use mathlib.Core.Option.{some}
 use mathlib.Core.Path.{◌≡◌, refl, sym, ap, ◌∙◌}
 use native.Mathlib.Omega.{arith}
 use lib.ListN.{length, length-append, length-map}
-use Rattle.tree_record.specs.Kinds as kind
-use Rattle.tree_report.specs.Report.{Pair, NonSuccessKind, FlakyOrRerun, flaky, rerun, TestRerun, Reason, TestCaseStatus, success, non_success, skipped, TestCase, TestSuite, Report}
-use Rattle.tree_report.specs.inside.Cells.{Row, pair_row_of, main_row, kind_of_main, run_row, is_flaky_alone, status_rows, case_row, case_rows, rows_of_each, suite_row, suite_rows, report_row, rows_of}
+use Rattle.tree_placed.specs.of_tree_record.Kinds as kind
+use Rattle.tree_placed.specs.of_tree_report.Report.{Pair, NonSuccessKind, FlakyOrRerun, flaky, rerun, TestRerun, Reason, TestCaseStatus, success, non_success, skipped, TestCase, TestSuite, Report}
+use Rattle.tree_placed.specs.of_tree_report.inside.Cells.{Row, pair_row_of, main_row, kind_of_main, run_row, is_flaky_alone, status_rows, case_row, case_rows, rows_of_each, suite_row, suite_rows, report_row, rows_of}
 use Rattle.build_draft.specs.declared.Holder.TheVariants as holder
 use Rattle.build_report.specs.Operations.{on_last, last_in, on_suite, on_case, on_status, on_reason, on_run, with_family, insert, suite_pairs, case_pairs, add_extra}
 use Rattle.build_report.specs.Stands.{all_but_last, suite_mark, case_mark, main_mark}

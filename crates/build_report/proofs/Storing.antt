@@ -7,12 +7,12 @@ use native.Mathlib.Omega.{arith}
 use borrow.Author.Tests.{lt-ltb, le-ltb, leb-true, leb-false}
 use lib.Dec.{leb, ltb, eqb}
 use lib.ListN.{length, length-map}
-use Rattle.refusal.specs.Refusal.{nowhere}
-use Rattle.utf8.specs.Utf8.{utf8}
-use Rattle.text_filter.specs.Filter.{unfiltered}
-use Rattle.tree_report.specs.Report.{Report}
-use Rattle.tree_report.specs.inside.Cells.{Row, written, every, fits_row, rows_of}
-use Rattle.tree_report.proofs.EncodeLists.{both, and_left, and_right}
+use Rattle.tree_placed.specs.of_refusal.Refusal.{nowhere}
+use Rattle.tree_placed.specs.of_utf8.Utf8.{utf8}
+use Rattle.tree_placed.specs.of_text_filter.Filter.{unfiltered}
+use Rattle.tree_placed.specs.of_tree_report.Report.{Report}
+use Rattle.tree_placed.specs.of_tree_report.inside.Cells.{Row, written, every, fits_row, rows_of}
+use Rattle.tree_placed.proofs.of_tree_report.EncodeLists.{both, and_left, and_right}
 use Rattle.tree_placed.specs.inside.Placed.{Placed, record_of_it, rows_in, StandsAt, InTexts}
 use Rattle.tree_placed.proofs.Growing.{text-new}
 use Rattle.build_draft.specs.declared.Builder.{Builder}

@@ -6,17 +6,17 @@ use mathlib.Core.Option.{Option, none, some}
 use mathlib.Core.Path.{◌≡◌, refl, sym, ap, ap₂, subst, ◌∙◌}
 use lib.Dec.{eqb}
 use lib.ListN.{length}
-use Rattle.refusal.specs.Refusal.{nowhere, Outcome, accepted, refused, late}
-use Rattle.refusal.specs.declared.Cause.{Cause}
-use Rattle.refusal.specs.declared.Cause.TheVariants as cause
-use Rattle.utf8.specs.Characters.{joined}
-use Rattle.tree_record.specs.Kinds as kind
-use Rattle.tree_report.specs.Report.{Counts, TestSuite, Report}
-use Rattle.tree_report.specs.inside.Cells.{Row, suite_row, report_row}
+use Rattle.tree_placed.specs.of_refusal.Refusal.{nowhere, Outcome, accepted, refused, late}
+use Rattle.tree_placed.specs.of_refusal.declared.Cause.{Cause}
+use Rattle.tree_placed.specs.of_refusal.declared.Cause.TheVariants as cause
+use Rattle.tree_placed.specs.of_utf8.Characters.{joined}
+use Rattle.tree_placed.specs.of_tree_record.Kinds as kind
+use Rattle.tree_placed.specs.of_tree_report.Report.{Counts, TestSuite, Report}
+use Rattle.tree_placed.specs.of_tree_report.inside.Cells.{Row, suite_row, report_row}
 use Rattle.tree_placed.specs.inside.Placed.{Placed, record_of_it, records_in, InTexts}
 use Rattle.tree_placed.proofs.Putting.{record-length}
-use Rattle.tree_counts.specs.declared.Counts.{Counts as Numbers}
-use Rattle.tree_counts.specs.Counts.{are_counts, limited, with_suite}
+use Rattle.build_draft.specs.of_tree_counts.declared.Counts.{Counts as Numbers}
+use Rattle.build_draft.specs.of_tree_counts.Counts.{are_counts, limited, with_suite}
 use Rattle.build_draft.specs.declared.Builder.{Builder}
 use Rattle.build_draft.specs.Draft.{Draft, ◌>>=◌, asks, room_for, is_record, kind_at, is_of, on_record_of, with_words}
 use Rattle.build_draft.specs.Parts.{counts_at, put_counts, counting, summing}

@@ -3,8 +3,8 @@ use Prim.Native.Nat.{ℕ}
 use mathlib.Core.Bool.{Bool, true, false≢true}
 use mathlib.Core.Option.{some}
 use mathlib.Core.Path.{◌≡◌, refl}
-use Rattle.tree_report.specs.Report.{Text, FlakyOrRerun, TestRerun, Reason, TestCase, TestSuite, Report}
-use Rattle.tree_report.specs.inside.Cells.{main_row, run_row}
+use Rattle.tree_placed.specs.of_tree_report.Report.{Text, FlakyOrRerun, TestRerun, Reason, TestCase, TestSuite, Report}
+use Rattle.tree_placed.specs.of_tree_report.inside.Cells.{main_row, run_row}
 use Rattle.build_draft.specs.declared.Builder.{Builder}
 use Rattle.build_draft.specs.declared.TextField.{TextField}
 use Rattle.build_draft.specs.declared.TextField.TheVariants as field

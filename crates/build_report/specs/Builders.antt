@@ -22,21 +22,21 @@
 --   in_range (crate timestamp: Timestamp)                        which timestamps there are
 use Rattle.std.specs.Prelude.{ℕ, ◌+◌, List, [], ◌∷◌, Bool, true, false, not, ◌&&◌, ◌||◌, ◌≡◌, length, leb}
 use Rattle.std.proofs.Math.Option.{Option, none, some}
-use Rattle.area.specs.Area.{zeros}
-use Rattle.refusal.specs.Refusal.{Outcome, refused, late}
-use Rattle.refusal.specs.declared.Cause.{Cause}
-use Rattle.refusal.specs.declared.Cause.TheVariants as cause
-use Rattle.names.specs.Names.{same_bytes}
-use Rattle.utf8.specs.Utf8.{utf8}
-use Rattle.text_filter.specs.Filter.{filtered}
-use Rattle.text_lossy.specs.LossyText.{lossy_text}
-use Rattle.timestamp.specs.Timestamp.{in_range}
-use Rattle.timestamp.specs.declared.Moment.{Moment}
-use Rattle.uuids.specs.declared.Words.{Words}
-use Rattle.tree_counts.specs.declared.Outcome.{Outcome as Status}
-use Rattle.tree_counts.specs.declared.Outcome.TheVariants as outcome
-use Rattle.tree_report.specs.Report.{Text, Pair, Counts, TestCaseStatus, success, non_success, skipped, TestCase, TestSuite, Report}
-use Rattle.tree_report.specs.inside.Cells.{rows_of}
+use Rattle.tree_placed.specs.of_area.Area.{zeros}
+use Rattle.tree_placed.specs.of_refusal.Refusal.{Outcome, refused, late}
+use Rattle.tree_placed.specs.of_refusal.declared.Cause.{Cause}
+use Rattle.tree_placed.specs.of_refusal.declared.Cause.TheVariants as cause
+use Rattle.tree_placed.specs.of_names.Names.{same_bytes}
+use Rattle.tree_placed.specs.of_utf8.Utf8.{utf8}
+use Rattle.tree_placed.specs.of_text_filter.Filter.{filtered}
+use Rattle.build_draft.specs.of_text_lossy.LossyText.{lossy_text}
+use Rattle.tree_placed.specs.of_timestamp.Timestamp.{in_range}
+use Rattle.tree_placed.specs.of_timestamp.declared.Moment.{Moment}
+use Rattle.tree_placed.specs.of_uuids.declared.Words.{Words}
+use Rattle.build_draft.specs.of_tree_counts.declared.Outcome.{Outcome as Status}
+use Rattle.build_draft.specs.of_tree_counts.declared.Outcome.TheVariants as outcome
+use Rattle.tree_placed.specs.of_tree_report.Report.{Text, Pair, Counts, TestCaseStatus, success, non_success, skipped, TestCase, TestSuite, Report}
+use Rattle.tree_placed.specs.of_tree_report.inside.Cells.{rows_of}
 use Rattle.build_draft.specs.declared.Builder.{Builder}
 use Rattle.build_draft.specs.declared.Element.{Element}
 use Rattle.build_draft.specs.declared.Holder.{Holder}

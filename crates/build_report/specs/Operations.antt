@@ -2,14 +2,14 @@
 -- suite's last. Texts are as they are stored. Definitions only.
 use Rattle.std.specs.Prelude.{ℕ, ◌+◌, List, [], ◌∷◌, ◌++◌, Bool, true, false, cond}
 use Rattle.std.proofs.Math.Option.{Option, none, some}
-use Rattle.names.specs.Names.{same_bytes}
-use Rattle.timestamp.specs.declared.Moment.{Moment}
-use Rattle.uuids.specs.declared.Words.{Words}
-use Rattle.tree_record.specs.Kinds as kind
-use Rattle.tree_counts.specs.declared.Outcome.{Outcome}
-use Rattle.tree_counts.specs.declared.Outcome.TheVariants as outcome
-use Rattle.tree_report.specs.Report.{Text, Duration, Pair, Counts, NonSuccessKind, failure, error, FlakyOrRerun, flaky, rerun}
-use Rattle.tree_report.specs.Report.{TestRerun, Reason, TestCaseStatus, success, non_success, skipped, TestCase, TestSuite, Report}
+use Rattle.tree_placed.specs.of_names.Names.{same_bytes}
+use Rattle.tree_placed.specs.of_timestamp.declared.Moment.{Moment}
+use Rattle.tree_placed.specs.of_uuids.declared.Words.{Words}
+use Rattle.tree_placed.specs.of_tree_record.Kinds as kind
+use Rattle.build_draft.specs.of_tree_counts.declared.Outcome.{Outcome}
+use Rattle.build_draft.specs.of_tree_counts.declared.Outcome.TheVariants as outcome
+use Rattle.tree_placed.specs.of_tree_report.Report.{Text, Duration, Pair, Counts, NonSuccessKind, failure, error, FlakyOrRerun, flaky, rerun}
+use Rattle.tree_placed.specs.of_tree_report.Report.{TestRerun, Reason, TestCaseStatus, success, non_success, skipped, TestCase, TestSuite, Report}
 use Rattle.build_draft.specs.declared.Element.{Element}
 use Rattle.build_draft.specs.declared.Element.TheVariants as element
 use Rattle.build_draft.specs.declared.Holder.{Holder}

@@ -1,17 +1,17 @@
 -- When a builder stands over a report: its areas hold the report, and its marks are right. Definitions only.
 use Rattle.std.specs.Prelude.{ℕ, ◌+◌, ◌≤◌, List, [], ◌∷◌, Bool, true, false, cond, ◌≡◌, length}
 use Rattle.std.proofs.Math.Option.{Option, none, some}
-use Rattle.refusal.specs.Refusal.{nowhere, Outcome, accepted, refused, late}
-use Rattle.refusal.specs.declared.Cause.{Cause}
-use Rattle.area.specs.Area.{zeros, laid}
-use Rattle.utf8.specs.Characters.{joined}
-use Rattle.utf8.specs.Utf8.{utf8}
-use Rattle.text_filter.specs.Filter.{unfiltered}
-use Rattle.tree_report.specs.Report.{TestCase, TestSuite, Report}
-use Rattle.tree_report.specs.Layout.{layout}
-use Rattle.tree_report.specs.ReportOf.{report_of}
-use Rattle.tree_report.specs.inside.Cells.{every, fits_row, rows_of_each, case_rows, suite_rows, rows_of}
-use Rattle.tree_report.specs.inside.Each.{Each}
+use Rattle.tree_placed.specs.of_refusal.Refusal.{nowhere, Outcome, accepted, refused, late}
+use Rattle.tree_placed.specs.of_refusal.declared.Cause.{Cause}
+use Rattle.tree_placed.specs.of_area.Area.{zeros, laid}
+use Rattle.tree_placed.specs.of_utf8.Characters.{joined}
+use Rattle.tree_placed.specs.of_utf8.Utf8.{utf8}
+use Rattle.tree_placed.specs.of_text_filter.Filter.{unfiltered}
+use Rattle.tree_placed.specs.of_tree_report.Report.{TestCase, TestSuite, Report}
+use Rattle.tree_placed.specs.of_tree_report.Layout.{layout}
+use Rattle.tree_placed.specs.of_tree_report.ReportOf.{report_of}
+use Rattle.tree_placed.specs.of_tree_report.inside.Cells.{every, fits_row, rows_of_each, case_rows, suite_rows, rows_of}
+use Rattle.tree_placed.specs.of_tree_report.inside.Each.{Each}
 use Rattle.tree_placed.specs.inside.Placed.{Placed, records_in, rows_in, InTexts}
 use Rattle.build_draft.specs.declared.Builder.{Builder}
 use Rattle.build_draft.specs.Draft.{Draft, room_for, bytes_for}

@@ -6,19 +6,19 @@ use mathlib.Core.List.{List}
 use borrow.Author.Tests.{eq-eqb, ne_eqb, not-true, not-false}
 use lib.Dec.{leb}
 use lib.ListN.{drop}
-use Rattle.refusal.specs.Refusal.{nowhere, Outcome}
-use Rattle.refusal.specs.declared.Cause.TheVariants as cause
-use Rattle.tree_record.specs.Bits as bit
-use Rattle.tree_record.specs.Kinds as kind
-use Rattle.tree_record.specs.Record.{has_bit, unmarked}
-use Rattle.build_draft.specs.declared.Builder.{Builder}
-use Rattle.build_draft.specs.declared.Step.TheVariants.{Not}
-use Rattle.build_draft.specs.declared.NonSuccessKind.{NonSuccessKind}
-use Rattle.build_draft.specs.declared.FlakyOrRerun.{FlakyOrRerun}
-use Rattle.build_draft.specs.declared.FlakyOrRerun.TheVariants.{Flaky}
-use Rattle.build_draft.specs.Draft.{Draft, draft_of, asks, is_of, kind_at, on_record_of, last_of}
-use Rattle.build_draft.specs.Parts.{taking, run_kind}
-use Rattle.build_draft.specs.Calls.{is_non_success, family_of, add_rerun}
+use Rattle.build_records.specs.of_refusal.Refusal.{nowhere, Outcome}
+use Rattle.build_records.specs.of_refusal.declared.Cause.TheVariants as cause
+use Rattle.build_records.specs.of_tree_record.Bits as bit
+use Rattle.build_records.specs.of_tree_record.Kinds as kind
+use Rattle.build_records.specs.of_tree_record.Record.{has_bit, unmarked}
+use Rattle.build_records.specs.of_build_draft.declared.Builder.{Builder}
+use Rattle.build_records.specs.of_build_draft.declared.Step.TheVariants.{Not}
+use Rattle.build_records.specs.of_build_draft.declared.NonSuccessKind.{NonSuccessKind}
+use Rattle.build_records.specs.of_build_draft.declared.FlakyOrRerun.{FlakyOrRerun}
+use Rattle.build_records.specs.of_build_draft.declared.FlakyOrRerun.TheVariants.{Flaky}
+use Rattle.build_records.specs.of_build_draft.Draft.{Draft, draft_of, asks, is_of, kind_at, on_record_of, last_of}
+use Rattle.build_records.specs.of_build_draft.Parts.{taking, run_kind}
+use Rattle.build_records.specs.of_build_draft.Calls.{is_non_success, family_of, add_rerun}
 use Rattle.build_runs.specs.inside.Runs.{family_by, add_to_main}
 
 module _ (b : Builder) (words text : List ℕ) where

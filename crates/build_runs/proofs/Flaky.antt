@@ -6,8 +6,8 @@ use mathlib.Core.List.{List}
 use native.Mathlib.Omega.{arith}
 use borrow.Author.Tests.{eqb-true}
 use lib.ListN.{get_or, set}
-use Rattle.tree_record.specs.Bits as bit
-use Rattle.tree_record.specs.Record.{has_bit, unmarked}
+use Rattle.build_records.specs.of_tree_record.Bits as bit
+use Rattle.build_records.specs.of_tree_record.Record.{has_bit, unmarked}
 
 module _ (r : List ℕ) {t : Bool} (e : t ≡ has_bit bit.flaky r) where
   -- a set bit is at most the word

@@ -6,14 +6,14 @@ use mathlib.Core.List.{List}
 use native.Mathlib.Omega.{arith}
 use borrow.Author.Tests.{eq-eqb, ne_eqb, leb-true, not-true, not-false}
 use lib.Dec.{leb, ltb, eqb}
-use Rattle.refusal.specs.declared.Cause.TheVariants as cause
-use Rattle.tree_record.specs.Kinds as kind
-use Rattle.build_draft.specs.declared.Builder.{Builder}
-use Rattle.build_draft.specs.declared.Step.TheVariants.{Done, Not}
-use Rattle.build_draft.specs.declared.FlakyOrRerun.{FlakyOrRerun}
-use Rattle.build_draft.specs.Draft.{Draft, draft_of, asks, is_record, is_of, kind_at, on_record_of, room_for}
-use Rattle.build_draft.specs.Parts.{turn_runs}
-use Rattle.build_draft.specs.Calls.{is_non_success, flagged, set_rerun_kind}
+use Rattle.build_records.specs.of_refusal.declared.Cause.TheVariants as cause
+use Rattle.build_records.specs.of_tree_record.Kinds as kind
+use Rattle.build_records.specs.of_build_draft.declared.Builder.{Builder}
+use Rattle.build_records.specs.of_build_draft.declared.Step.TheVariants.{Done, Not}
+use Rattle.build_records.specs.of_build_draft.declared.FlakyOrRerun.{FlakyOrRerun}
+use Rattle.build_records.specs.of_build_draft.Draft.{Draft, draft_of, asks, is_record, is_of, kind_at, on_record_of, room_for}
+use Rattle.build_records.specs.of_build_draft.Parts.{turn_runs}
+use Rattle.build_records.specs.of_build_draft.Calls.{is_non_success, flagged, set_rerun_kind}
 
 module _ (b : Builder) (words text : List ℕ) where
   abbrev d : Draft

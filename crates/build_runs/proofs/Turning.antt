@@ -4,9 +4,9 @@ use mathlib.Core.Path.{◌≡◌, refl, sym, ap, ◌∙◌}
 use mathlib.Core.List.{List}
 use native.Mathlib.Omega.{arith}
 use lib.ListN.{length, length-append, length-take, length-drop, length-set}
-use Rattle.build_draft.specs.declared.FlakyOrRerun.{FlakyOrRerun}
-use Rattle.build_draft.specs.Draft.{on_record_of}
-use Rattle.build_draft.specs.Parts.{turned, turn_runs}
+use Rattle.build_records.specs.of_build_draft.declared.FlakyOrRerun.{FlakyOrRerun}
+use Rattle.build_records.specs.of_build_draft.Draft.{on_record_of}
+use Rattle.build_records.specs.of_build_draft.Parts.{turned, turn_runs}
 
 -- the area keeps its length
 turned-length : (f : FlakyOrRerun) (i : ℕ) (words : List ℕ) → length (on_record_of i (turned f) words) ≡ length words

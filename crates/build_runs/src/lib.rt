@@ -2,18 +2,20 @@
 #![tactic(auto)]
 
 ghost use Rattle.std.specs.Prelude.{◌≡◌, List, ℕ, ◌-◌, ◌≤◌};
-ghost use Rattle.tree_record.specs.Bits as bit;
-ghost use Rattle.tree_record.specs.Record.{unmarked};
-ghost use Rattle.build_draft.specs.Draft.{draft_of};
-ghost use Rattle.build_draft.specs.Parts.{run_kind, turned_kind, turned, turn_runs};
+ghost use Rattle.build_records.specs.of_tree_record.Bits as bit;
+ghost use Rattle.build_records.specs.of_tree_record.Record.{unmarked};
+ghost use Rattle.build_records.specs.of_build_draft.Draft.{draft_of};
+ghost use Rattle.build_records.specs.of_build_draft.Parts.{run_kind, turned_kind, turned, turn_runs};
 ghost use Rattle.build_runs.specs.inside.Runs.{family_by, add_to_main};
-ghost use Rattle.build_draft.specs.Calls.{is_non_success, family_of, add_rerun, flagged, set_rerun_kind};
+ghost use Rattle.build_records.specs.of_build_draft.Calls.{is_non_success, family_of, add_rerun, flagged, set_rerun_kind};
 
-use area::least;
-use build_draft::{Builder, FlakyOrRerun, NonSuccessKind, Step, is_of, kind_at, last_of};
 use build_records::take_record;
-use refusal::{Cause, NOWHERE};
-use tree_record::{bit, field, has_bit, kind, put_bit, put_field, word};
+use build_records::the_area::least;
+use build_records::the_build_draft::{
+    Builder, FlakyOrRerun, NonSuccessKind, Step, is_of, kind_at, last_of,
+};
+use build_records::the_refusal::{Cause, NOWHERE};
+use build_records::the_tree_record::{bit, field, has_bit, kind, put_bit, put_field, word};
 
 pub fn run_kind(family: FlakyOrRerun, k: NonSuccessKind) -> u32
     ensures { result ≡ run_kind family k }

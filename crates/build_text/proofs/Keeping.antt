@@ -9,15 +9,15 @@ use lib.ListN.{length, take, drop, take-append-drop}
 use lib.Seq.{drop-append-le, drop-drop}
 use borrow.Author.Tests.{le-leb, lt-leb, leb-true, not-true, not-false}
 use borrow.Rule.Slice.PartMut.{put_mid}
-use Rattle.area.specs.Area.{stored_answer, placing, laid}
-use Rattle.area.specs.declared.Stored.{Stored}
-use Rattle.area.specs.declared.Stored.TheVariants.{Put, Full}
-use Rattle.area.proofs.Laying.{laid-fits, put-fits, full-over}
-use Rattle.area.proofs.Parts.{length_part}
-use Rattle.utf8.specs.Utf8.{utf8}
-use Rattle.refusal.specs.Refusal.{Outcome, accepted}
-use Rattle.refusal.specs.declared.Cause.{Cause}
-use Rattle.refusal.specs.declared.Cause.TheVariants as cause
+use Rattle.build_draft.specs.of_area.Area.{stored_answer, placing, laid}
+use Rattle.build_draft.specs.of_area.declared.Stored.{Stored}
+use Rattle.build_draft.specs.of_area.declared.Stored.TheVariants.{Put, Full}
+use Rattle.build_draft.proofs.of_area.Laying.{laid-fits, put-fits, full-over}
+use Rattle.build_draft.proofs.of_area.Parts.{length_part}
+use Rattle.build_draft.specs.of_utf8.Utf8.{utf8}
+use Rattle.build_draft.specs.of_refusal.Refusal.{Outcome, accepted}
+use Rattle.build_draft.specs.of_refusal.declared.Cause.{Cause}
+use Rattle.build_draft.specs.of_refusal.declared.Cause.TheVariants as cause
 use Rattle.build_draft.specs.declared.Builder.{Builder}
 use Rattle.build_draft.specs.declared.Step.TheVariants.{Done, Not}
 use Rattle.build_draft.specs.Draft.{Draft, draft_of, asks, bytes_for}

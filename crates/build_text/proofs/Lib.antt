@@ -1,2 +1,3 @@
 pub mod Keeping
 pub mod Putting
+pub use Rattle.build_draft.proofs as of_build_draft

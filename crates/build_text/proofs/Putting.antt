@@ -7,14 +7,14 @@ use native.Mathlib.Omega.{arith}
 use lib.ListN.{length, take, drop, set, drop_of_length-le}
 use lib.Seq.{take_all}
 use borrow.Rule.Slice.PartMut.{put_mid}
-use Rattle.area.proofs.Parts.{rest_part, rest_back}
-use Rattle.refusal.specs.Refusal.{Outcome, accepted}
-use Rattle.refusal.specs.declared.Cause.{Cause}
-use Rattle.refusal.specs.declared.Cause.TheVariants as cause
-use Rattle.tree_record.specs.Words as word
-use Rattle.tree_record.specs.Bits as bit
-use Rattle.tree_record.specs.Record.{mask_of, has_bit, marked}
-use Rattle.tree_put.specs.Put.{put_text}
+use Rattle.build_draft.proofs.of_area.Parts.{rest_part, rest_back}
+use Rattle.build_draft.specs.of_refusal.Refusal.{Outcome, accepted}
+use Rattle.build_draft.specs.of_refusal.declared.Cause.{Cause}
+use Rattle.build_draft.specs.of_refusal.declared.Cause.TheVariants as cause
+use Rattle.build_draft.specs.of_tree_record.Words as word
+use Rattle.build_draft.specs.of_tree_record.Bits as bit
+use Rattle.build_draft.specs.of_tree_record.Record.{mask_of, has_bit, marked}
+use Rattle.build_draft.specs.of_tree_put.Put.{put_text}
 use Rattle.build_draft.specs.declared.Builder.{Builder}
 use Rattle.build_draft.specs.declared.Step.{Step}
 use Rattle.build_draft.specs.declared.Step.TheVariants.{Done, Not}

@@ -2,21 +2,23 @@
 #![tactic(auto)]
 
 ghost use Rattle.std.specs.Prelude.{◌≡◌, List, false, not, ◌||◌, ℕ, length};
-ghost use Rattle.area.specs.Area.{stored_answer, placing, laid};
-ghost use Rattle.utf8.specs.Utf8.{utf8};
-ghost use Rattle.refusal.specs.declared.Cause.TheVariants as cause;
-ghost use Rattle.tree_put.specs.Put.{put_text};
+ghost use Rattle.build_draft.specs.of_area.Area.{stored_answer, placing, laid};
+ghost use Rattle.build_draft.specs.of_utf8.Utf8.{utf8};
+ghost use Rattle.build_draft.specs.of_refusal.declared.Cause.TheVariants as cause;
+ghost use Rattle.build_draft.specs.of_tree_put.Put.{put_text};
 ghost use Rattle.build_draft.specs.Draft.{draft_of, on_record_of, next};
 ghost use Rattle.build_draft.specs.Parts.{text_for, keeping, putting, naming};
 
-use area::{Stored, least, limit};
+pub use build_draft as the_build_draft;
+use build_draft::the_area::{Stored, least, limit};
+use build_draft::the_refusal::Cause;
+use build_draft::the_text_filter::store;
+use build_draft::the_text_lossy::store_lossy;
+use build_draft::the_tree_put::put_text;
+use build_draft::the_tree_record::{bit, word};
+use build_draft::the_utf8::is_utf8;
+pub use build_draft::{the_refusal, the_timestamp, the_uuids};
 use build_draft::{Builder, Step, is_record, last_of};
-use refusal::Cause;
-use text_filter::store;
-use text_lossy::store_lossy;
-use tree_put::put_text;
-use tree_record::{bit, word};
-use utf8::is_utf8;
 
 // A text that goes in as it is.
 fn store_plain(out: &mut [u8], s: &[u8]) -> Stored

@@ -2,9 +2,9 @@
 use Prim.Native.Nat.{ℕ}
 use mathlib.Core.Path.{◌≡◌, ap, ◌∙◌}
 use mathlib.Core.List.{List}
-use Rattle.refusal.specs.Refusal.{Outcome}
-use Rattle.build_draft.specs.Draft.{Draft, next}
-use Rattle.build_draft.specs.Calls.{add_pair}
+use Rattle.build_elements.specs.of_refusal.Refusal.{Outcome}
+use Rattle.build_elements.specs.of_build_draft.Draft.{Draft, next}
+use Rattle.build_elements.specs.of_build_draft.Calls.{add_pair}
 
 -- a step behind one that came to m
 pub behind : {o m p : Outcome Draft} (f : Draft → Outcome Draft) → o ≡ next m f → m ≡ p → o ≡ next p f

@@ -3,16 +3,16 @@
 #![tactic(auto)]
 
 ghost use Rattle.std.specs.Prelude.{◌≡◌, length};
-ghost use Rattle.build_draft.specs.Draft.{built_from, words_left_of, text_left};
-ghost use Rattle.build_draft.specs.Calls.{unnamed_report, new_report, add_test_suite, add_test_case, add_rerun, add_property, add_extra, finish};
+ghost use Rattle.build_elements.specs.of_build_draft.Draft.{built_from, words_left_of, text_left};
+ghost use Rattle.build_elements.specs.of_build_draft.Calls.{unnamed_report, new_report, add_test_suite, add_test_case, add_rerun, add_property, add_extra, finish};
 
-use build_draft::{Builder, Built, Holder, NonSuccessKind, settle};
+use build_elements::the_build_draft::{Builder, Built, Holder, NonSuccessKind, settle};
+use build_elements::the_build_kinds::{extra_kind, property_kind};
+use build_elements::the_tree_counts::Outcome;
 use build_elements::{close_report, open_case, open_main, open_report, open_suite};
-use build_kinds::{extra_kind, property_kind};
 use build_pairs::add_pair;
+use build_pairs::the_build_text::put_name;
 use build_runs::open_run;
-use build_text::put_name;
-use tree_counts::Outcome;
 
 // By rule B1.
 pub fn unnamed_report(records: &mut [u32], text: &mut [u8]) -> Built

@@ -3,14 +3,14 @@ use Prim.Native.Nat.{ℕ}
 use mathlib.Core.Path.{◌≡◌, refl, ap, ◌∙◌}
 use mathlib.Core.List.{List}
 use mathlib.Core.Bool.{Bool, true, false, cond, not, ◌&&◌, ◌||◌, or-true, or-false}
-use Rattle.refusal.specs.Refusal.{Outcome}
-use Rattle.refusal.specs.declared.Cause.TheVariants as cause
-use Rattle.build_draft.specs.declared.Element.{Element}
-use Rattle.build_draft.specs.declared.TextField.{TextField}
-use Rattle.build_draft.specs.declared.Step.TheVariants.{Not}
-use Rattle.build_draft.specs.Draft.{Draft, asks, draft_of, kind_at, mark_of}
-use Rattle.build_draft.specs.Parts.{putting, has_text, word_for, bit_for, is_output}
-use Rattle.build_draft.specs.Calls.{set_text, set_output_lossy}
+use Rattle.build_text.specs.of_refusal.Refusal.{Outcome}
+use Rattle.build_text.specs.of_refusal.declared.Cause.TheVariants as cause
+use Rattle.build_text.specs.of_build_draft.declared.Element.{Element}
+use Rattle.build_text.specs.of_build_draft.declared.TextField.{TextField}
+use Rattle.build_text.specs.of_build_draft.declared.Step.TheVariants.{Not}
+use Rattle.build_text.specs.of_build_draft.Draft.{Draft, asks, draft_of, kind_at, mark_of}
+use Rattle.build_text.specs.of_build_draft.Parts.{putting, has_text, word_for, bit_for, is_output}
+use Rattle.build_text.specs.of_build_draft.Calls.{set_text, set_output_lossy}
 use Rattle.build_fields.proofs.Answering.{fails, passes}
 
 module _ (lossy : Bool) (e : Element) (f : TextField) (s : List ℕ) (d : Draft) where

@@ -3,18 +3,18 @@
 #![tactic(auto)]
 
 ghost use Rattle.std.specs.Prelude.{◌≡◌, cond, length};
-ghost use Rattle.build_draft.specs.Draft.{draft_of, built_from, words_left_of, text_left};
-ghost use Rattle.build_draft.specs.Calls.{set_text, set_output_lossy, set_timestamp, set_time, set_uuid, set_number, set_rerun_kind};
+ghost use Rattle.build_text.specs.of_build_draft.Draft.{draft_of, built_from, words_left_of, text_left};
+ghost use Rattle.build_text.specs.of_build_draft.Calls.{set_text, set_output_lossy, set_timestamp, set_time, set_uuid, set_number, set_rerun_kind};
 
-use build_draft::{
-    Builder, Built, Element, FlakyOrRerun, NumberField, Step, TextField, kind_at, mark_of, settle,
-};
 use build_fields::{bit_for, clock, has_text, identify, is_output, number, stamp, word_for};
 use build_runs::turn_case;
 use build_text::put_at;
-use refusal::Cause;
-use timestamp::Moment;
-use uuids::Words;
+use build_text::the_build_draft::{
+    Builder, Built, Element, FlakyOrRerun, NumberField, Step, TextField, kind_at, mark_of, settle,
+};
+use build_text::the_refusal::Cause;
+use build_text::the_timestamp::Moment;
+use build_text::the_uuids::Words;
 
 // A text as it is, or an output lossily.
 fn write_field(

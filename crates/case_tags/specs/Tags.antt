@@ -1,7 +1,7 @@
 -- The `testcase` tags among events, wherever they stand. Definitions only.
 use Rattle.std.specs.Prelude.{ℕ, ◌+◌, List, [], ◌∷◌, cond, eqb}
-use Rattle.names.specs.Tags.{tag_of, testcase}
-use Rattle.table.specs.Event.{Event, Tag, Start, Empty, End, Piece, Eof, Fault}
+use Rattle.table_events.specs.of_names.Tags.{tag_of, testcase}
+use Rattle.table_events.specs.of_table.Event.{Event, Tag, Start, Empty, End, Piece, Eof, Fault}
 
 -- 1 for a Start or Empty of that name (rules R2 and R21), 0 for any other event
 unfoldable pub case_tag : Event → ℕ

@@ -2,12 +2,13 @@
 #![tactic(auto)]
 
 ghost use Rattle.std.specs.Prelude.{◌≡◌, ℕ, ◌<◌, List};
-ghost use Rattle.table.specs.Table.{count_of};
-ghost use Rattle.table.specs.Event.{event_at, resolve};
+ghost use Rattle.table_events.specs.of_table.Table.{count_of};
+ghost use Rattle.table_events.specs.of_table.Event.{event_at, resolve};
 ghost use Rattle.case_tags.specs.Tags.{case_tag, case_tags};
 
-use names::{tag, tag_of};
-use table::kind;
+use table_events::the_names::{tag, tag_of};
+use table_events::the_table::kind;
+pub use table_events::{the_area, the_refusal};
 use table_events::{bytes_at, kind_at};
 
 // 1 where event i is one.

@@ -5,6 +5,8 @@
 ghost use Rattle.std.specs.Prelude.{◌≡◌, ◌+◌, ◌<◌, length};
 ghost use Rattle.chains.specs.Chains.{hash_from, bucket_of, linked};
 
+pub use area as the_area;
+
 // The hash of bytes, behind bytes whose hash is `from`.
 pub fn hash_from(from: usize, bytes: &[u8]) -> usize
     requires { from < 4294967296 }

@@ -6,11 +6,11 @@ use mathlib.Core.Bool.{true}
 use native.Mathlib.Omega.{arith}
 use lib.ListN.{length, get_or, take, drop, length-append}
 use lib.Seq.{drop-append-add, drop-append-le, drop-nil}
-use Rattle.area.proofs.Lists.{drop-next}
-use Rattle.text.specs.Decode.{cleaned, piece_of, piece_width, Pieced}
-use Rattle.text.specs.Value.{value_text}
-use Rattle.text.specs.declared.decode.Piece.{Piece}
-use Rattle.text.proofs.Pieces.{piece-length, piece-fits, piece-next, piece-end}
+use Rattle.text_key.proofs.of_area.Lists.{drop-next}
+use Rattle.text_key.specs.of_text.Decode.{cleaned, piece_of, piece_width, Pieced}
+use Rattle.text_key.specs.of_text.Value.{value_text}
+use Rattle.text_key.specs.of_text.declared.decode.Piece.{Piece}
+use Rattle.text_key.proofs.of_text.Pieces.{piece-length, piece-fits, piece-next, piece-end}
 use Rattle.clean_order.specs.declared.Next.{Next}
 use Rattle.clean_order.specs.inside.Following.{rest_of, Follows}
 

@@ -7,12 +7,12 @@ use native.Mathlib.Omega.{arith}
 use lib.ListN.{length, get_or, drop, length-drop}
 use lib.Seq.{get_or-drop}
 use lib.Dec.{leb, ltb}
-use Rattle.area.proofs.Lists.{drop-next}
-use Rattle.text.specs.Value.{value_text}
+use Rattle.text_key.proofs.of_area.Lists.{drop-next}
+use Rattle.text_key.specs.of_text.Value.{value_text}
 use Rattle.key_order.specs.inside.KeyOrder.{common_length, comes}
 use Rattle.key_order.proofs.Commoning.{Commoning, commoning-start, commoning-more, commoning_unlike, commoning-done}
 use Rattle.key_order.proofs.Testing.{by_length, by_number, by_byte}
-use Rattle.table.specs.Event.{key_at}
+use Rattle.key_order.specs.of_table.Event.{key_at}
 use Rattle.clean_order.specs.inside.CleanOrder.{comes_by}
 use Rattle.clean_order.specs.declared.Next.{Next}
 use Rattle.clean_order.specs.inside.Following.{rest_of, Follows}

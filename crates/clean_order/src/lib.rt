@@ -2,14 +2,17 @@
 #![tactic(auto)]
 
 ghost use Rattle.std.specs.Prelude.{◌≡◌, ◌≤◌, length, get_or};
-ghost use Rattle.text.specs.Value.{value_text};
+ghost use Rattle.text_key.specs.of_text.Value.{value_text};
 ghost use Rattle.key_order.specs.inside.KeyOrder.{comes};
 ghost use Rattle.clean_order.specs.inside.CleanOrder.{comes_by};
 ghost use Rattle.clean_order.specs.inside.Following.{Follows};
 
+pub use key_order as the_key_order;
 use key_order::{comes, key_of};
-use text::decode::piece_of;
+pub use text_key as the_text_key;
 use text_key::cleaned_length;
+use text_key::the_text::decode::piece_of;
+pub use text_key::{the_area, the_names, the_text};
 
 // A byte that would be stored for a key, and the place behind it: what the key stands for from number `at` on, without `passed` bytes.
 #[derive(Clone, Copy)]

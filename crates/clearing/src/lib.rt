@@ -4,6 +4,8 @@
 ghost use Rattle.std.specs.Prelude.{◌≡◌, length};
 ghost use Rattle.area.specs.Area.{zeros};
 
+pub use area as the_area;
+pub use area::the_refusal;
 use area::{clear, clear_words};
 
 // Before reading (rule M11). Of scratch reading looks only at what it put there itself.

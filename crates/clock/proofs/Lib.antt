@@ -1,1 +1,2 @@
 mod Clocks
+pub use Rattle.fixed.proofs as of_fixed

@@ -1,6 +1,6 @@
 -- The clock of a timestamp by RFC 3339, section 5.6. Definitions only.
 use Rattle.std.specs.Prelude.{ℕ, Bool, ◌||◌, List, [], ◌∷◌, get_or, eqb}
-use Rattle.digits.specs.Digits.{is_number, value}
+use Rattle.fixed.specs.of_digits.Digits.{is_number, value}
 use Rattle.fixed.specs.Fields.{part}
 
 -- "T" time-hour ":" time-minute ":" time-second, the bytes 10 to 18

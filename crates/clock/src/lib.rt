@@ -4,6 +4,7 @@
 ghost use Rattle.std.specs.Prelude.{◌≡◌, ◌≤◌, length};
 ghost use Rattle.clock.specs.inside.Leaves.{clock_of};
 
+pub use fixed as the_fixed;
 use fixed::decimal_at;
 
 // Hour, minute and second.

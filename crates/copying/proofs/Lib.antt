@@ -1,2 +1,3 @@
 pub mod Copying
 pub mod Covering
+pub use Rattle.area.proofs as of_area

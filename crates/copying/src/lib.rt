@@ -4,8 +4,9 @@
 
 ghost use Rattle.std.specs.Prelude.{◌≡◌, ◌≤◌, length, take};
 ghost use Rattle.area.specs.Area.{stored_answer, placing, laid};
-ghost use Rattle.refusal.specs.declared.Cause.TheVariants as cause;
+ghost use Rattle.area.specs.of_refusal.declared.Cause.TheVariants as cause;
 
+pub use area as the_area;
 use area::Stored;
 
 fn copy_each(out: &mut [u8], s: &[u8])

@@ -5,6 +5,9 @@ ghost use Rattle.std.specs.Prelude.{◌≡◌, ◌<◌, get_or};
 ghost use Rattle.days.specs.Days.{days_before};
 ghost use Rattle.days.specs.inside.Table.{days_by};
 
+pub use calendar as the_calendar;
+pub use calendar::the_area;
+
 // Days of the Gregorian cycle of 400 years.
 const CYCLE: u64 = 146097;
 

@@ -8,7 +8,7 @@ use native.Mathlib.Omega.{arith}
 use borrow.Author.Tests.{lt-ltb, le-ltb, le-leb, lt-leb, ltb-true, leb-true}
 use lib.Dec.{ltb, leb}
 use lib.ListN.{length, drop, get_or, drop_of_length-le}
-use Rattle.area.proofs.Lists.{drop-next}
+use Rattle.utf8.proofs.of_area.Lists.{drop-next}
 use Rattle.digits.specs.declared.Number.TheVariants.{Is, Not}
 use Rattle.digits.specs.Digits.{digit, all_digits, value_from, value, is_number, number_in}
 use Rattle.digits.proofs.Values.{value_grows, value-below}

@@ -10,8 +10,8 @@ use borrow.Author.Tests.{lt-ltb, le-ltb, le-leb, ltb-true}
 use lib.Dec.{leb, ltb, lit<, lit≤}
 use lib.ListN.{length, take, drop, set, length-append, length-set}
 use lib.Seq.{drop-cons, drop-set-lt, get_or-set_same, lt-length-set, take_at}
-use Rattle.area.specs.Area.{zeros}
-use Rattle.area.proofs.Lists.{drop-zeros}
+use Rattle.utf8.specs.of_area.Area.{zeros}
+use Rattle.utf8.proofs.of_area.Lists.{drop-zeros}
 use Rattle.digits.specs.declared.Number.TheVariants.{Is}
 use Rattle.digits.specs.Digits.{digit, is_digit, all_digits, value, is_number, number_in, last_digits_of, places_in, places, decimal}
 use Rattle.digits.proofs.Values.{append-value, append-digits}

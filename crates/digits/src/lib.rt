@@ -2,11 +2,13 @@
 #![tactic(auto)]
 
 ghost use Rattle.std.specs.Prelude.{◌≡◌, ◌++◌, ◌-◌, ◌≤◌, min, length};
-ghost use Rattle.area.specs.Area.{zeros, stored_answer, placing, laid};
+ghost use Rattle.utf8.specs.of_area.Area.{zeros, stored_answer, placing, laid};
 ghost use Rattle.digits.specs.Digits.{digit, number_in, last_digits_of, places, decimal};
-ghost use Rattle.refusal.specs.declared.Cause.TheVariants as cause;
+ghost use Rattle.utf8.specs.of_refusal.declared.Cause.TheVariants as cause;
 
-use area::Stored;
+pub use utf8 as the_utf8;
+use utf8::the_area::Stored;
+pub use utf8::{the_area, the_refusal};
 
 // What reading finds: a number of at most the limit asked for, or something else.
 #[derive(Clone, Copy)]
@@ -115,7 +117,7 @@ pub fn write_digits(out: &mut [u8], k: usize, n: u64) -> Stored
 {
     let w = at_most_twenty(k);
     let bytes = spell(w, n);
-    area::copy_into(out, &bytes[..w])
+    utf8::the_area::copy_into(out, &bytes[..w])
 }
 
 // By rule W9.

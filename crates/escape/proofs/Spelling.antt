@@ -7,8 +7,8 @@ use mathlib.Core.Logic.{⊎_elim}
 use native.Mathlib.Nat.{mul-suc}
 use native.Mathlib.Omega.{arith}
 use lib.ListN.{length, drop, get_or, length-append, drop_of_length-le}
-use Rattle.area.proofs.Lists.{drop-next}
-use Rattle.area.proofs.Laying.{Laying, laying_on}
+use Rattle.copying.proofs.of_area.Lists.{drop-next}
+use Rattle.copying.proofs.of_area.Laying.{Laying, laying_on}
 use Rattle.escape.specs.Escape.{spelled}
 
 module _ (table : ℕ → List ℕ) where

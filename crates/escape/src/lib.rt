@@ -2,13 +2,14 @@
 #![tactic(auto)]
 
 ghost use Rattle.std.specs.Prelude.{◌≡◌, ◌+◌, ◌≤◌, length};
-ghost use Rattle.area.specs.Area.{stored_answer, placing, laid};
+ghost use Rattle.copying.specs.of_area.Area.{stored_answer, placing, laid};
 ghost use Rattle.escape.specs.Escape.{marked, letter, escaped};
 ghost use Rattle.escape.specs.inside.Plain.{plain};
-ghost use Rattle.refusal.specs.declared.Cause.TheVariants as cause;
+ghost use Rattle.copying.specs.of_refusal.declared.Cause.TheVariants as cause;
 
-use area::Stored;
+pub use copying as the_copying;
 use copying::copy_into;
+use copying::the_area::Stored;
 
 fn is_marked(b: u8) -> bool
     ensures { result ≡ marked b }

@@ -4,16 +4,16 @@ use mathlib.Core.Path.{◌≡◌, refl, ap, ◌∙◌}
 use mathlib.Core.List.{List}
 use native.Mathlib.Omega.{arith}
 use lib.ListN.{length, length-replicate}
-use Rattle.refusal.specs.Refusal.{refused, late, no_refusal}
-use Rattle.refusal.specs.declared.Refusal.{Refusal}
-use Rattle.refusal.specs.declared.Verdict.TheVariants.{Accepted}
-use Rattle.refusal.specs.declared.Cause.TheVariants as cause
-use Rattle.area.specs.Answer.{Answer, gives, refuses}
-use Rattle.area.specs.Area.{zeros, placing, laid}
-use Rattle.area.specs.declared.Stored.TheVariants.{Put, Full}
-use Rattle.list_text.specs.Listing.{outcome_of, output_for}
-use Rattle.list_text.specs.inside.Behind.{Filled, filled, behind, Puts}
-use Rattle.explain_text.specs.Explanation.{line_of, line_answer, explained, explanation_in}
+use Rattle.explain_sentence.specs.of_refusal.Refusal.{refused, late, no_refusal}
+use Rattle.explain_sentence.specs.of_refusal.declared.Refusal.{Refusal}
+use Rattle.explain_sentence.specs.of_refusal.declared.Verdict.TheVariants.{Accepted}
+use Rattle.explain_sentence.specs.of_refusal.declared.Cause.TheVariants as cause
+use Rattle.explain_sentence.specs.of_area.Answer.{Answer, gives, refuses}
+use Rattle.explain_sentence.specs.of_area.Area.{zeros, placing, laid}
+use Rattle.explain_sentence.specs.of_area.declared.Stored.TheVariants.{Put, Full}
+use Rattle.explain_sentence.specs.of_list_text.Listing.{outcome_of, output_for}
+use Rattle.explain_sentence.specs.of_list_text.inside.Behind.{Filled, filled, behind, Puts}
+use Rattle.explain_sentence.specs.of_explain_text.Explanation.{line_of, line_answer, explained, explanation_in}
 use Rattle.explain.specs.declared.Explained.{Explained}
 use Rattle.explain.specs.Answer.{explained_from}
 

@@ -1,8 +1,8 @@
 -- Answers of explaining worked out. Assumes nothing.
 use mathlib.Core.Path.{◌≡◌, refl}
-use Rattle.refusal.specs.Refusal.{accepted, refused, late, empty_path, no_refusal}
-use Rattle.refusal.specs.declared.Cause.TheVariants.{OutputFull}
-use Rattle.refusal.specs.declared.Verdict.TheVariants.{Accepted, Refused}
+use Rattle.explain_sentence.specs.of_refusal.Refusal.{accepted, refused, late, empty_path, no_refusal}
+use Rattle.explain_sentence.specs.of_refusal.declared.Cause.TheVariants.{OutputFull}
+use Rattle.explain_sentence.specs.of_refusal.declared.Verdict.TheVariants.{Accepted, Refused}
 use Rattle.explain.specs.Answer.{explained_from}
 
 explained : explained_from (accepted 45) ≡ record { verdict = Accepted; length = 45; refusal = no_refusal }

@@ -1,6 +1,6 @@
 -- What explaining answers. Definitions only.
 use Rattle.std.specs.Prelude.{ℕ}
-use Rattle.refusal.specs.Refusal.{Outcome, accepted, refused, verdict_of, refusal_of}
+use Rattle.explain_sentence.specs.of_refusal.Refusal.{Outcome, accepted, refused, verdict_of, refusal_of}
 use Rattle.explain.specs.declared.Explained.{Explained}
 
 -- how many bytes were put; none at a refusal

@@ -2,17 +2,18 @@
 #![tactic(auto)]
 
 ghost use Rattle.std.specs.Prelude.{◌≡◌, length};
-ghost use Rattle.refusal.specs.Refusal.{refused, late};
-ghost use Rattle.area.specs.declared.Stored.TheVariants.{Put};
-ghost use Rattle.list_text.specs.inside.Behind.{filled, Puts};
-ghost use Rattle.explain_text.specs.Explanation.{line_of, explained, explanation_in};
+ghost use Rattle.explain_sentence.specs.of_refusal.Refusal.{refused, late};
+ghost use Rattle.explain_sentence.specs.of_area.declared.Stored.TheVariants.{Put};
+ghost use Rattle.explain_sentence.specs.of_list_text.inside.Behind.{filled, Puts};
+ghost use Rattle.explain_sentence.specs.of_explain_text.Explanation.{line_of, explained, explanation_in};
 ghost use Rattle.explain.specs.Answer.{explained_from};
 
-use area::Stored;
 use explain_place::{put_path, put_place};
 use explain_sentence::put_sentence;
-use list_text::{put, put_decimal};
-use refusal::{Cause, Refusal, Verdict, no_refusal, number_of, refuse_late};
+use explain_sentence::the_area::Stored;
+use explain_sentence::the_list_text::{put, put_decimal};
+use explain_sentence::the_refusal::{Cause, Refusal, Verdict, no_refusal, number_of, refuse_late};
+pub use explain_sentence::the_time_text;
 
 // How many bytes the line has, or why there is none.
 #[derive(Clone, Copy)]
@@ -66,10 +67,10 @@ pub fn explain(
     ensures value { result ≡ explained_from (explained events.now attributes.now source.now refusal lent (length out.old)) }
     ensures out_after { out.new ≡ explanation_in events.now attributes.now source.now refusal lent (length out.old) }
 {
-    area::clear(out);
+    explain_sentence::the_area::clear(out);
     let put = put_line(out, events, attributes, source, refusal, lent);
     let Stored::Put(length) = put else {
-        area::clear(out);
+        explain_sentence::the_area::clear(out);
         return refuse(Cause::OutputFull);
     };
     Explained {

@@ -5,13 +5,13 @@ use mathlib.Core.List.{List, [], ◌++◌, append-nil}
 use mathlib.Core.Bool.{Bool, true, false, cond, ◌||◌, true≢false}
 use borrow.Author.Tests.{eq-eqb, ne_eqb, eqb-true}
 use lib.Dec.{eqb}
-use Rattle.refusal.specs.declared.PathElement.{PathElement}
-use Rattle.names.specs.Bytes.{bytes}
-use Rattle.names.specs.Keys.{keys}
-use Rattle.digits.specs.Digits.{decimal}
-use Rattle.explain_text.specs.Explanation.{kind_names, attribute_names, named, attribute, has_name, has_index, index_text, bracketed, name_at, name_text, element_text}
-use Rattle.explain_lines.specs.Lines.{line_in}
-use Rattle.explain_lines.proofs.Tables.{table_at}
+use Rattle.explain_name.specs.of_refusal.declared.PathElement.{PathElement}
+use Rattle.explain_name.specs.of_names.Bytes.{bytes}
+use Rattle.explain_name.specs.of_names.Keys.{keys}
+use Rattle.explain_name.specs.of_digits.Digits.{decimal}
+use Rattle.explain_name.specs.of_explain_text.Explanation.{kind_names, attribute_names, named, attribute, has_name, has_index, index_text, bracketed, name_at, name_text, element_text}
+use Rattle.explain_name.specs.of_explain_lines.Lines.{line_in}
+use Rattle.explain_name.proofs.of_explain_lines.Tables.{table_at}
 
 -- ---- names by their codes
 abbrev pub kind_table : List ℕ

@@ -2,15 +2,16 @@
 #![tactic(auto)]
 
 ghost use Rattle.std.specs.Prelude.{◌≡◌};
-ghost use Rattle.list_text.specs.inside.Behind.{filled, Puts};
-ghost use Rattle.explain_text.specs.Explanation.{kind_names, attribute_names, named, has_name, index_text, element_text};
+ghost use Rattle.explain_name.specs.of_list_text.inside.Behind.{filled, Puts};
+ghost use Rattle.explain_name.specs.of_explain_text.Explanation.{kind_names, attribute_names, named, has_name, index_text, element_text};
 
-use area::{Stored, least, wide};
-use explain_lines::line_in;
 use explain_name::put_name;
-use list_text::{put, put_decimal};
-use names::tag;
-use refusal::PathElement;
+use explain_name::the_area::{Stored, least, wide};
+use explain_name::the_explain_lines::line_in;
+use explain_name::the_list_text::{put, put_decimal};
+use explain_name::the_names::tag;
+use explain_name::the_refusal::PathElement;
+pub use explain_name::{the_area, the_list_text, the_refusal};
 
 const ATTRIBUTE: usize = 16;
 

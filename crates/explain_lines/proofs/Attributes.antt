@@ -4,7 +4,7 @@ use mathlib.Core.Path.{◌≡◌, sym, ap, ◌∙◌}
 use mathlib.Core.List.{List, []}
 use native.Mathlib.Omega.{arith}
 use lib.ListN.{length, get_or, take, drop, get_or-eq_default}
-use Rattle.area.proofs.Parts.{rest_part}
+use Rattle.table.proofs.of_area.Parts.{rest_part}
 use Rattle.table.specs.Table.{word}
 use Rattle.table.specs.Event.{part, value_at}
 use Rattle.table.proofs.Words.{part_at}

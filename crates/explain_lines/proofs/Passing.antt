@@ -6,9 +6,9 @@ use native.Mathlib.Nat.{zero-min, min-zero, suc-min-suc}
 use native.Mathlib.Omega.{arith}
 use lib.ListN.{length, take, drop, length-drop}
 use lib.Seq.{drop-drop}
-use Rattle.area.specs.Area.{first_at}
-use Rattle.area.proofs.Parts.{rest_part}
-use Rattle.area.proofs.Seeking.{first-within}
+use Rattle.table.specs.of_area.Area.{first_at}
+use Rattle.table.proofs.of_area.Parts.{rest_part}
+use Rattle.table.proofs.of_area.Seeking.{first-within}
 use Rattle.explain_lines.specs.Lines.{past, line_in}
 
 drop-least : (n : ℕ) (l : List ℕ) → drop (min n (length l)) l ≡ drop n l

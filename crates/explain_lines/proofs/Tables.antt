@@ -5,7 +5,7 @@ use mathlib.Core.List.{List, [], ◌∷◌, ◌++◌}
 use native.Mathlib.Nat.{zero-min, min-zero, suc-min-suc, min-le_right}
 use native.Mathlib.Omega.{arith}
 use lib.ListN.{length, take, drop, get_or}
-use Rattle.area.specs.Area.{first_at}
+use Rattle.table.specs.of_area.Area.{first_at}
 use Rattle.explain_lines.specs.Lines.{line_in}
 
 -- the first n lines

@@ -1,6 +1,6 @@
 -- The lines of a text. Definitions only.
 use Rattle.std.specs.Prelude.{ℕ, zero, suc, List, take, drop}
-use Rattle.area.specs.Area.{first_at}
+use Rattle.table.specs.of_area.Area.{first_at}
 
 -- the text behind its first n lines
 abbrev pub past : ℕ → List ℕ → List ℕ

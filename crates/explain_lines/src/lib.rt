@@ -5,8 +5,8 @@ ghost use Rattle.std.specs.Prelude.{◌≡◌};
 ghost use Rattle.table.specs.Event.{value_at};
 ghost use Rattle.explain_lines.specs.Lines.{line_in};
 
-use area::{first_at, least, wide};
-use table_parts::{bytes_of, word_of};
+use table::the_area::{first_at, least, wide};
+use table::the_table_parts::{bytes_of, word_of};
 
 // The line with i before it, without its newline.
 pub fn line_in(text: &[u8], i: usize) -> &[u8]

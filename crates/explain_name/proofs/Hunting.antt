@@ -5,9 +5,9 @@ use mathlib.Core.List.{List}
 use mathlib.Core.Bool.{Bool, true, false, cond}
 use native.Mathlib.Omega.{arith}
 use lib.ListN.{length, get_or, take, drop}
-use Rattle.names.specs.Bytes.{bytes}
-use Rattle.names.specs.Names.{same_bytes}
-use Rattle.table.specs.Event.{part, key_at}
+use Rattle.table_events.specs.of_names.Bytes.{bytes}
+use Rattle.table_events.specs.of_names.Names.{same_bytes}
+use Rattle.table_events.specs.of_table.Event.{part, key_at}
 use Rattle.explain_lines.proofs.Attributes.{lent-part, no_part}
 use Rattle.explain_name.specs.inside.Found.{named_from}
 

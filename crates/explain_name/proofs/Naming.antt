@@ -7,12 +7,12 @@ use mathlib.Core.Option.{none}
 use native.Mathlib.Omega.{arith}
 use borrow.Author.Tests.{ltb-true, ltb-false, leb-false, ne_eqb, eqb-false}
 use lib.Dec.{ltb, leb, eqb}
-use Rattle.refusal.specs.Refusal.{nowhere}
-use Rattle.names.specs.Bytes.{bytes}
-use Rattle.names.specs.Names.{same_bytes}
-use Rattle.table.specs.Kinds as kind
-use Rattle.table.specs.Table.{word, count_of}
-use Rattle.table.specs.Event.{Attribute, Tag, End, Piece, Text, CData, Ref, Other, Indent, Eof, Fault, kind_at, bytes_at, key_at, value_at, attributes_from, event_of, event_at}
+use Rattle.table_events.specs.of_refusal.Refusal.{nowhere}
+use Rattle.table_events.specs.of_names.Bytes.{bytes}
+use Rattle.table_events.specs.of_names.Names.{same_bytes}
+use Rattle.table_events.specs.of_table.Kinds as kind
+use Rattle.table_events.specs.of_table.Table.{word, count_of}
+use Rattle.table_events.specs.of_table.Event.{Attribute, Tag, End, Piece, Text, CData, Ref, Other, Indent, Eof, Fault, kind_at, bytes_at, key_at, value_at, attributes_from, event_of, event_at}
 use Rattle.table_events.specs.inside.Ranges.{first_at, end_at}
 use Rattle.table_events.proofs.Attributing.{ranged, range-order, range-attributes}
 use Rattle.explain_text.specs.Explanation.{text_of, name_in, name_of, name_at}

@@ -7,17 +7,17 @@ use native.Mathlib.Omega.{arith}
 use borrow.Author.Tests.{ltb-true, ltb-false}
 use lib.Dec.{ltb}
 use lib.ListN.{length, take, drop}
-use Rattle.area.specs.declared.Stored.{Stored}
-use Rattle.names.specs.Bytes.{bytes}
-use Rattle.escape.specs.Escape.{listed, escaped}
-use Rattle.escape.proofs.Spelling.{spelled-append}
-use Rattle.reference.specs.Reference.{decoded}
-use Rattle.text.specs.Decode.{is_value, piece_of, piece_width, cleaned, Pieced}
-use Rattle.text.specs.Value.{value_text}
-use Rattle.text.specs.declared.decode.Piece.{Piece}
-use Rattle.text.proofs.Pieces.{piece_moves, piece-fits, piece-next, piece-end}
-use Rattle.list_text.specs.inside.Behind.{Filled, filled, is_full, Puts}
-use Rattle.list_text.proofs.Putting.{Coming, coming-start, coming_on, coming_puts, coming-stop, other, puts_none}
+use Rattle.table_events.specs.of_area.declared.Stored.{Stored}
+use Rattle.table_events.specs.of_names.Bytes.{bytes}
+use Rattle.explain_text.specs.of_escape.Escape.{listed, escaped}
+use Rattle.explain_text.proofs.of_escape.Spelling.{spelled-append}
+use Rattle.explain_text.specs.of_reference.Reference.{decoded}
+use Rattle.explain_text.specs.of_text.Decode.{is_value, piece_of, piece_width, cleaned, Pieced}
+use Rattle.explain_text.specs.of_text.Value.{value_text}
+use Rattle.explain_text.specs.of_text.declared.decode.Piece.{Piece}
+use Rattle.explain_text.proofs.of_text.Pieces.{piece_moves, piece-fits, piece-next, piece-end}
+use Rattle.explain_text.specs.of_list_text.inside.Behind.{Filled, filled, is_full, Puts}
+use Rattle.explain_text.proofs.of_list_text.Putting.{Coming, coming-start, coming_on, coming_puts, coming-stop, other, puts_none}
 use Rattle.explain_text.specs.Explanation.{text_of, bracketed}
 
 -- the loop goes on, and there are bytes left

@@ -2,27 +2,30 @@
 #![tactic(auto)]
 
 ghost use Rattle.std.specs.Prelude.{◌≡◌, ◌-◌, get_or};
-ghost use Rattle.names.specs.Bytes.{bytes};
-ghost use Rattle.names.specs.Names.{same_bytes};
-ghost use Rattle.escape.specs.Escape.{escaped};
-ghost use Rattle.text.specs.Decode.{is_value};
-ghost use Rattle.text.specs.Value.{value_text};
-ghost use Rattle.table.specs.Event.{part};
-ghost use Rattle.list_text.specs.inside.Behind.{filled, Puts};
+ghost use Rattle.table_events.specs.of_names.Bytes.{bytes};
+ghost use Rattle.table_events.specs.of_names.Names.{same_bytes};
+ghost use Rattle.explain_text.specs.of_escape.Escape.{escaped};
+ghost use Rattle.explain_text.specs.of_text.Decode.{is_value};
+ghost use Rattle.explain_text.specs.of_text.Value.{value_text};
+ghost use Rattle.table_events.specs.of_table.Event.{part};
+ghost use Rattle.explain_text.specs.of_list_text.inside.Behind.{filled, Puts};
 ghost use Rattle.explain_text.specs.Explanation.{text_of, name_at, bracketed};
 ghost use Rattle.explain_name.specs.inside.Found.{named_from};
 
-use area::{Stored, wide};
+pub use explain_lines as the_explain_lines;
 use explain_lines::value_at;
-use list_text::{is_open, put, put_escaped};
-use names::same;
-use reference::refs_ok;
-use refusal::NOWHERE;
-use table::kind;
+pub use explain_text::the_list_text;
+use explain_text::the_list_text::{is_open, put, put_escaped};
+use explain_text::the_reference::refs_ok;
+use explain_text::the_text::decode::piece_of;
+use explain_text::the_utf8::is_utf8;
+use table_events::the_area::{Stored, wide};
+use table_events::the_names::same;
+use table_events::the_refusal::NOWHERE;
+use table_events::the_table::kind;
+use table_events::the_table_parts::{bytes_of, word_of};
+pub use table_events::{the_area, the_names, the_refusal};
 use table_events::{end_at, first_at, kind_at};
-use table_parts::{bytes_of, word_of};
-use text::decode::piece_of;
-use utf8::is_utf8;
 
 fn is_value(s: &[u8]) -> bool
     ensures { result ≡ is_value s.now }

@@ -3,10 +3,10 @@ use Prim.Native.Nat.{ℕ}
 use mathlib.Core.Path.{◌≡◌, refl, sym, ap}
 use mathlib.Core.List.{List, [], ◌++◌, append_assoc}
 use borrow.Author.Tests.{eq-eqb, ne_eqb}
-use Rattle.refusal.specs.Refusal.{nowhere}
-use Rattle.names.specs.Bytes.{bytes}
-use Rattle.digits.specs.Digits.{decimal}
-use Rattle.explain_text.specs.Explanation.{place_text}
+use Rattle.explain_element.specs.of_refusal.Refusal.{nowhere}
+use Rattle.explain_element.specs.of_names.Bytes.{bytes}
+use Rattle.explain_element.specs.of_digits.Digits.{decimal}
+use Rattle.explain_element.specs.of_explain_text.Explanation.{place_text}
 
 module _ (event attribute : ℕ) where
   pub no-event : event ≡ nowhere → [] ≡ place_text event attribute

@@ -11,14 +11,14 @@ use borrow.Author.Tests.{eq-eqb, ne_eqb, ltb-true, ltb-false}
 use lib.Dec.{ltb}
 use lib.ListN.{length, get_or, take, drop, drop_of_length-le}
 use lib.Seq.{length-take-le, take_all, drop-cons, get_or-take}
-use Rattle.refusal.specs.Refusal.{filler}
-use Rattle.refusal.specs.declared.PathElement.{PathElement}
-use Rattle.refusal.specs.declared.Path.{Path}
-use Rattle.area.specs.declared.Stored.{Stored}
-use Rattle.names.specs.Bytes.{bytes}
-use Rattle.list_text.specs.inside.Behind.{filled, is_full, Puts}
-use Rattle.list_text.proofs.Putting.{Coming, coming-start, coming_on, coming_puts, coming-stop}
-use Rattle.explain_text.specs.Explanation.{six, element_text, elements_text, path_text}
+use Rattle.explain_element.specs.of_refusal.Refusal.{filler}
+use Rattle.explain_element.specs.of_refusal.declared.PathElement.{PathElement}
+use Rattle.explain_element.specs.of_refusal.declared.Path.{Path}
+use Rattle.explain_element.specs.of_area.declared.Stored.{Stored}
+use Rattle.explain_element.specs.of_names.Bytes.{bytes}
+use Rattle.explain_element.specs.of_list_text.inside.Behind.{filled, is_full, Puts}
+use Rattle.explain_element.proofs.of_list_text.Putting.{Coming, coming-start, coming_on, coming_puts, coming-stop}
+use Rattle.explain_element.specs.of_explain_text.Explanation.{six, element_text, elements_text, path_text}
 use Rattle.explain_place.specs.inside.Marks.{mark_at}
 
 pub goes_on : (a : Bool) (i n : ℕ) → (a && ltb i n) ≡ true → i < n

@@ -2,14 +2,14 @@
 #![tactic(auto)]
 
 ghost use Rattle.std.specs.Prelude.{◌++◌};
-ghost use Rattle.list_text.specs.inside.Behind.{filled, Puts};
-ghost use Rattle.explain_text.specs.Explanation.{element_text, path_text, place_text};
+ghost use Rattle.explain_element.specs.of_list_text.inside.Behind.{filled, Puts};
+ghost use Rattle.explain_element.specs.of_explain_text.Explanation.{element_text, path_text, place_text};
 ghost use Rattle.explain_place.specs.inside.Marks.{mark_at};
 
-use area::{Stored, least};
 use explain_element::put_element;
-use list_text::{is_open, put, put_decimal};
-use refusal::{NOWHERE, Path, PathElement};
+use explain_element::the_area::{Stored, least};
+use explain_element::the_list_text::{is_open, put, put_decimal};
+use explain_element::the_refusal::{NOWHERE, Path, PathElement};
 
 // The element with i before it.
 fn put_step(

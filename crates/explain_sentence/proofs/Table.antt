@@ -5,11 +5,11 @@ use mathlib.Core.List.{List, [], ◌∷◌, ◌++◌}
 use mathlib.Core.Bool.{Bool, true, false, cond, ◌&&◌}
 use lib.Dec.{leb, eqb}
 use lib.ListN.{get_or}
-use Rattle.area.specs.Limits.{most_words, most_bytes}
-use Rattle.refusal.specs.declared.Cause.{Cause}
-use Rattle.refusal.specs.declared.Cause.TheVariants.{XmlFault, EofInSkip, NotUtf8, BadInteger, BadTimestamp, BadTime, BadUuid, MissingAttribute, MissingReport, EofInElement, StatusRule}
-use Rattle.refusal.specs.declared.Cause.TheVariants.{UnknownEntity, FaultyAttribute, RepeatedKey, BadReference, BadTable, RecordsSpent}
-use Rattle.refusal.specs.declared.Cause.TheVariants.{TextFull, ScratchFull, NotLayout, OutputFull, CountLimit, TooManyCases, NoSuchReport, TooManyReports, TimeLimit}
+use Rattle.explain_text.specs.of_area.Limits.{most_words, most_bytes}
+use Rattle.explain_text.specs.of_refusal.declared.Cause.{Cause}
+use Rattle.explain_text.specs.of_refusal.declared.Cause.TheVariants.{XmlFault, EofInSkip, NotUtf8, BadInteger, BadTimestamp, BadTime, BadUuid, MissingAttribute, MissingReport, EofInElement, StatusRule}
+use Rattle.explain_text.specs.of_refusal.declared.Cause.TheVariants.{UnknownEntity, FaultyAttribute, RepeatedKey, BadReference, BadTable, RecordsSpent}
+use Rattle.explain_text.specs.of_refusal.declared.Cause.TheVariants.{TextFull, ScratchFull, NotLayout, OutputFull, CountLimit, TooManyCases, NoSuchReport, TooManyReports, TimeLimit}
 use Rattle.explain_text.specs.Sentences.{sentence}
 use Rattle.explain_lines.specs.Lines.{line_in}
 use Rattle.explain_lines.proofs.Tables.{table_at}

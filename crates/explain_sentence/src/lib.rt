@@ -2,14 +2,15 @@
 #![tactic(auto)]
 
 ghost use Rattle.std.specs.Prelude.{◌≡◌};
-ghost use Rattle.list_text.specs.inside.Behind.{filled, Puts};
+ghost use Rattle.explain_text.specs.of_list_text.inside.Behind.{filled, Puts};
 ghost use Rattle.explain_text.specs.Sentences.{sentence};
 ghost use Rattle.explain_sentence.specs.inside.Place.{place_of, place_by};
 
-use area::{Stored, limit};
 use explain_lines::line_in;
-use list_text::put;
-use refusal::Cause;
+use explain_text::the_area::{Stored, limit};
+use explain_text::the_list_text::put;
+use explain_text::the_refusal::Cause;
+pub use explain_text::{the_area, the_list_text, the_refusal, the_time_text};
 
 // The line of a cause's sentence in the table below.
 fn place_of(cause: Cause) -> usize

@@ -1,1 +1,2 @@
 pub mod Spots
+pub use Rattle.area.specs as of_area

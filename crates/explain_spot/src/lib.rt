@@ -4,6 +4,8 @@
 ghost use Rattle.std.specs.Prelude.{◌≡◌, take};
 ghost use Rattle.explain_spot.specs.Spots.{line_behind, column_behind};
 
+pub use area as the_area;
+
 // The bytes before the one at `at`; all of them where there are fewer.
 pub fn before(s: &[u8], at: usize) -> &[u8]
     ensures { result.now ≡ take at s.now }

@@ -2,20 +2,20 @@
 use Prim.Native.Nat.{ℕ}
 use mathlib.Core.Path.{◌≡◌, refl}
 use mathlib.Core.List.{List, [], ◌∷◌, ◌++◌}
-use Rattle.refusal.specs.Refusal.{nowhere, refusal_from, late, accepted, refused}
-use Rattle.refusal.specs.declared.Cause.{Cause}
-use Rattle.refusal.specs.declared.Cause.TheVariants as cause
-use Rattle.refusal.specs.declared.PathElement.{PathElement}
-use Rattle.refusal.specs.declared.Refusal.{Refusal}
-use Rattle.area.specs.Area.{zeros}
-use Rattle.names.specs.Bytes.{bytes}
-use Rattle.names.specs.Names.{same_bytes, code_from}
-use Rattle.names.specs.Keys.{keys}
-use Rattle.utf8.specs.Utf8.{need, low, high}
-use Rattle.utf8.specs.Characters.{encode}
-use Rattle.digits.specs.Digits.{digit, is_number, places, decimal}
-use Rattle.reference.specs.Reference.{xml_char, entities, entity_chars, is_entity, entity_char, base, digits_in, number, is_char_ref, ref_at}
-use Rattle.escape.specs.Escape.{letter, listed}
+use Rattle.text.specs.of_refusal.Refusal.{nowhere, refusal_from, late, accepted, refused}
+use Rattle.text.specs.of_refusal.declared.Cause.{Cause}
+use Rattle.text.specs.of_refusal.declared.Cause.TheVariants as cause
+use Rattle.text.specs.of_refusal.declared.PathElement.{PathElement}
+use Rattle.text.specs.of_refusal.declared.Refusal.{Refusal}
+use Rattle.text.specs.of_area.Area.{zeros}
+use Rattle.text.specs.of_names.Bytes.{bytes}
+use Rattle.text.specs.of_names.Names.{same_bytes, code_from}
+use Rattle.text.specs.of_names.Keys.{keys}
+use Rattle.text.specs.of_utf8.Utf8.{need, low, high}
+use Rattle.text.specs.of_utf8.Characters.{encode}
+use Rattle.text.specs.of_digits.Digits.{digit, is_number, places, decimal}
+use Rattle.text.specs.of_reference.Reference.{xml_char, entities, entity_chars, is_entity, entity_char, base, digits_in, number, is_char_ref, ref_at}
+use Rattle.list_text.specs.of_escape.Escape.{letter, listed}
 use Rattle.table.specs.Event.{attributes_from, event_of, event_at}
 use Rattle.explain_text.specs.Sentences.{sentence}
 use Rattle.explain_text.specs.Explanation.{kind_names, attribute_names, index_text, place_text, name_at, element_text, elements_text, path_text, line_of, line_answer, explained, explanation_in}

@@ -8,20 +8,20 @@ use native.Mathlib.Omega.{arith}
 use borrow.Author.Tests.{ne_eqb, not-true}
 use lib.Dec.{leb, eqb}
 use lib.ListN.{length}
-use Rattle.refusal.specs.Refusal.{nowhere, number}
-use Rattle.refusal.specs.declared.Cause.{Cause}
-use Rattle.refusal.specs.declared.Cause.TheVariants.{XmlFault, EofInSkip, NotUtf8, BadInteger, BadTimestamp, BadTime, BadUuid, MissingAttribute, MissingReport, EofInElement, StatusRule}
-use Rattle.refusal.specs.declared.Cause.TheVariants.{UnknownEntity, FaultyAttribute, RepeatedKey, BadReference, BadTable, RecordsSpent}
-use Rattle.refusal.specs.declared.Cause.TheVariants.{TextFull, ScratchFull, NotLayout, OutputFull, CountLimit, TooManyCases, NoSuchReport}
-use Rattle.refusal.specs.declared.Cause.TheVariants.{TooManyReports, TimeLimit}
-use Rattle.refusal.specs.declared.PathElement.{PathElement}
-use Rattle.refusal.specs.declared.Refusal.{Refusal}
-use Rattle.area.specs.Area.{first_at}
-use Rattle.area.specs.Limits.{most_words, most_bytes}
-use Rattle.names.specs.Bytes.{bytes}
-use Rattle.names.specs.Keys.{keys}
-use Rattle.digits.specs.Digits.{last_digits_of, places, decimal}
-use Rattle.escape.specs.Escape.{marked, letter, listed, escaped}
+use Rattle.text.specs.of_refusal.Refusal.{nowhere, number}
+use Rattle.text.specs.of_refusal.declared.Cause.{Cause}
+use Rattle.text.specs.of_refusal.declared.Cause.TheVariants.{XmlFault, EofInSkip, NotUtf8, BadInteger, BadTimestamp, BadTime, BadUuid, MissingAttribute, MissingReport, EofInElement, StatusRule}
+use Rattle.text.specs.of_refusal.declared.Cause.TheVariants.{UnknownEntity, FaultyAttribute, RepeatedKey, BadReference, BadTable, RecordsSpent}
+use Rattle.text.specs.of_refusal.declared.Cause.TheVariants.{TextFull, ScratchFull, NotLayout, OutputFull, CountLimit, TooManyCases, NoSuchReport}
+use Rattle.text.specs.of_refusal.declared.Cause.TheVariants.{TooManyReports, TimeLimit}
+use Rattle.text.specs.of_refusal.declared.PathElement.{PathElement}
+use Rattle.text.specs.of_refusal.declared.Refusal.{Refusal}
+use Rattle.text.specs.of_area.Area.{first_at}
+use Rattle.text.specs.of_area.Limits.{most_words, most_bytes}
+use Rattle.text.specs.of_names.Bytes.{bytes}
+use Rattle.text.specs.of_names.Keys.{keys}
+use Rattle.text.specs.of_digits.Digits.{last_digits_of, places, decimal}
+use Rattle.list_text.specs.of_escape.Escape.{marked, letter, listed, escaped}
 use Rattle.explain_text.specs.Sentences.{sentence}
 use Rattle.explain_text.specs.Explanation.{kind_names, attribute_names, named, attribute, has_name, has_index, index_text, bracketed, attribute_text}
 use Rattle.explain_text.specs.Explanation.{elements_of, attribute_shown, place_text, name_at, name_text, element_text, elements_text, path_text, line_of}

@@ -4,8 +4,8 @@ use mathlib.Core.Path.{◌≡◌, refl}
 use mathlib.Core.List.{List, [], ◌∷◌}
 use native.Mathlib.Omega.{arith}
 use lib.ListN.{length}
-use Rattle.refusal.specs.Refusal.{path_from}
-use Rattle.refusal.specs.declared.PathElement.{PathElement}
+use Rattle.text.specs.of_refusal.Refusal.{path_from}
+use Rattle.text.specs.of_refusal.declared.PathElement.{PathElement}
 use Rattle.explain_text.specs.Explanation.{elements_of}
 
 pub path-shown : (es : List PathElement) → length es ≤ 6 → elements_of (path_from es) ≡ es

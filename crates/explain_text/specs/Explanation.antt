@@ -3,18 +3,18 @@
 -- It may hold private text, a name. Definitions only.
 use Rattle.std.specs.Prelude.{ℕ, List, [], ◌∷◌, ◌++◌, Bool, cond, ◌||◌, get_or, take, drop, leb, eqb}
 use Rattle.std.proofs.Math.Option.{Option, none, some}
-use Rattle.refusal.specs.Refusal.{nowhere, number, filler, Outcome}
-use Rattle.refusal.specs.declared.PathElement.{PathElement}
-use Rattle.refusal.specs.declared.Path.{Path}
-use Rattle.refusal.specs.declared.Refusal.{Refusal}
-use Rattle.refusal.specs.declared.Cause.TheVariants as cause
-use Rattle.area.specs.Answer.{Answer}
-use Rattle.area.specs.Area.{placing}
-use Rattle.names.specs.Bytes.{bytes}
-use Rattle.names.specs.Names.{same_bytes}
-use Rattle.names.specs.Keys.{keys}
-use Rattle.names.specs.Tags as tag
-use Rattle.digits.specs.Digits.{decimal}
+use Rattle.text.specs.of_refusal.Refusal.{nowhere, number, filler, Outcome}
+use Rattle.text.specs.of_refusal.declared.PathElement.{PathElement}
+use Rattle.text.specs.of_refusal.declared.Path.{Path}
+use Rattle.text.specs.of_refusal.declared.Refusal.{Refusal}
+use Rattle.text.specs.of_refusal.declared.Cause.TheVariants as cause
+use Rattle.text.specs.of_area.Answer.{Answer}
+use Rattle.text.specs.of_area.Area.{placing}
+use Rattle.text.specs.of_names.Bytes.{bytes}
+use Rattle.text.specs.of_names.Names.{same_bytes}
+use Rattle.text.specs.of_names.Keys.{keys}
+use Rattle.text.specs.of_names.Tags as tag
+use Rattle.text.specs.of_digits.Digits.{decimal}
 use Rattle.text.specs.Decode.{is_value}
 use Rattle.text.specs.Value.{value_text}
 use Rattle.table.specs.Table.{count_of}

@@ -1,12 +1,12 @@
 -- Each cause in plain words: what is wrong, or what stands there where it is right. Definitions only.
 use Rattle.std.specs.Prelude.{ℕ, List, cond, leb}
-use Rattle.area.specs.Limits.{most_words, most_bytes}
-use Rattle.names.specs.Bytes.{bytes}
-use Rattle.refusal.specs.declared.Cause.{Cause}
-use Rattle.refusal.specs.declared.Cause.TheVariants.{XmlFault, EofInSkip, NotUtf8, BadInteger, BadTimestamp, BadTime, BadUuid, MissingAttribute, MissingReport, EofInElement, StatusRule}
-use Rattle.refusal.specs.declared.Cause.TheVariants.{UnknownEntity, FaultyAttribute, RepeatedKey, BadReference, BadTable, RecordsSpent}
-use Rattle.refusal.specs.declared.Cause.TheVariants.{TextFull, ScratchFull, NotLayout, OutputFull, CountLimit, TooManyCases, NoSuchReport}
-use Rattle.refusal.specs.declared.Cause.TheVariants.{TooManyReports, TimeLimit}
+use Rattle.text.specs.of_area.Limits.{most_words, most_bytes}
+use Rattle.text.specs.of_names.Bytes.{bytes}
+use Rattle.text.specs.of_refusal.declared.Cause.{Cause}
+use Rattle.text.specs.of_refusal.declared.Cause.TheVariants.{XmlFault, EofInSkip, NotUtf8, BadInteger, BadTimestamp, BadTime, BadUuid, MissingAttribute, MissingReport, EofInElement, StatusRule}
+use Rattle.text.specs.of_refusal.declared.Cause.TheVariants.{UnknownEntity, FaultyAttribute, RepeatedKey, BadReference, BadTable, RecordsSpent}
+use Rattle.text.specs.of_refusal.declared.Cause.TheVariants.{TextFull, ScratchFull, NotLayout, OutputFull, CountLimit, TooManyCases, NoSuchReport}
+use Rattle.text.specs.of_refusal.declared.Cause.TheVariants.{TooManyReports, TimeLimit}
 
 -- of an area that was lent with so many words or bytes and is too short: other words from the limits' size on, where a longer one wouldn't help (rule E6)
 abbrev pub within : (most lent : ℕ) → (short many : List ℕ) → List ℕ

@@ -4,11 +4,11 @@ use mathlib.Core.Path.{◌≡◌, refl, sym, ap, ◌∙◌}
 use mathlib.Core.List.{List}
 use native.Mathlib.Omega.{arith}
 use lib.ListN.{length, length-replicate}
-use Rattle.refusal.specs.declared.Cause.TheVariants as cause
-use Rattle.area.specs.Answer.{Answer, gives, refuses}
-use Rattle.area.specs.Area.{zeros, placing, laid, stored_answer}
-use Rattle.area.specs.declared.Stored.{Stored}
-use Rattle.area.specs.declared.Stored.TheVariants.{Put, Full}
+use Rattle.list_text.specs.of_refusal.declared.Cause.TheVariants as cause
+use Rattle.explain_spot.specs.of_area.Answer.{Answer, gives, refuses}
+use Rattle.explain_spot.specs.of_area.Area.{zeros, placing, laid, stored_answer}
+use Rattle.explain_spot.specs.of_area.declared.Stored.{Stored}
+use Rattle.explain_spot.specs.of_area.declared.Stored.TheVariants.{Put, Full}
 use Rattle.list_text.specs.Listing.{output_for}
 use Rattle.list_text.specs.inside.Behind.{Filled, filled, behind, Puts}
 use Rattle.explain_xml.specs.XmlExplanation.{xml_line, xml_line_answer, xml_explanation_in}

@@ -1,10 +1,10 @@
 -- Lines worked out. Assumes nothing.
 use mathlib.Core.Path.{◌≡◌, refl}
 use mathlib.Core.List.{[], ◌∷◌, ◌++◌}
-use Rattle.area.specs.Answer.{gives, refuses}
-use Rattle.refusal.specs.declared.Cause.TheVariants.{OutputFull}
-use Rattle.digits.specs.Digits.{digit, places, decimal}
-use Rattle.names.specs.Bytes.{bytes}
+use Rattle.explain_spot.specs.of_area.Answer.{gives, refuses}
+use Rattle.list_text.specs.of_refusal.declared.Cause.TheVariants.{OutputFull}
+use Rattle.list_text.specs.of_digits.Digits.{digit, places, decimal}
+use Rattle.list_text.specs.of_names.Bytes.{bytes}
 use Rattle.explain_spot.specs.Spots.{line_behind, column_behind}
 use Rattle.explain_xml.specs.XmlExplanation.{spot_text, xml_sentence, xml_line, xml_line_answer}
 

@@ -6,9 +6,9 @@ use mathlib.Core.Bool.{Bool}
 use borrow.Author.Tests.{eq-eqb, ne_eqb}
 use lib.Dec.{leb}
 use lib.ListN.{length, take}
-use Rattle.refusal.specs.Refusal.{nowhere}
-use Rattle.names.specs.Bytes.{bytes}
-use Rattle.digits.specs.Digits.{decimal}
+use Rattle.list_text.specs.of_refusal.Refusal.{nowhere}
+use Rattle.list_text.specs.of_names.Bytes.{bytes}
+use Rattle.list_text.specs.of_digits.Digits.{decimal}
 use Rattle.explain_spot.specs.Spots.{line_behind, column_behind}
 use Rattle.explain_xml.specs.XmlExplanation.{holds_most, spot_text, xml_sentence, xml_line}
 

@@ -5,7 +5,7 @@ use mathlib.Core.List.{List, ◌++◌, ◌∷◌}
 use mathlib.Core.Bool.{Bool, true, false, cond}
 use lib.Dec.{eqb}
 use borrow.Author.Tests.{eq-eqb, ne_eqb}
-use Rattle.names.specs.Bytes.{bytes}
+use Rattle.list_text.specs.of_names.Bytes.{bytes}
 use Rattle.explain_lines.specs.Lines.{line_in}
 use Rattle.explain_xml.specs.XmlExplanation.{short_sentence, xml_sentence}
 use Rattle.explain_xml.specs.inside.Place.{short_place, place_of}

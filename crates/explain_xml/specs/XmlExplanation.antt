@@ -2,13 +2,13 @@
 -- `refused 18 at byte 12, line 2, column 5: from this byte on the document is not well-formed XML`.
 -- Definitions only.
 use Rattle.std.specs.Prelude.{ℕ, ◌/◌, List, [], ◌++◌, Bool, true, false, cond, length, take, leb, eqb}
-use Rattle.refusal.specs.Refusal.{nowhere}
-use Rattle.refusal.specs.declared.Cause.TheVariants as cause
-use Rattle.area.specs.Answer.{Answer}
-use Rattle.area.specs.Area.{placing}
-use Rattle.area.specs.Limits.{most_entries}
-use Rattle.names.specs.Bytes.{bytes}
-use Rattle.digits.specs.Digits.{decimal}
+use Rattle.list_text.specs.of_refusal.Refusal.{nowhere}
+use Rattle.list_text.specs.of_refusal.declared.Cause.TheVariants as cause
+use Rattle.explain_spot.specs.of_area.Answer.{Answer}
+use Rattle.explain_spot.specs.of_area.Area.{placing}
+use Rattle.explain_spot.specs.of_area.Limits.{most_entries}
+use Rattle.list_text.specs.of_names.Bytes.{bytes}
+use Rattle.list_text.specs.of_digits.Digits.{decimal}
 use Rattle.list_text.specs.Listing.{output_for}
 use Rattle.explain_spot.specs.Spots.{line_behind, column_behind}
 

@@ -2,18 +2,18 @@
 #![tactic(auto)]
 
 ghost use Rattle.std.specs.Prelude.{◌≡◌, Bool, length};
-ghost use Rattle.refusal.specs.declared.Cause.TheVariants as cause;
-ghost use Rattle.area.specs.Area.{stored_answer};
-ghost use Rattle.area.specs.declared.Stored.TheVariants.{Put};
+ghost use Rattle.list_text.specs.of_refusal.declared.Cause.TheVariants as cause;
+ghost use Rattle.explain_spot.specs.of_area.Area.{stored_answer};
+ghost use Rattle.explain_spot.specs.of_area.declared.Stored.TheVariants.{Put};
 ghost use Rattle.list_text.specs.inside.Behind.{filled, Puts};
 ghost use Rattle.explain_xml.specs.XmlExplanation.{holds_most, spot_text, xml_sentence, xml_line, xml_line_answer, xml_explanation_in};
 ghost use Rattle.explain_xml.specs.inside.Place.{short_place, place_of};
 
-use area::{Stored, limit, wide};
 use explain_lines::line_in;
+use explain_spot::the_area::{Stored, limit, wide};
 use explain_spot::{before, column_behind, line_behind};
+use list_text::the_refusal::NOWHERE;
 use list_text::{put, put_decimal};
-use refusal::NOWHERE;
 
 // Byte, line and column; nothing where no byte is concerned.
 fn put_spot(out: &mut [u8], k: Stored, source: &[u8], byte: u32) -> Stored
@@ -135,12 +135,12 @@ pub fn explain_xml(
     ensures result_value { stored_answer cause.OutputFull result ≡ xml_line_answer source.now number byte events attributes (length out.old) }
     ensures out_after { out.new ≡ xml_explanation_in source.now number byte events attributes (length out.old) }
 {
-    area::clear(out);
+    explain_spot::the_area::clear(out);
     let put = put_line(out, source, number, byte, events, attributes);
     match put {
         Stored::Put(_) => put,
         Stored::Full => {
-            area::clear(out);
+            explain_spot::the_area::clear(out);
             put
         }
     }

@@ -7,9 +7,9 @@ use borrow.Author.Tests.{ltb-true, ltb-false}
 use lib.Dec.{ltb}
 use lib.ListN.{length, get_or, take, drop, take-append-drop, drop_of_length-le}
 use lib.Seq.{drop-drop}
-use Rattle.area.proofs.Lists.{drop-next}
-use Rattle.utf8.specs.Utf8.{utf8}
-use Rattle.utf8.proofs.Rules.{ascii-on}
+use Rattle.digits.proofs.of_area.Lists.{drop-next}
+use Rattle.digits.specs.of_utf8.Utf8.{utf8}
+use Rattle.digits.proofs.of_utf8.Rules.{ascii-on}
 use Rattle.digits.specs.Digits.{all_digits}
 use Rattle.digits.proofs.Texts.{digits_append}
 use Rattle.fixed.specs.Fields.{part}

@@ -4,8 +4,9 @@
 ghost use Rattle.std.specs.Prelude.{◌≡◌, ◌<◌, ◌^◌};
 ghost use Rattle.fixed.specs.Fields.{as_field, field_of, part};
 
-use area::least;
 use digits::Number;
+use digits::the_area::least;
+pub use digits::the_utf8;
 
 // Whether a field is a number, and which; 0 where it is none.
 #[derive(Clone, Copy)]

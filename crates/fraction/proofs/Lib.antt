@@ -1,3 +1,6 @@
 pub mod Scaling
 pub mod Fractions
 pub mod Examples
+pub use Rattle.digits.proofs.of_area as of_area
+pub use Rattle.digits.proofs as of_digits
+pub use Rattle.digits.proofs.of_utf8 as of_utf8

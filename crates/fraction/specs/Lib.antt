@@ -1,1 +1,5 @@
 pub mod Fraction
+pub use Rattle.digits.specs.of_area as of_area
+pub use Rattle.digits.specs as of_digits
+pub use Rattle.digits.specs.of_refusal as of_refusal
+pub use Rattle.digits.specs.of_utf8 as of_utf8

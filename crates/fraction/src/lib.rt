@@ -4,7 +4,9 @@
 ghost use Rattle.std.specs.Prelude.{◌≡◌, ◌-◌, ◌*◌, ◌^◌, ◌≤◌, ◌<◌};
 ghost use Rattle.fraction.specs.Fraction.{billionths_of};
 
+pub use digits as the_digits;
 use digits::Number;
+pub use digits::{the_area, the_refusal, the_utf8};
 
 // The value v of n digits, in billionths.
 fn scaled(v: u64, n: usize) -> u64

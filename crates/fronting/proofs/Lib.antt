@@ -1,1 +1,2 @@
 pub mod Moving
+pub use Rattle.area.proofs as of_area

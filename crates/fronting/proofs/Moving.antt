@@ -5,7 +5,7 @@ use mathlib.Core.List.{List}
 use native.Mathlib.Omega.{arith}
 use lib.ListN.{length, get_or, take, drop, length-drop, drop_of_length-le}
 use lib.Seq.{length-take-le, get_or-take, get_or-drop}
-use Rattle.refusal.specs.declared.Cause.TheVariants as cause
+use Rattle.area.specs.of_refusal.declared.Cause.TheVariants as cause
 use Rattle.area.specs.Area.{laid}
 use Rattle.area.proofs.Lists.{drop-next}
 use Rattle.area.proofs.Laying.{Laying, laying_on, laying-put, laying-done}

@@ -2,7 +2,7 @@
 use Prim.Native.Nat.{ℕ, zero, suc, ◌+◌, ◌-◌, ◌*◌}
 use mathlib.Core.Path.{◌≡◌, refl, ap, ◌∙◌}
 use native.Mathlib.Omega.{arith}
-use Rattle.calendar.specs.Calendar.{is_leap, month_length}
+use Rattle.days.specs.of_calendar.Calendar.{is_leap, month_length}
 use Rattle.timestamp.specs.declared.Moment.{Moment}
 use Rattle.days.specs.Dates.{IsDate, day_number}
 use Rattle.days.proofs.Dates.{day-by-day}

@@ -1,7 +1,7 @@
 -- Days and instants, computed. Assumes nothing.
 use Prim.Native.Nat.{ℕ}
 use mathlib.Core.Path.{◌≡◌, refl}
-use Rattle.calendar.specs.Calendar.{is_leap, month_length}
+use Rattle.days.specs.of_calendar.Calendar.{is_leap, month_length}
 use Rattle.timestamp.specs.declared.Moment.{Moment}
 use Rattle.days.specs.Days.{days_before}
 use Rattle.days.specs.Dates.{Date, next_day, days_before_month, day_number}

@@ -7,8 +7,8 @@ use native.Mathlib.Omega.{arith}
 use borrow.Author.Tests.{ne_eqb, ltb-true, ltb-false}
 use lib.Dec.{eqb, ltb, eqb→eq}
 use lib.ListN.{get_or}
-use Rattle.calendar.specs.Calendar.{is_leap, month_length}
-use Rattle.calendar.proofs.Months.{month-past}
+use Rattle.days.specs.of_calendar.Calendar.{is_leap, month_length}
+use Rattle.days.proofs.of_calendar.Months.{month-past}
 use Rattle.days.specs.Dates.{days_before_month}
 use Rattle.days.proofs.Table.{at}
 use Rattle.days.proofs.Lengths.{length_most}

@@ -4,7 +4,7 @@ use mathlib.Core.Path.{◌≡◌, refl, sym, ap, ◌∙◌}
 use native.Mathlib.Omega.{arith}
 use native.Mathlib.Numerals.{add-one}
 use borrow.Author.Tests.{lt-ltb, le-ltb}
-use Rattle.calendar.specs.Calendar.{month_length}
+use Rattle.days.specs.of_calendar.Calendar.{month_length}
 use Rattle.days.specs.Dates.{Date, IsDate, next_day, day_number}
 use Rattle.days.proofs.Dates.{some-days, day-by-day}
 use Rattle.instant.specs.Instant.{day_after}

@@ -2,13 +2,14 @@
 #![tactic(auto)]
 
 ghost use Rattle.std.specs.Prelude.{◌≡◌, ◌&&◌, ◌-◌, ◌<◌, ltb};
-ghost use Rattle.calendar.specs.Calendar.{is_leap};
+ghost use Rattle.days.specs.of_calendar.Calendar.{is_leap};
 ghost use Rattle.days.specs.Dates.{days_before_month};
 ghost use Rattle.instant.specs.Instant.{clock_of, instant_of};
 ghost use Rattle.instant.specs.inside.Lent.{instant_from, instant_by};
 
-use calendar::is_leap;
+use days::the_calendar::is_leap;
 use days::{days_before_year, days_by};
+pub use timestamp as the_timestamp;
 use timestamp::Moment;
 
 #[derive(Clone, Copy)]

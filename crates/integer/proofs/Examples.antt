@@ -1,12 +1,12 @@
 -- Integers, computed. Assumes nothing.
 use mathlib.Core.Path.{◌≡◌, refl}
 use mathlib.Core.List.{[], ◌∷◌}
-use Rattle.area.specs.Answer.{gives, refuses}
-use Rattle.utf8.specs.Utf8.{need, low, high}
+use Rattle.names.specs.of_area.Answer.{gives, refuses}
+use Rattle.digits.specs.of_utf8.Utf8.{need, low, high}
 use Rattle.names.specs.Bytes.{bytes}
 use Rattle.digits.specs.Digits.{digit, is_number}
 use Rattle.integer.specs.Integer.{unsigned, integer_of}
-use Rattle.refusal.specs.declared.Cause.TheVariants as cause
+use Rattle.names.specs.of_refusal.declared.Cause.TheVariants as cause
 
 -- no integer, and not UTF-8: 2 comes before 3
 two-before-three : (integer_of (0x2D ∷ 0xFF ∷ []) ≡ refuses cause.NotUtf8) × (integer_of (0x35 ∷ 0xC3 ∷ []) ≡ refuses cause.NotUtf8)

@@ -7,9 +7,9 @@ use native.Mathlib.Omega.{arith}
 use borrow.Author.Tests.{eq-eqb, ne_eqb, eqb-true}
 use lib.Dec.{eqb}
 use lib.ListN.{length, get_or, drop}
-use Rattle.area.specs.Answer.{gives, refuses}
-use Rattle.utf8.specs.Utf8.{utf8}
-use Rattle.utf8.proofs.Rules.{ascii-on}
+use Rattle.names.specs.of_area.Answer.{gives, refuses}
+use Rattle.digits.specs.of_utf8.Utf8.{utf8}
+use Rattle.digits.proofs.of_utf8.Rules.{ascii-on}
 use Rattle.digits.specs.Digits.{is_digit, all_digits, is_number, number_in, value, decimal}
 use Rattle.digits.specs.declared.Number.{Number}
 use Rattle.digits.specs.declared.Number.TheVariants as number
@@ -18,7 +18,7 @@ use Rattle.digits.proofs.Numbers.{number-parts, is-number, not-number}
 use Rattle.digits.proofs.Printing.{decimal-digits, decimal-number, decimal-value}
 use Rattle.integer.specs.Integer.{unsigned, is_integer, integer_of}
 use Rattle.digits.proofs.Texts.{digits_utf8}
-use Rattle.refusal.specs.declared.Cause.TheVariants as cause
+use Rattle.names.specs.of_refusal.declared.Cause.TheVariants as cause
 
 -- behind the sign, or without one
 module _ (s : List ℕ) where

@@ -1,11 +1,11 @@
 -- A count as it is read (rules V1 and V2). Definitions only.
 use Rattle.std.specs.Prelude.{ℕ, List, [], ◌∷◌, Bool, cond, eqb}
-use Rattle.area.specs.Answer.{Answer, gives, refuses}
-use Rattle.utf8.specs.Utf8.{utf8}
+use Rattle.names.specs.of_area.Answer.{Answer, gives, refuses}
+use Rattle.digits.specs.of_utf8.Utf8.{utf8}
 use Rattle.digits.specs.Digits.{is_number, value}
 use Rattle.integer.specs.declared.Integer.{Integer}
 use Rattle.integer.specs.declared.Integer.TheVariants.{Is, NotUtf8, Bad}
-use Rattle.refusal.specs.declared.Cause.TheVariants as cause
+use Rattle.names.specs.of_refusal.declared.Cause.TheVariants as cause
 
 -- the value, or 2 for what isn't UTF-8, 3 for what is no count
 abbrev pub integer_answer : Integer → Answer ℕ

@@ -1,1 +1,6 @@
 pub mod Integer
+pub use Rattle.names.specs.of_area as of_area
+pub use Rattle.digits.specs as of_digits
+pub use Rattle.names.specs as of_names
+pub use Rattle.names.specs.of_refusal as of_refusal
+pub use Rattle.digits.specs.of_utf8 as of_utf8

@@ -5,6 +5,8 @@ ghost use Rattle.std.specs.Prelude.{◌≡◌};
 ghost use Rattle.integer.specs.Integer.{unsigned, integer_answer, integer_of};
 
 use digits::Number;
+pub use names as the_names;
+pub use names::{the_area, the_refusal};
 
 // The value, or what is wrong with the text.
 #[derive(Clone, Copy)]
@@ -35,7 +37,7 @@ pub fn integer_of(s: &[u8]) -> Integer
     match n {
         Number::Is(v) => Integer::Is(v),
         Number::Not => {
-            if utf8::is_utf8(s) {
+            if digits::the_utf8::is_utf8(s) {
                 return Integer::Bad;
             }
             Integer::NotUtf8

@@ -8,7 +8,7 @@ use native.Mathlib.Omega.{arith}
 use borrow.Author.Tests.{eq-eqb, ne_eqb, leb-true, leb-false}
 use lib.Dec.{eqb, leb}
 use lib.ListN.{length, drop, get_or, length-drop}
-use Rattle.area.proofs.Lists.{drop-next}
+use Rattle.table.proofs.of_area.Lists.{drop-next}
 use Rattle.key_order.specs.inside.KeyOrder.{common_length}
 
 -- the first i bytes are equal

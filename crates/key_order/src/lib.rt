@@ -5,8 +5,8 @@ ghost use Rattle.std.specs.Prelude.{◌≡◌, ◌≤◌, ◌<◌, ◌+◌, leng
 ghost use Rattle.table.specs.Event.{key_at};
 ghost use Rattle.key_order.specs.inside.KeyOrder.{common_length, comes_in};
 
-use area::{least, wide};
-use table_parts::{bytes_of, word_of};
+use table::the_area::{least, wide};
+use table::the_table_parts::{bytes_of, word_of};
 
 // How many bytes the two begin with in common.
 pub fn common(a: &[u8], b: &[u8]) -> usize

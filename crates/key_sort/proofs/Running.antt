@@ -7,7 +7,7 @@ use native.Mathlib.Omega.{arith}
 use native.Mathlib.Numerals.{add-one}
 use lib.ListN.{length, get_or, take, drop, set, length-drop, length-set, drop_of_length-le}
 use lib.Seq.{length-take-le, take-suc, take-suc-set, take-set-le, drop-set-lt, get_or-take, get_or-drop, take-take, take-add, drop_at}
-use Rattle.area.proofs.Lists.{drop-next}
+use Rattle.clean_order.proofs.of_area.Lists.{drop-next}
 use Rattle.key_sort.specs.inside.Merged.{takes_first, merged, merged_to}
 
 -- a run from i to before h: its first, and none

@@ -5,11 +5,11 @@ use mathlib.Core.List.{List, [], ◌∷◌, ◌++◌}
 use native.Mathlib.Omega.{arith}
 use lib.ListN.{length, take, drop, set, length-append, length-drop}
 use borrow.Rule.Slice.PartMut.{put_mid}
-use Rattle.area.proofs.Parts.{rest_part, rest_back}
+use Rattle.clean_order.proofs.of_area.Parts.{rest_part, rest_back}
 use lib.Seq.{length-take-le, take_at, drop_at, take-append-add}
 use mathlib.Core.Bool.{Bool}
 use Rattle.clean_order.specs.inside.CleanOrder.{key_for, ComesBy, comes_by}
-use Rattle.key_order.proofs.Ordering.{comes-true, comes-false, comes-trans}
+use Rattle.clean_order.proofs.of_key_order.Ordering.{comes-true, comes-false, comes-trans}
 use Rattle.key_sort.specs.inside.Arranged.{Before, Ordered, count, numbers, Arranged}
 use Rattle.key_sort.specs.inside.Merged.{merged, merged_to}
 use Rattle.key_sort.specs.inside.Numbers.{numbers_in}

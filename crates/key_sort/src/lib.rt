@@ -2,6 +2,9 @@
 // two bytes in lent bytes: a merge sort whose comparisons are at most n log n, whatever the keys are.
 #![tactic(auto)]
 
+pub use clean_order as the_clean_order;
+pub use clean_order::{the_area, the_key_order, the_names, the_text, the_text_key};
+
 pub mod number;
 
 ghost use Rattle.std.specs.Prelude.{◌≡◌, ◌+◌, ◌≤◌, length, take, drop};

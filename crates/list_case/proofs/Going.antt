@@ -5,11 +5,11 @@ use mathlib.Core.List.{List, [], ◌∷◌, ◌++◌}
 use mathlib.Core.Bool.{Bool, true, false, not, ◌&&◌, and-eq-true_iff}
 use native.Mathlib.Omega.{arith}
 use lib.ListN.{length, take, drop}
-use Rattle.area.specs.declared.Stored.{Stored}
-use Rattle.list_text.specs.inside.Behind.{Filled, filled, is_full, Puts}
-use Rattle.list_text.proofs.Putting.{Coming, coming-start, coming_on, coming_puts, coming-done, coming-stop, other, puts_none}
-use Rattle.list_sums.specs.inside.Rows.{stands, records_in}
-use Rattle.list_sums.proofs.Records.{stands-room, records-here, records-over}
+use Rattle.list_status.specs.of_area.declared.Stored.{Stored}
+use Rattle.list_status.specs.of_list_text.inside.Behind.{Filled, filled, is_full, Puts}
+use Rattle.list_status.proofs.of_list_text.Putting.{Coming, coming-start, coming_on, coming_puts, coming-done, coming-stop, other, puts_none}
+use Rattle.list_status.specs.of_list_sums.inside.Rows.{stands, records_in}
+use Rattle.list_status.proofs.of_list_sums.Records.{stands-room, records-here, records-over}
 
 -- the loop goes on, and a record stands there
 pub goes_on : (a b : Bool) {x : Bool} → (a && b) ≡ true → b ≡ x → x ≡ true

@@ -6,17 +6,17 @@ use mathlib.Core.Bool.{Bool, true, false, cond, ◌||◌, true≢false}
 use native.Mathlib.Omega.{arith}
 use lib.Dec.{eqb}
 use lib.ListN.{length}
-use Rattle.names.specs.Bytes.{bytes}
-use Rattle.digits.specs.Digits.{decimal}
-use Rattle.tree_report.specs.Fields.{kind_of, is_main, is_run, text_at, second, time}
-use Rattle.tree_report.specs.Report.{TestCaseStatus, failure, error}
-use Rattle.tree_report.specs.ReportOf.{only, status_of}
-use Rattle.list_text.specs.Listing.{Status, RunKind, PublicRun, status_shown, run_kind_shown, runs_shown, quoted, or_dash, timed, fields, status_word, kind_word, run_word, close, run_text, run_texts, case_text}
-use Rattle.list_values.proofs.Joining.{three-parts, fields_split}
-use Rattle.list_sums.specs.inside.Summed.{own, summary, is_skipped_by, status_by, kind_by, runs_by, summed_on, run_listed}
+use Rattle.list_status.specs.of_names.Bytes.{bytes}
+use Rattle.list_status.specs.of_digits.Digits.{decimal}
+use Rattle.list_status.specs.of_tree_report.Fields.{kind_of, is_main, is_run, text_at, second, time}
+use Rattle.list_status.specs.of_tree_report.Report.{TestCaseStatus, failure, error}
+use Rattle.list_status.specs.of_tree_report.ReportOf.{only, status_of}
+use Rattle.list_status.specs.of_list_text.Listing.{Status, RunKind, PublicRun, status_shown, run_kind_shown, runs_shown, quoted, or_dash, timed, fields, status_word, kind_word, run_word, close, run_text, run_texts, case_text}
+use Rattle.list_status.proofs.of_list_values.Joining.{three-parts, fields_split}
+use Rattle.list_status.specs.of_list_sums.inside.Summed.{own, summary, is_skipped_by, status_by, kind_by, runs_by, summed_on, run_listed}
 use Rattle.list_case.specs.inside.Shown.{run_opened, case_opened, case_shown}
 use Rattle.list_case.specs.inside.Shown as shown
-use Rattle.list_sums.proofs.Sums.{status-summed, kind-summed, runs-summed}
+use Rattle.list_status.proofs.of_list_sums.Sums.{status-summed, kind-summed, runs-summed}
 
 pub run-parts : (r : List ℕ) → run_opened (kind_of r) ++ ((32 ∷ or_dash timed (time r)) ++ close) ≡ run_text (run_listed r)
 unfolding run_text

@@ -3,11 +3,11 @@ use Prim.Native.Nat.{ℕ}
 use mathlib.Core.Path.{◌≡◌, refl}
 use mathlib.Core.List.{List, [], ◌∷◌, ◌++◌}
 use mathlib.Core.Bool.{true, false}
-use Rattle.tree_report.specs.Fields.{is_run}
-use Rattle.list_text.specs.Listing.{run_text}
-use Rattle.list_sums.specs.inside.Summed.{ends_case, run_listed}
+use Rattle.list_status.specs.of_tree_report.Fields.{is_run}
+use Rattle.list_status.specs.of_list_text.Listing.{run_text}
+use Rattle.list_status.specs.of_list_sums.inside.Summed.{ends_case, run_listed}
 use Rattle.list_case.specs.inside.Shown.{runs_shown}
-use Rattle.list_sums.proofs.Sums.{own-end, own-next}
+use Rattle.list_status.proofs.of_list_sums.Sums.{own-end, own-next}
 
 pub runs-over : runs_shown [] ≡ []
 unfolding runs_shown

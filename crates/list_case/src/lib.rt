@@ -1,16 +1,17 @@
 // A case of the public listing, from its record and the words behind it.
 #![tactic(auto)]
 
-ghost use Rattle.list_text.specs.Listing.{run_text};
-ghost use Rattle.list_text.specs.inside.Behind.{filled, Puts};
-ghost use Rattle.list_sums.specs.inside.Rows.{records_in};
-ghost use Rattle.list_sums.specs.inside.Summed.{run_listed};
+ghost use Rattle.list_status.specs.of_list_text.Listing.{run_text};
+ghost use Rattle.list_status.specs.of_list_text.inside.Behind.{filled, Puts};
+ghost use Rattle.list_status.specs.of_list_sums.inside.Rows.{records_in};
+ghost use Rattle.list_status.specs.of_list_sums.inside.Summed.{run_listed};
 ghost use Rattle.list_case.specs.inside.Shown.{run_opened, runs_shown, case_opened, case_shown};
 
-use area::Stored;
-use list_sums::rows;
-use list_text::put;
-use tree_record::{field, kind, word};
+use list_status::the_area::Stored;
+use list_status::the_list_sums::rows;
+use list_status::the_list_text::put;
+use list_status::the_tree_record::{field, kind, word};
+pub use list_status::{the_area, the_list_sums, the_list_text, the_list_values, the_tree_record};
 
 // A run's line, up to its kind.
 fn put_run_kind(out: &mut [u8], k: Stored, run: u32) -> Stored
@@ -27,7 +28,7 @@ fn put_run(out: &mut [u8], k: Stored, r: &[u32]) -> Stored
     ensures { Puts (filled k out.old) (run_text (run_listed r.now)) (filled result out.new) }
 {
     let opened = put_run_kind(out, k, field(r, word::KIND));
-    let time = list_values::put_time(out, opened, r);
+    let time = list_status::the_list_values::put_time(out, opened, r);
     put(out, time, b")")
 }
 
@@ -37,7 +38,7 @@ fn put_runs(out: &mut [u8], k: Stored, words: &[u32]) -> Stored
 {
     let mut at = 0;
     let mut mark = k;
-    while list_text::is_open(mark) & rows::stands_here(&words[at..]) {
+    while list_status::the_list_text::is_open(mark) & rows::stands_here(&words[at..]) {
         let end = at + 32;
         let r = &words[at..end];
         let here = field(r, word::KIND);
@@ -57,16 +58,16 @@ fn put_case_line(out: &mut [u8], k: Stored, text: &[u8], r: &[u32]) -> Stored
     ensures { Puts (filled k out.old) (case_opened text.now r.now) (filled result out.new) }
 {
     let opened = put(out, k, b"\n(case");
-    let name = list_values::put_name(out, opened, text, r);
-    let classname = list_values::put_classname(out, name, text, r);
-    list_values::put_time(out, classname, r)
+    let name = list_status::the_list_values::put_name(out, opened, text, r);
+    let classname = list_status::the_list_values::put_classname(out, name, text, r);
+    list_status::the_list_values::put_time(out, classname, r)
 }
 
 // By rules L5 and L7.
 pub fn put_case(out: &mut [u8], k: Stored, text: &[u8], r: &[u32], below: &[u32]) -> Stored
     ensures { Puts (filled k out.old) (case_shown text.now r.now (records_in below.now)) (filled result out.new) }
 {
-    let s = list_sums::sum_up(below);
+    let s = list_status::the_list_sums::sum_up(below);
     let line = put_case_line(out, k, text, r);
     let counted = list_status::put_status(out, line, s);
     if list_status::is_skipped(s) {

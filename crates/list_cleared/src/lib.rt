@@ -2,16 +2,17 @@
 #![tactic(auto)]
 
 ghost use Rattle.std.specs.Prelude.{◌≡◌, true, length};
-ghost use Rattle.area.specs.Area.{zeros};
-ghost use Rattle.refusal.specs.declared.Verdict.TheVariants.{Refused as IsRefused};
-ghost use Rattle.tree_report.specs.Layout.{layout};
-ghost use Rattle.list_text.specs.Listing.{listed, output_of};
+ghost use Rattle.clearing.specs.of_area.Area.{zeros};
+ghost use Rattle.clearing.specs.of_refusal.declared.Verdict.TheVariants.{Refused as IsRefused};
+ghost use Rattle.lister.specs.of_tree_report.Layout.{layout};
+ghost use Rattle.lister.specs.of_list_text.Listing.{listed, output_of};
 ghost use Rattle.lister.specs.Answer.{listing_from};
 
-use area::clear;
 use clearing::clear_tree;
+use clearing::the_area::clear;
+use clearing::the_refusal::{Refusal, Verdict};
+pub use lister as the_lister;
 use lister::{Listing, list_known};
-use refusal::{Refusal, Verdict};
 
 // The tree is listed and then cleared, also where `out` is too short (rule L13). Reading left it, so it is a layout.
 pub fn list_and_clear(records: &mut [u32], text: &mut [u8], out: &mut [u8]) -> Listing

@@ -5,6 +5,8 @@ ghost use Rattle.std.specs.Prelude.{◌≡◌, ◌&&◌, ◌≤◌, ◌<◌, ◌
 ghost use Rattle.area.specs.Area.{laid};
 ghost use Rattle.list_input.specs.Input.{word_of, words_of, events_in, attributes_in, source_in, input_of, parts_in, events_left, attributes_left};
 
+pub use area as the_area;
+
 const BUFFER: usize = 65536;
 
 // How many words of the areas are used, and where the source begins and how long it is.

@@ -2,15 +2,18 @@
 #![tactic(auto)]
 
 ghost use Rattle.std.specs.Prelude.{◌≡◌, [], ◌∷◌};
-ghost use Rattle.digits.specs.Digits.{decimal};
-ghost use Rattle.list_text.specs.inside.Behind.{filled, Puts};
-ghost use Rattle.list_text.specs.Listing.{status_word, kind_word, fields};
+ghost use Rattle.list_values.specs.of_digits.Digits.{decimal};
+ghost use Rattle.list_values.specs.of_list_text.inside.Behind.{filled, Puts};
+ghost use Rattle.list_values.specs.of_list_text.Listing.{status_word, kind_word, fields};
 ghost use Rattle.list_sums.specs.inside.Summed.{is_skipped_by, status_by, is_flaky_by, kind_by, runs_by};
 
-use area::Stored;
+pub use list_sums as the_list_sums;
 use list_sums::Summary;
-use list_text::put;
-use tree_record::kind;
+pub use list_values as the_list_values;
+use list_values::the_area::Stored;
+use list_values::the_list_text::put;
+use list_values::the_tree_record::kind;
+pub use list_values::{the_area, the_list_text, the_tree_record};
 
 pub fn is_skipped(s: Summary) -> bool
     ensures { result ≡ is_skipped_by s }

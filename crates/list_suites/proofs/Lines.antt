@@ -2,9 +2,9 @@
 use Prim.Native.Nat.{ℕ}
 use mathlib.Core.Path.{◌≡◌, sym, ap}
 use mathlib.Core.List.{List, ◌∷◌, ◌++◌, append_assoc}
-use Rattle.names.specs.Bytes.{bytes}
-use Rattle.tree_report.specs.Fields.{text_at, counts}
-use Rattle.list_text.specs.Listing.{quoted, fields, count_fields, close, suite_text}
+use Rattle.list_case.specs.of_names.Bytes.{bytes}
+use Rattle.list_case.specs.of_tree_report.Fields.{text_at, counts}
+use Rattle.list_case.specs.of_list_text.Listing.{quoted, fields, count_fields, close, suite_text}
 use Rattle.list_suites.specs.inside.Shown.{cases_shown, suite_shown}
 
 module _ (text r : List ℕ) (rs : List (List ℕ)) where

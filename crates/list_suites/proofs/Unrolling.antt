@@ -3,7 +3,7 @@ use Prim.Native.Nat.{ℕ}
 use mathlib.Core.Path.{◌≡◌, refl}
 use mathlib.Core.List.{List, [], ◌∷◌, ◌++◌}
 use mathlib.Core.Bool.{true, false}
-use Rattle.tree_report.specs.Fields.{is_suite, is_case}
+use Rattle.list_case.specs.of_tree_report.Fields.{is_suite, is_case}
 use Rattle.list_case.specs.inside.Shown.{case_shown}
 use Rattle.list_suites.specs.inside.Shown.{cases_shown, suite_shown, suites_shown}
 

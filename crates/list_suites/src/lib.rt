@@ -2,14 +2,15 @@
 // records ends once a text didn't fit.
 #![tactic(auto)]
 
-ghost use Rattle.list_text.specs.inside.Behind.{filled, Puts};
-ghost use Rattle.list_sums.specs.inside.Rows.{records_in};
+ghost use Rattle.list_case.specs.of_list_text.inside.Behind.{filled, Puts};
+ghost use Rattle.list_case.specs.of_list_sums.inside.Rows.{records_in};
 ghost use Rattle.list_suites.specs.inside.Shown.{cases_shown, suite_shown, suites_shown};
 
-use area::Stored;
-use list_sums::rows::stands_here;
-use list_text::put;
-use tree_record::{field, kind, word};
+use list_case::the_area::Stored;
+use list_case::the_list_sums::rows::stands_here;
+use list_case::the_list_text::put;
+use list_case::the_tree_record::{field, kind, word};
+pub use list_case::{the_list_sums, the_list_text, the_list_values};
 
 // The cases of the suite that stands before these words.
 fn put_cases(out: &mut [u8], k: Stored, text: &[u8], words: &[u32]) -> Stored
@@ -17,7 +18,7 @@ fn put_cases(out: &mut [u8], k: Stored, text: &[u8], words: &[u32]) -> Stored
 {
     let mut at = 0;
     let mut mark = k;
-    while list_text::is_open(mark) & stands_here(&words[at..]) {
+    while list_case::the_list_text::is_open(mark) & stands_here(&words[at..]) {
         let end = at + 32;
         let r = &words[at..end];
         let here = field(r, word::KIND);
@@ -37,8 +38,8 @@ fn put_suite(out: &mut [u8], k: Stored, text: &[u8], r: &[u32], below: &[u32]) -
     ensures { Puts (filled k out.old) (suite_shown text.now r.now (records_in below.now)) (filled result out.new) }
 {
     let opened = put(out, k, b"\n(suite");
-    let name = list_values::put_name(out, opened, text, r);
-    let counts = list_values::put_counts(out, name, r);
+    let name = list_case::the_list_values::put_name(out, opened, text, r);
+    let counts = list_case::the_list_values::put_counts(out, name, r);
     let cases = put_cases(out, counts, text, below);
     put(out, cases, b")")
 }
@@ -48,7 +49,7 @@ pub fn put_suites(out: &mut [u8], k: Stored, text: &[u8], words: &[u32]) -> Stor
 {
     let mut at = 0;
     let mut mark = k;
-    while list_text::is_open(mark) & stands_here(&words[at..]) {
+    while list_case::the_list_text::is_open(mark) & stands_here(&words[at..]) {
         let end = at + 32;
         let r = &words[at..end];
         at = end;

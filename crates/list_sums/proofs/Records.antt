@@ -8,7 +8,7 @@ use borrow.Author.Tests.{eq-eqb, ne_eqb, leb-true, leb-false, eqb-true, eqb-fals
 use lib.Dec.{leb, eqb}
 use lib.ListN.{length, get_or, take, drop, length-drop}
 use lib.Seq.{drop-drop, take_all}
-use Rattle.tree_report.specs.Layout.{records_from}
+use Rattle.list_text.specs.of_tree_report.Layout.{records_from}
 use Rattle.list_sums.specs.inside.Rows.{stands, records_in}
 
 module _ (w : List ℕ) where

@@ -7,10 +7,10 @@ use native.Mathlib.Omega.{arith}
 use borrow.Author.Tests.{ne_eqb, leb-true, lt-leb}
 use lib.Dec.{leb, eqb}
 use lib.ListN.{length, take, drop, length-append}
-use Rattle.tree_record.specs.Bits as bit
-use Rattle.tree_report.specs.Fields.{kind_of, is_suite, is_case, is_main, is_run, has_bit}
-use Rattle.tree_report.specs.Report.{NonSuccessKind, Reason, TestRerun, failure, error, flaky, rerun, non_success, skipped}
-use Rattle.tree_report.specs.ReportOf.{only, run_of, reason_of, kind_of_runs, status_of}
+use Rattle.list_text.specs.of_tree_record.Bits as bit
+use Rattle.list_text.specs.of_tree_report.Fields.{kind_of, is_suite, is_case, is_main, is_run, has_bit}
+use Rattle.list_text.specs.of_tree_report.Report.{NonSuccessKind, Reason, TestRerun, failure, error, flaky, rerun, non_success, skipped}
+use Rattle.list_text.specs.of_tree_report.ReportOf.{only, run_of, reason_of, kind_of_runs, status_of}
 use Rattle.list_text.specs.Listing.{is_failure, is_error, is_skipped, no_kind, flaky_kind, rerun_kind, PublicRun, public_run, status_shown, run_kind_shown, runs_shown}
 use Rattle.list_sums.specs.inside.Summed.{own, ends_case, is_some, kind_or, flag_or, summed_on, summed_by, unsummed, summary, is_skipped_by, status_by, kind_by, run_listed}
 use Rattle.list_sums.specs.inside.Rows.{stands, records_in}

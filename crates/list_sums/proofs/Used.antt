@@ -6,8 +6,8 @@ use native.Mathlib.Nat.{min-le_left}
 use native.Mathlib.Omega.{arith}
 use lib.ListN.{length, take, drop, length-take}
 use lib.Seq.{get_or-take, take-take, take-nil}
-use Rattle.area.specs.Limits.{most_words}
-use Rattle.tree_report.specs.Layout.{used_words, records_from, records_of}
+use Rattle.list_text.specs.of_area.Limits.{most_words}
+use Rattle.list_text.specs.of_tree_report.Layout.{used_words, records_from, records_of}
 use Rattle.list_sums.specs.inside.Rows.{records_in}
 
 drop-take : (a e : ℕ) (l : List ℕ) → drop a (take e l) ≡ take (e - a) (drop a l)

@@ -1,13 +1,16 @@
 // What a case's status elements come to.
 #![tactic(auto)]
 
+pub use list_text as the_list_text;
+pub use list_text::{the_area, the_names, the_tree_record};
+
 pub mod rows;
 
 ghost use Rattle.std.specs.Prelude.{◌≡◌, [], ◌∷◌, ◌<◌};
 ghost use Rattle.list_sums.specs.inside.Rows.{records_in};
 ghost use Rattle.list_sums.specs.inside.Summed.{summed_on, summed_by, summary};
 
-use tree_record::{bit, field, has_bit, kind, word};
+use list_text::the_tree_record::{bit, field, has_bit, kind, word};
 
 // Whether there is a main; the first one's kind and flaky bit; the first run's kind, and how many runs there are.
 #[derive(Clone, Copy)]

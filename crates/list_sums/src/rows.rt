@@ -1,9 +1,9 @@
 // Records one behind the other, and their kinds.
 ghost use Rattle.std.specs.Prelude.{◌≡◌, ◌&&◌, ◌||◌, leb, eqb};
-ghost use Rattle.tree_record.specs.Kinds as kinds;
+ghost use Rattle.list_text.specs.of_tree_record.Kinds as kinds;
 ghost use Rattle.list_sums.specs.inside.Rows.{stands};
 
-use tree_record::{kind, word};
+use list_text::the_tree_record::{kind, word};
 
 // Whether words begin with a record.
 pub fn stands_here(words: &[u32]) -> bool

@@ -5,13 +5,13 @@ use mathlib.Core.List.{List}
 use mathlib.Core.Bool.{true, false}
 use native.Mathlib.Omega.{arith}
 use lib.ListN.{length, length-replicate}
-use Rattle.area.specs.Answer.{Answer, gives, refuses}
-use Rattle.area.specs.Area.{zeros, placing, laid}
-use Rattle.area.specs.declared.Stored.TheVariants.{Put, Full}
+use Rattle.time_text.specs.of_area.Answer.{Answer, gives, refuses}
+use Rattle.time_text.specs.of_area.Area.{zeros, placing, laid}
+use Rattle.time_text.specs.of_area.declared.Stored.TheVariants.{Put, Full}
 use Rattle.tree_report.specs.Layout.{layout}
 use Rattle.list_text.specs.Listing.{listing_of, listing_answer, output_for, output_of}
 use Rattle.list_text.specs.inside.Behind.{Filled, filled, behind, Puts}
-use Rattle.refusal.specs.declared.Cause.TheVariants as cause
+use Rattle.time_text.specs.of_refusal.declared.Cause.TheVariants as cause
 
 -- from the start of an area
 pub from_start : (out f : List ℕ) → behind (gives 0, out) f ≡ (placing cause.OutputFull (length out) f, laid out f)

@@ -2,11 +2,11 @@
 use mathlib.Core.Path.{◌≡◌, refl}
 use mathlib.Core.List.{[], ◌∷◌}
 use mathlib.Core.Option.{none}
-use Rattle.refusal.specs.Refusal.{refused}
-use Rattle.refusal.specs.declared.Cause.TheVariants.{NotLayout, OutputFull}
-use Rattle.area.specs.Answer.{gives, refuses}
-use Rattle.names.specs.Bytes.{bytes}
-use Rattle.digits.specs.Digits.{digit, places, decimal}
+use Rattle.time_text.specs.of_refusal.Refusal.{refused}
+use Rattle.time_text.specs.of_refusal.declared.Cause.TheVariants.{NotLayout, OutputFull}
+use Rattle.time_text.specs.of_area.Answer.{gives, refuses}
+use Rattle.tree_report.specs.of_names.Bytes.{bytes}
+use Rattle.time_text.specs.of_digits.Digits.{digit, places, decimal}
 use Rattle.escape.specs.Escape.{letter, listed}
 use Rattle.list_text.specs.Listing.{quoted, or_dash, count_fields, fields, outcome_of, output_for}
 

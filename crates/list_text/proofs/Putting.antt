@@ -11,14 +11,14 @@ use borrow.Rule.Slice.PartMut.{put_mid}
 use lib.Dec.{leb}
 use lib.ListN.{length, take, drop, length-append, length-drop, drop_of_length-le, take-append-drop}
 use lib.Seq.{length-take-le, take_all, take_at, drop_at, take-append-le}
-use Rattle.area.specs.Answer.{gives, refuses}
-use Rattle.area.specs.Area.{placing, laid, stored_answer}
-use Rattle.area.specs.declared.Stored.{Stored}
-use Rattle.area.specs.declared.Stored.TheVariants.{Put, Full}
-use Rattle.area.proofs.Parts.{rest_part, rest_back}
-use Rattle.area.proofs.Laying.{laid-fits, laid-over, laid-append, put-fits, full-over}
+use Rattle.time_text.specs.of_area.Answer.{gives, refuses}
+use Rattle.time_text.specs.of_area.Area.{placing, laid, stored_answer}
+use Rattle.time_text.specs.of_area.declared.Stored.{Stored}
+use Rattle.time_text.specs.of_area.declared.Stored.TheVariants.{Put, Full}
+use Rattle.time_text.proofs.of_area.Parts.{rest_part, rest_back}
+use Rattle.time_text.proofs.of_area.Laying.{laid-fits, laid-over, laid-append, put-fits, full-over}
 use Rattle.list_text.specs.inside.Behind.{Filled, filled, is_full, behind, Puts}
-use Rattle.refusal.specs.declared.Cause.TheVariants as cause
+use Rattle.time_text.specs.of_refusal.declared.Cause.TheVariants as cause
 
 leb-less : (a b r : ℕ) → a ≤ r → leb b (r - a) ≡ leb (a + b) r
 leb-less a b r h = go (leb b (r - a)) refl

@@ -1,18 +1,18 @@
 -- The public listing: what is shown of a report, and its text (rules L6 to L12). Definitions only.
 use Rattle.std.specs.Prelude.{ℕ, List, [], ◌∷◌, ◌++◌, map, cond, length}
 use Rattle.std.proofs.Math.Option.{Option, none, some}
-use Rattle.area.specs.Answer.{Answer, gives, refuses}
-use Rattle.area.specs.Area.{zeros, placing, laid}
-use Rattle.names.specs.Bytes.{bytes}
-use Rattle.digits.specs.Digits.{decimal}
+use Rattle.time_text.specs.of_area.Answer.{Answer, gives, refuses}
+use Rattle.time_text.specs.of_area.Area.{zeros, placing, laid}
+use Rattle.tree_report.specs.of_names.Bytes.{bytes}
+use Rattle.time_text.specs.of_digits.Digits.{decimal}
 use Rattle.time_text.specs.Written.{written_time}
 use Rattle.escape.specs.Escape.{escaped}
 use Rattle.tree_report.specs.Report.{Text, Duration, Counts, NonSuccessKind, failure, error, FlakyOrRerun, flaky, rerun}
 use Rattle.tree_report.specs.Report.{TestRerun, TestCaseStatus, success, non_success, skipped, TestCase, TestSuite, Report}
 use Rattle.tree_report.specs.ReportOf.{report_of}
 use Rattle.tree_report.specs.Layout.{layout}
-use Rattle.refusal.specs.Refusal.{Outcome, accepted, refused, late}
-use Rattle.refusal.specs.declared.Cause.TheVariants as cause
+use Rattle.time_text.specs.of_refusal.Refusal.{Outcome, accepted, refused, late}
+use Rattle.time_text.specs.of_refusal.declared.Cause.TheVariants as cause
 
 -- ---- what is shown
 pub data Status : Type 0 where

@@ -3,12 +3,15 @@
 #![tactic(auto)]
 
 ghost use Rattle.std.specs.Prelude.{◌≡◌, not};
-ghost use Rattle.digits.specs.Digits.{decimal};
+ghost use Rattle.time_text.specs.of_digits.Digits.{decimal};
 ghost use Rattle.time_text.specs.Written.{written_time};
 ghost use Rattle.escape.specs.Escape.{escaped};
 ghost use Rattle.list_text.specs.inside.Behind.{filled, is_full, Puts};
 
-use area::{Stored, least};
+pub use time_text as the_time_text;
+use time_text::the_area::{Stored, least};
+pub use time_text::{the_area, the_refusal};
+pub use tree_report::{the_names, the_tree_record};
 
 // Whether there may be room for more.
 pub fn is_open(k: Stored) -> bool
@@ -27,7 +30,7 @@ pub fn put(out: &mut [u8], k: Stored, t: &[u8]) -> Stored
         return Stored::Full;
     };
     let from = least(used, out.len());
-    let put = copying::copy_into(&mut out[from..], t);
+    let put = escape::the_copying::copy_into(&mut out[from..], t);
     let Stored::Put(n) = put else {
         return Stored::Full;
     };
@@ -56,7 +59,7 @@ pub fn put_decimal(out: &mut [u8], k: Stored, n: u64) -> Stored
         return Stored::Full;
     };
     let from = least(used, out.len());
-    let put = digits::write_decimal(&mut out[from..], n);
+    let put = time_text::the_digits::write_decimal(&mut out[from..], n);
     let Stored::Put(more) = put else {
         return Stored::Full;
     };

@@ -7,7 +7,7 @@ use native.Mathlib.Decide.{dec_le}
 use native.Mathlib.Omega.{arith}
 use lib.ListN.{length, take, drop, drop_of_length-le}
 use lib.Seq.{take-nil}
-use Rattle.area.proofs.Parts.{rest_part}
+use Rattle.list_text.proofs.of_area.Parts.{rest_part}
 
 -- cutting at a number or at the area's end, whichever is first, is cutting at the number
 pub take-least : (l : List ℕ) (n : ℕ) → take (min (length l) n) l ≡ take n l

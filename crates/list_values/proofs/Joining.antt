@@ -2,8 +2,8 @@
 use Prim.Native.Nat.{ℕ}
 use mathlib.Core.Path.{◌≡◌, refl, sym, ap, ◌∙◌}
 use mathlib.Core.List.{List, [], ◌∷◌, ◌++◌, append_assoc, append-nil}
-use Rattle.digits.specs.Digits.{decimal}
-use Rattle.tree_report.specs.Report.{Counts}
+use Rattle.list_text.specs.of_digits.Digits.{decimal}
+use Rattle.list_text.specs.of_tree_report.Report.{Counts}
 use Rattle.list_text.specs.Listing.{or_dash, fields, count_fields}
 
 pub counts-parts : (c : Counts)

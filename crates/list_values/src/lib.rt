@@ -2,15 +2,17 @@
 #![tactic(auto)]
 
 ghost use Rattle.std.specs.Prelude.{◌≡◌, ◌∷◌, ◌+◌, ◌*◌, ◌≤◌, take, drop};
-ghost use Rattle.digits.specs.Digits.{decimal};
-ghost use Rattle.tree_record.specs.Words as word;
-ghost use Rattle.tree_report.specs.Fields as tree;
+ghost use Rattle.list_text.specs.of_digits.Digits.{decimal};
+ghost use Rattle.list_text.specs.of_tree_record.Words as word;
+ghost use Rattle.list_text.specs.of_tree_report.Fields as tree;
 ghost use Rattle.list_text.specs.Listing.{quoted, or_dash, timed, fields, count_fields};
 ghost use Rattle.list_text.specs.inside.Behind.{filled, Puts};
 
-use area::{Stored, least};
+pub use list_text as the_list_text;
 use list_text::put;
-use tree_record::{bit, field, has_bit, word};
+use list_text::the_area::{Stored, least};
+use list_text::the_tree_record::{bit, field, has_bit, word};
+pub use list_text::{the_area, the_names, the_refusal, the_tree_record};
 
 // The text that starts at `start`, cut at the text area's end.
 pub fn part_of(text: &[u8], start: u32, len: u32) -> &[u8]

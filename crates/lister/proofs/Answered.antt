@@ -2,12 +2,12 @@
 use Prim.Native.Nat.{ℕ}
 use mathlib.Core.Path.{◌≡◌, refl, ap, ◌∙◌}
 use mathlib.Core.List.{List}
-use Rattle.refusal.specs.Refusal.{refused, late, no_refusal}
-use Rattle.refusal.specs.declared.Cause.{Cause}
-use Rattle.refusal.specs.declared.Refusal.{Refusal}
-use Rattle.refusal.specs.declared.Verdict.TheVariants.{Accepted}
-use Rattle.area.specs.Answer.{Answer, gives, refuses}
-use Rattle.list_text.specs.Listing.{listing_answer, outcome_of, listed, output_of}
+use Rattle.tree_layout.specs.of_refusal.Refusal.{refused, late, no_refusal}
+use Rattle.tree_layout.specs.of_refusal.declared.Cause.{Cause}
+use Rattle.tree_layout.specs.of_refusal.declared.Refusal.{Refusal}
+use Rattle.tree_layout.specs.of_refusal.declared.Verdict.TheVariants.{Accepted}
+use Rattle.tree_layout.specs.of_area.Answer.{Answer, gives, refuses}
+use Rattle.list_suites.specs.of_list_text.Listing.{listing_answer, outcome_of, listed, output_of}
 use Rattle.lister.specs.declared.Listing.{Listing}
 use Rattle.lister.specs.Answer.{listing_from}
 

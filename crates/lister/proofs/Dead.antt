@@ -6,9 +6,9 @@ use mathlib.Core.Bool.{Bool, true, false, cond, ◌&&◌, and-eq-true_iff, true�
 use native.Mathlib.Omega.{arith}
 use borrow.Author.Tests.{lt-ltb, ltb-true, leb-true, eqb-true}
 use lib.Dec.{leb, ltb, eqb}
-use Rattle.tree_report.specs.Fields.{kind_of, live, is_suite, is_case, is_main, is_run}
-use Rattle.tree_report.specs.ReportOf.{Branch, only, until, branches, case_of, suite_of}
-use Rattle.list_text.specs.Listing.{PublicCase, PublicSuite, public_case, public_suite}
+use Rattle.tree_layout.specs.of_tree_report.Fields.{kind_of, live, is_suite, is_case, is_main, is_run}
+use Rattle.tree_layout.specs.of_tree_report.ReportOf.{Branch, only, until, branches, case_of, suite_of}
+use Rattle.list_suites.specs.of_list_text.Listing.{PublicCase, PublicSuite, public_case, public_suite}
 
 -- ---- a test that no dead record passes
 module _ (p : List ℕ → Bool) (alive : (r : List ℕ) → p r ≡ true → live r ≡ true) where

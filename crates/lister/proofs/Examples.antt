@@ -1,8 +1,8 @@
 -- Answers of listing worked out. Assumes nothing.
 use mathlib.Core.Path.{◌≡◌, refl}
-use Rattle.refusal.specs.Refusal.{accepted, refused, late, empty_path, no_refusal}
-use Rattle.refusal.specs.declared.Cause.TheVariants.{NotLayout, OutputFull}
-use Rattle.refusal.specs.declared.Verdict.TheVariants.{Accepted, Refused}
+use Rattle.tree_layout.specs.of_refusal.Refusal.{accepted, refused, late, empty_path, no_refusal}
+use Rattle.tree_layout.specs.of_refusal.declared.Cause.TheVariants.{NotLayout, OutputFull}
+use Rattle.tree_layout.specs.of_refusal.declared.Verdict.TheVariants.{Accepted, Refused}
 use Rattle.lister.specs.Answer.{listing_from}
 
 listed : listing_from (accepted 7) ≡ record { verdict = Accepted; length = 7; refusal = no_refusal }

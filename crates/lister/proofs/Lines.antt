@@ -2,9 +2,9 @@
 use Prim.Native.Nat.{ℕ}
 use mathlib.Core.Path.{◌≡◌, sym, ap}
 use mathlib.Core.List.{List, ◌∷◌, ◌++◌, append_assoc}
-use Rattle.names.specs.Bytes.{bytes}
-use Rattle.tree_report.specs.Fields.{first, counts}
-use Rattle.list_text.specs.Listing.{quoted, or_dash, fields, count_fields, header, ending}
+use Rattle.tree_layout.specs.of_names.Bytes.{bytes}
+use Rattle.tree_layout.specs.of_tree_report.Fields.{first, counts}
+use Rattle.list_suites.specs.of_list_text.Listing.{quoted, or_dash, fields, count_fields, header, ending}
 use Rattle.list_suites.specs.inside.Shown.{suites_shown}
 use Rattle.lister.specs.inside.Shown.{whole_shown}
 

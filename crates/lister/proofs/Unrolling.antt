@@ -3,10 +3,10 @@ use Prim.Native.Nat.{ℕ}
 use mathlib.Core.Path.{◌≡◌, refl, ap}
 use mathlib.Core.List.{List, [], ◌∷◌, ◌++◌}
 use mathlib.Core.Bool.{true, false}
-use Rattle.tree_report.specs.Fields.{live, first, counts}
-use Rattle.tree_report.specs.Layout.{used_text, records_of}
-use Rattle.tree_report.specs.ReportOf.{report_of}
-use Rattle.list_text.specs.Listing.{PublicSuite, suite_texts, header, ending, render_public, render, listing_of}
+use Rattle.tree_layout.specs.of_tree_report.Fields.{live, first, counts}
+use Rattle.tree_layout.specs.of_tree_report.Layout.{used_text, records_of}
+use Rattle.tree_layout.specs.of_tree_report.ReportOf.{report_of}
+use Rattle.list_suites.specs.of_list_text.Listing.{PublicSuite, suite_texts, header, ending, render_public, render, listing_of}
 use Rattle.list_suites.specs.inside.Shown.{suites_shown}
 use Rattle.lister.specs.inside.Shown.{whole_shown, report_shown}
 use Rattle.lister.proofs.Dead.{suites-live}

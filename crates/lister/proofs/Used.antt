@@ -3,12 +3,12 @@ use Prim.Native.Nat.{ℕ, min}
 use mathlib.Core.Path.{◌≡◌, sym, ap, ◌∙◌}
 use mathlib.Core.List.{List}
 use lib.ListN.{length, take}
-use Rattle.area.specs.Limits.{most_words, most_bytes}
-use Rattle.tree_report.specs.Layout.{used_words, used_text}
-use Rattle.list_text.specs.Listing.{listing_of}
-use Rattle.list_values.proofs.Cutting.{take-least}
-use Rattle.list_sums.specs.inside.Rows.{records_in}
-use Rattle.list_sums.proofs.Used.{records-used}
+use Rattle.tree_layout.specs.of_area.Limits.{most_words, most_bytes}
+use Rattle.tree_layout.specs.of_tree_report.Layout.{used_words, used_text}
+use Rattle.list_suites.specs.of_list_text.Listing.{listing_of}
+use Rattle.list_suites.proofs.of_list_values.Cutting.{take-least}
+use Rattle.list_suites.specs.of_list_sums.inside.Rows.{records_in}
+use Rattle.list_suites.proofs.of_list_sums.Used.{records-used}
 use Rattle.lister.specs.inside.Shown.{report_shown}
 use Rattle.lister.proofs.Unrolling.{listing-shown}
 

@@ -1,6 +1,6 @@
 -- What listing answers. Definitions only.
 use Rattle.std.specs.Prelude.{ℕ}
-use Rattle.refusal.specs.Refusal.{Outcome, accepted, refused, verdict_of, refusal_of}
+use Rattle.tree_layout.specs.of_refusal.Refusal.{Outcome, accepted, refused, verdict_of, refusal_of}
 use Rattle.lister.specs.declared.Listing.{Listing}
 
 -- how many bytes were put; none at a refusal

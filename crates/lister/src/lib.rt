@@ -2,20 +2,24 @@
 #![tactic(auto)]
 
 ghost use Rattle.std.specs.Prelude.{◌≡◌, true, length};
-ghost use Rattle.refusal.specs.Refusal.{refused, late};
-ghost use Rattle.area.specs.declared.Stored.TheVariants.{Put};
-ghost use Rattle.tree_report.specs.Layout.{layout};
-ghost use Rattle.list_text.specs.inside.Behind.{filled, Puts};
-ghost use Rattle.list_text.specs.Listing.{listed, output_of};
-ghost use Rattle.list_sums.specs.inside.Rows.{records_in};
+ghost use Rattle.tree_layout.specs.of_refusal.Refusal.{refused, late};
+ghost use Rattle.tree_layout.specs.of_area.declared.Stored.TheVariants.{Put};
+ghost use Rattle.tree_layout.specs.of_tree_report.Layout.{layout};
+ghost use Rattle.list_suites.specs.of_list_text.inside.Behind.{filled, Puts};
+ghost use Rattle.list_suites.specs.of_list_text.Listing.{listed, output_of};
+ghost use Rattle.list_suites.specs.of_list_sums.inside.Rows.{records_in};
 ghost use Rattle.lister.specs.inside.Shown.{whole_shown, report_shown};
 ghost use Rattle.lister.specs.Answer.{listing_from};
 
-use area::{Stored, least, limit};
-use list_sums::rows::stands_here;
-use list_text::put;
-use refusal::{Cause, Refusal, Verdict, no_refusal, refuse_late};
-use tree_record::{field, kind, word};
+use list_suites::the_list_sums::rows::stands_here;
+use list_suites::the_list_text::put;
+pub use list_suites::the_list_values;
+use tree_layout::the_area::{Stored, least, limit};
+use tree_layout::the_refusal::{Cause, Refusal, Verdict, no_refusal, refuse_late};
+use tree_layout::the_tree_record::{field, kind, word};
+pub use tree_layout::{
+    the_area, the_fixed, the_names, the_refusal, the_timestamp, the_tree_record, the_uuids,
+};
 
 // How many bytes the listing has, or why there is none.
 #[derive(Clone, Copy)]
@@ -30,8 +34,8 @@ fn put_whole(out: &mut [u8], text: &[u8], r: &[u32], below: &[u32]) -> Stored
     ensures { Puts (filled (Put 0) out.old) (whole_shown text.now r.now (records_in below.now)) (filled result out.new) }
 {
     let opened = put(out, Stored::Put(0), b"(report");
-    let name = list_values::put_first(out, opened, text, r);
-    let counts = list_values::put_counts(out, name, r);
+    let name = list_suites::the_list_values::put_first(out, opened, text, r);
+    let counts = list_suites::the_list_values::put_counts(out, name, r);
     let suites = list_suites::put_suites(out, counts, text, below);
     put(out, suites, b")\n")
 }
@@ -70,12 +74,12 @@ pub fn list_known(records: &[u32], text: &[u8], out: &mut [u8]) -> Listing
     ensures value { result ≡ listing_from (listed records.now text.now (length out.old)) }
     ensures out_after { out.new ≡ output_of records.now text.now (length out.old) }
 {
-    area::clear(out);
+    tree_layout::the_area::clear(out);
     let limit = least(records.len(), limit::WORDS);
     let bytes = least(text.len(), limit::BYTES);
     let put = put_report(out, &text[..bytes], &records[..limit]);
     let Stored::Put(length) = put else {
-        area::clear(out);
+        tree_layout::the_area::clear(out);
         return refuse(Cause::OutputFull);
     };
     Listing {
@@ -91,7 +95,7 @@ pub fn list(records: &[u32], text: &[u8], out: &mut [u8]) -> Listing
     ensures out_after { out.new ≡ output_of records.now text.now (length out.old) }
 {
     if !tree_layout::is_layout(records, text) {
-        area::clear(out);
+        tree_layout::the_area::clear(out);
         return refuse(Cause::NotLayout);
     }
     list_known(records, text, out)

@@ -3,8 +3,8 @@ use Prim.Native.Nat.{ℕ}
 use mathlib.Core.Path.{◌≡◌, refl, ap}
 use mathlib.Core.Bool.{Bool, true, false, cond}
 use mathlib.Core.List.{List, [], ◌∷◌, ◌++◌}
-use Rattle.tree_report.specs.ReportOf.{until, branches}
-use Rattle.tree_report.proofs.EncodeLists.{Starts}
+use Rattle.tree_merge.specs.of_tree_report.ReportOf.{until, branches}
+use Rattle.tree_merge.proofs.of_tree_report.EncodeLists.{Starts}
 
 module _ (p : List ℕ → Bool) where
   until-starts : (ys : List (List ℕ)) → Starts p ys → until p ys ≡ []

@@ -8,15 +8,15 @@ use mathlib.Core.Option.{Option, none, some}
 use native.Mathlib.Omega.{arith}
 use borrow.Author.Tests.{leb-true, leb-false, ltb-true, ltb-false}
 use lib.Dec.{leb}
-use Rattle.area.specs.Answer.{Answer, gives, refuses}
-use Rattle.area.specs.Area.{zeros}
-use Rattle.refusal.specs.Refusal.{number, Refused, Outcome, accepted, refused, late}
-use Rattle.refusal.specs.declared.Cause.TheVariants as cause
-use Rattle.schema.specs.Schema.{time, may}
-use Rattle.schema.specs.Texts.{sound_slot}
-use Rattle.tree_counts.specs.Counts.{is_count}
-use Rattle.tree_report.specs.Report.{Duration, Report}
-use Rattle.tree_report.proofs.EncodeLists.{and_left, and_right}
+use Rattle.tree_merge.specs.of_area.Answer.{Answer, gives, refuses}
+use Rattle.tree_merge.specs.of_area.Area.{zeros}
+use Rattle.tree_merge.specs.of_refusal.Refusal.{number, Refused, Outcome, accepted, refused, late}
+use Rattle.tree_merge.specs.of_refusal.declared.Cause.TheVariants as cause
+use Rattle.tree_merge.specs.of_schema.Schema.{time, may}
+use Rattle.tree_merge.specs.of_schema.Texts.{sound_slot}
+use Rattle.tree_merge.specs.of_tree_counts.Counts.{is_count}
+use Rattle.tree_merge.specs.of_tree_report.Report.{Duration, Report}
+use Rattle.tree_merge.proofs.of_tree_report.EncodeLists.{and_left, and_right}
 use Rattle.merge_listing.specs.Told.{or_nothing}
 use Rattle.tree_merge.specs.Merged.{either_by, nanos_in, added_time, merged_report}
 use Rattle.tree_merge.specs.Answer.{if_any, is_time, counts_fit, time_fits, outcome_of, left_for}

@@ -3,21 +3,21 @@ use Prim.Native.Nat.{ℕ}
 use mathlib.Core.Path.{◌≡◌, refl}
 use mathlib.Core.List.{List, [], ◌∷◌, ◌++◌, map}
 use mathlib.Core.Option.{Option, none, some}
-use Rattle.area.specs.Area.{zeros}
-use Rattle.calendar.specs.Calendar.{is_leap, month_length}
-use Rattle.days.specs.Days.{days_before}
-use Rattle.days.specs.Dates.{days_before_month, day_number}
-use Rattle.instant.specs.Instant.{instant_of}
-use Rattle.refusal.specs.Refusal.{Outcome, accepted, refused, late}
-use Rattle.refusal.specs.declared.Cause.TheVariants as cause
-use Rattle.timestamp.specs.declared.Moment.{Moment}
-use Rattle.schema.specs.Records.{good, encode}
-use Rattle.schema.specs.Texts.{record_at}
-use Rattle.starts.specs.Starts.{nanos_to}
-use Rattle.utf8.specs.Utf8.{need, low, high}
-use Rattle.tree_status.specs.Status.{ruled}
-use Rattle.tree_report.specs.Layout.{good_text, good_record, may_end, may_follow, following, good_order, records_from, records_of, layout}
-use Rattle.tree_report.specs.ReportOf.{report_of}
+use Rattle.tree_merge.specs.of_area.Area.{zeros}
+use Rattle.tree_merge.specs.of_calendar.Calendar.{is_leap, month_length}
+use Rattle.tree_merge.specs.of_days.Days.{days_before}
+use Rattle.tree_merge.specs.of_days.Dates.{days_before_month, day_number}
+use Rattle.tree_merge.specs.of_instant.Instant.{instant_of}
+use Rattle.tree_merge.specs.of_refusal.Refusal.{Outcome, accepted, refused, late}
+use Rattle.tree_merge.specs.of_refusal.declared.Cause.TheVariants as cause
+use Rattle.tree_merge.specs.of_timestamp.declared.Moment.{Moment}
+use Rattle.tree_merge.specs.of_schema.Records.{good, encode}
+use Rattle.tree_merge.specs.of_schema.Texts.{record_at}
+use Rattle.tree_merge.specs.of_starts.Starts.{nanos_to}
+use Rattle.tree_merge.specs.of_utf8.Utf8.{need, low, high}
+use Rattle.tree_merge.specs.of_tree_status.Status.{ruled}
+use Rattle.tree_merge.specs.of_tree_report.Layout.{good_text, good_record, may_end, may_follow, following, good_order, records_from, records_of, layout}
+use Rattle.tree_merge.specs.of_tree_report.ReportOf.{report_of}
 use Rattle.tree_merge.specs.Merged.{either_by, earlier, merged_report}
 use Rattle.tree_merge.specs.Moved.{texts_of, moved_to}
 use Rattle.tree_merge.specs.Answer.{merged_of, merged_tree, limited, placed, merge_answer, records_left, text_left}

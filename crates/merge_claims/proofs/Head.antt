@@ -8,23 +8,23 @@ use native.Mathlib.Omega.{arith}
 use borrow.Author.Tests.{leb-true, le-leb, ltb-true, eqb-true}
 use lib.Dec.{leb, eqb}
 use lib.ListN.{length, get_or, drop, length-append}
-use Rattle.area.specs.Area.{zeros}
-use Rattle.timestamp.specs.Timestamp.{in_range}
-use Rattle.timestamp.specs.declared.Moment.{Moment}
-use Rattle.schema.specs.Report.{Text}
-use Rattle.schema.specs.Schema.{Form, text, number, time, timestamp, uuid, flag, may, Row, width, width_if, behind, bit_of, after, fine_bit, fine_from, fine, report, table_of}
-use Rattle.schema.specs.Records.{Span, Of, Fields, given, is_set, value_at, good_value, zero_at, good_slot, good_from, bits_in, good, slot_words, words_from, encode}
-use Rattle.schema.specs.Texts.{fields_of, stored, stored_in, placed_at, sound_slot, sound, record_at}
-use Rattle.schema.specs.Elements.{report_fields}
-use Rattle.schema.specs.Elements as named
-use Rattle.schema.proofs.Laws.{length-zeros, length-slot}
-use Rattle.schema.proofs.TextLaws.{record-back, record-good}
-use Rattle.starts.specs.Starts.{is_earlier}
-use Rattle.tree_counts.specs.Counts.{is_count}
-use Rattle.tree_report.specs.Report.{Duration, TestSuite, Report}
-use Rattle.tree_report.specs.Fields.{kind_of, is_report}
-use Rattle.tree_report.specs.Layout.{good_record}
-use Rattle.tree_report.proofs.EncodeLists.{both, and_left, and_right}
+use Rattle.tree_merge.specs.of_area.Area.{zeros}
+use Rattle.tree_merge.specs.of_timestamp.Timestamp.{in_range}
+use Rattle.tree_merge.specs.of_timestamp.declared.Moment.{Moment}
+use Rattle.tree_merge.specs.of_schema.Report.{Text}
+use Rattle.tree_merge.specs.of_schema.Schema.{Form, text, number, time, timestamp, uuid, flag, may, Row, width, width_if, behind, bit_of, after, fine_bit, fine_from, fine, report, table_of}
+use Rattle.tree_merge.specs.of_schema.Records.{Span, Of, Fields, given, is_set, value_at, good_value, zero_at, good_slot, good_from, bits_in, good, slot_words, words_from, encode}
+use Rattle.tree_merge.specs.of_schema.Texts.{fields_of, stored, stored_in, placed_at, sound_slot, sound, record_at}
+use Rattle.tree_merge.specs.of_schema.Elements.{report_fields}
+use Rattle.tree_merge.specs.of_schema.Elements as named
+use Rattle.tree_merge.proofs.of_schema.Laws.{length-zeros, length-slot}
+use Rattle.tree_merge.proofs.of_schema.TextLaws.{record-back, record-good}
+use Rattle.tree_merge.specs.of_starts.Starts.{is_earlier}
+use Rattle.tree_merge.specs.of_tree_counts.Counts.{is_count}
+use Rattle.tree_merge.specs.of_tree_report.Report.{Duration, TestSuite, Report}
+use Rattle.tree_merge.specs.of_tree_report.Fields.{kind_of, is_report}
+use Rattle.tree_merge.specs.of_tree_report.Layout.{good_record}
+use Rattle.tree_merge.proofs.of_tree_report.EncodeLists.{both, and_left, and_right}
 use Rattle.tree_merge.specs.Moved.{is_text}
 use Rattle.tree_merge.specs.Merged.{either_by, nanos_in, added_time, earlier, merged_report}
 use Rattle.tree_merge.specs.Answer.{if_any, is_time, counts_fit, time_fits}

@@ -9,18 +9,18 @@ use borrow.Author.Tests.{leb-true, le-leb}
 use lib.Dec.{leb}
 use lib.ListN.{length, take}
 use lib.Seq.{take_at}
-use Rattle.area.specs.Answer.{Answer, gives, refuses}
-use Rattle.area.specs.Area.{zeros}
-use Rattle.area.proofs.Laying.{laid-zeros}
-use Rattle.refusal.specs.Refusal.{accepted}
-use Rattle.refusal.specs.declared.Cause.{Cause}
-use Rattle.refusal.specs.declared.Cause.TheVariants as cause
-use Rattle.tree_counts.specs.Counts.{is_count}
-use Rattle.tree_report.specs.Report.{Counts, TestSuite, Report}
-use Rattle.tree_report.specs.Layout.{layout}
-use Rattle.tree_report.proofs.EncodeLists.{and_left, and_right}
-use Rattle.list_text.specs.Listing.{PublicSuite, public_suite, public_part, suite_text, suite_texts, header, ending, render_public}
-use Rattle.list_text.specs.Listing.{render, rendered_or, listing_of, listing_answer, outcome_of, output_for, output_of}
+use Rattle.tree_merge.specs.of_area.Answer.{Answer, gives, refuses}
+use Rattle.tree_merge.specs.of_area.Area.{zeros}
+use Rattle.tree_merge.proofs.of_area.Laying.{laid-zeros}
+use Rattle.tree_merge.specs.of_refusal.Refusal.{accepted}
+use Rattle.tree_merge.specs.of_refusal.declared.Cause.{Cause}
+use Rattle.tree_merge.specs.of_refusal.declared.Cause.TheVariants as cause
+use Rattle.tree_merge.specs.of_tree_counts.Counts.{is_count}
+use Rattle.tree_merge.specs.of_tree_report.Report.{Counts, TestSuite, Report}
+use Rattle.tree_merge.specs.of_tree_report.Layout.{layout}
+use Rattle.tree_merge.proofs.of_tree_report.EncodeLists.{and_left, and_right}
+use Rattle.merge_listing.specs.of_list_text.Listing.{PublicSuite, public_suite, public_part, suite_text, suite_texts, header, ending, render_public}
+use Rattle.merge_listing.specs.of_list_text.Listing.{render, rendered_or, listing_of, listing_answer, outcome_of, output_for, output_of}
 use Rattle.merge_listing.specs.Told.{or_nothing, InLimit}
 use Rattle.merge_listing.proofs.Told.{told}
 use Rattle.tree_merge.specs.Merged.{either_by, added_counts, merged_report}

@@ -9,22 +9,22 @@ use native.Mathlib.Omega.{arith}
 use borrow.Author.Tests.{leb-true}
 use lib.Dec.{leb}
 use lib.ListN.{length, drop, length-append}
-use Rattle.area.specs.Answer.{Answer, gives}
-use Rattle.area.specs.Area.{zeros, laid}
-use Rattle.area.specs.Limits.{most_records, most_bytes}
-use Rattle.refusal.specs.Refusal.{Refused, Outcome, accepted, refused, late}
-use Rattle.refusal.specs.declared.Cause.TheVariants as cause
-use Rattle.utf8.specs.Characters.{joined}
-use Rattle.schema.specs.Schema.{report}
-use Rattle.schema.specs.Texts.{fields_of, stored_in, sound}
-use Rattle.schema.specs.Elements.{report_fields}
-use Rattle.schema.specs.Elements as named
-use Rattle.tree_report.specs.Encode.{Encoding}
-use Rattle.tree_report.specs.Report.{Report}
-use Rattle.tree_report.specs.Fields.{live, is_suite}
-use Rattle.tree_report.specs.Layout.{used_text, filled, records_of, layout}
-use Rattle.tree_report.specs.ReportOf.{only, branches, suite_of, report_from, report_of}
-use Rattle.list_text.specs.Listing.{render}
+use Rattle.tree_merge.specs.of_area.Answer.{Answer, gives}
+use Rattle.tree_merge.specs.of_area.Area.{zeros, laid}
+use Rattle.tree_merge.specs.of_area.Limits.{most_records, most_bytes}
+use Rattle.tree_merge.specs.of_refusal.Refusal.{Refused, Outcome, accepted, refused, late}
+use Rattle.tree_merge.specs.of_refusal.declared.Cause.TheVariants as cause
+use Rattle.tree_merge.specs.of_utf8.Characters.{joined}
+use Rattle.tree_merge.specs.of_schema.Schema.{report}
+use Rattle.tree_merge.specs.of_schema.Texts.{fields_of, stored_in, sound}
+use Rattle.tree_merge.specs.of_schema.Elements.{report_fields}
+use Rattle.tree_merge.specs.of_schema.Elements as named
+use Rattle.tree_merge.specs.of_tree_report.Encode.{Encoding}
+use Rattle.tree_merge.specs.of_tree_report.Report.{Report}
+use Rattle.tree_merge.specs.of_tree_report.Fields.{live, is_suite}
+use Rattle.tree_merge.specs.of_tree_report.Layout.{used_text, filled, records_of, layout}
+use Rattle.tree_merge.specs.of_tree_report.ReportOf.{only, branches, suite_of, report_from, report_of}
+use Rattle.merge_listing.specs.of_list_text.Listing.{render}
 use Rattle.tree_merge.specs.Merged.{merged_report}
 use Rattle.tree_merge.specs.Moved.{texts_in, moved_from}
 use Rattle.tree_merge.specs.Answer.{both_by, merged_of, head_of, head_texts, below_report, merged_tree, if_any, counts_fit}

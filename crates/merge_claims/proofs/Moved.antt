@@ -7,10 +7,10 @@ use native.Mathlib.Omega.{arith}
 use borrow.Author.Tests.{leb-true}
 use lib.Dec.{leb, eqb, lit≤}
 use lib.ListN.{length, get_or}
-use Rattle.schema.specs.Schema.{Row, behind, bit_of, after, fine_bit, fine_from, fine}
-use Rattle.schema.specs.Records.{zero_at, good_slot, good_from, bits_in, good}
-use Rattle.schema.specs.Texts.{fields_of, stored_in}
-use Rattle.tree_report.proofs.EncodeLists.{both, and_left, and_right}
+use Rattle.tree_merge.specs.of_schema.Schema.{Row, behind, bit_of, after, fine_bit, fine_from, fine}
+use Rattle.tree_merge.specs.of_schema.Records.{zero_at, good_slot, good_from, bits_in, good}
+use Rattle.tree_merge.specs.of_schema.Texts.{fields_of, stored_in}
+use Rattle.tree_merge.proofs.of_tree_report.EncodeLists.{both, and_left, and_right}
 use Rattle.tree_merge.specs.Moved.{has_text, text_in_of, moved_by}
 use Rattle.merge_claims.specs.inside.Stands.{Clean, Stands}
 use Rattle.merge_claims.proofs.Words.{zero_same, bits-same, put_other, put_same, put-length}

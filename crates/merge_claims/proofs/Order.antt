@@ -5,11 +5,11 @@ use mathlib.Core.Bool.{Bool, true, false, cond, ◌&&◌, ◌||◌, false≢true
 use mathlib.Core.List.{List, [], ◌∷◌, ◌++◌}
 use borrow.Author.Tests.{eqb-true}
 use lib.Dec.{leb, ltb, eqb}
-use Rattle.tree_status.specs.Status.{tallied}
-use Rattle.tree_report.specs.Fields.{kind_of, live, is_report, is_suite, is_case, is_suite_property, is_case_property, is_suite_extra, is_case_extra}
-use Rattle.tree_report.specs.Layout.{Open, nothing, over, opened, may_end, may_follow, following, good_order}
-use Rattle.tree_report.specs.ReportOf.{only}
-use Rattle.tree_report.proofs.EncodeLists.{both, and_left, and_right, Each, done, more, Starts}
+use Rattle.tree_merge.specs.of_tree_status.Status.{tallied}
+use Rattle.tree_merge.specs.of_tree_report.Fields.{kind_of, live, is_report, is_suite, is_case, is_suite_property, is_case_property, is_suite_extra, is_case_extra}
+use Rattle.tree_merge.specs.of_tree_report.Layout.{Open, nothing, over, opened, may_end, may_follow, following, good_order}
+use Rattle.tree_merge.specs.of_tree_report.ReportOf.{only}
+use Rattle.tree_merge.proofs.of_tree_report.EncodeLists.{both, and_left, and_right, Each, done, more, Starts}
 use Rattle.merge_claims.specs.inside.Pairs.{Pairs, ended, next}
 use Rattle.merge_claims.specs.inside.Alike.{Like}
 

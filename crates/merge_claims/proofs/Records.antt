@@ -7,14 +7,14 @@ use native.Mathlib.Omega.{arith}
 use borrow.Author.Tests.{eqb-true, leb-true, leb-false}
 use lib.Dec.{leb, ltb, eqb, lit≤}
 use lib.ListN.{length, get_or}
-use Rattle.schema.specs.Report.{Text}
-use Rattle.schema.specs.Schema.{Row, suite, case, main, skipped, run, table_of}
-use Rattle.schema.specs.Records.{Fields, bits_in, good_from, good}
-use Rattle.schema.specs.Texts.{fields_of}
-use Rattle.tree_report.specs.Fields.{kind_of, is_main, is_run}
-use Rattle.tree_report.specs.Layout.{all_good}
-use Rattle.tree_report.proofs.EncodeAreas.{Whole}
-use Rattle.tree_report.proofs.EncodeLists.{both, and_left, and_right, Each, done, more}
+use Rattle.tree_merge.specs.of_schema.Report.{Text}
+use Rattle.tree_merge.specs.of_schema.Schema.{Row, suite, case, main, skipped, run, table_of}
+use Rattle.tree_merge.specs.of_schema.Records.{Fields, bits_in, good_from, good}
+use Rattle.tree_merge.specs.of_schema.Texts.{fields_of}
+use Rattle.tree_merge.specs.of_tree_report.Fields.{kind_of, is_main, is_run}
+use Rattle.tree_merge.specs.of_tree_report.Layout.{all_good}
+use Rattle.tree_merge.proofs.of_tree_report.EncodeAreas.{Whole}
+use Rattle.tree_merge.proofs.of_tree_report.EncodeLists.{both, and_left, and_right, Each, done, more}
 use Rattle.tree_merge.proofs.Records.{table-good}
 use Rattle.tree_merge.specs.Moved.{texts_of, moved_to, texts_in, moved_from}
 use Rattle.merge_claims.specs.inside.Pairs.{Pairs, ended, next}

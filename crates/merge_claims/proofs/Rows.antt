@@ -8,11 +8,11 @@ use native.Mathlib.Omega.{arith}
 use borrow.Author.Tests.{leb-true}
 use lib.Dec.{leb, eqb}
 use lib.ListN.{length, get_or, set}
-use Rattle.schema.specs.Schema.{Form, text, number, time, timestamp, uuid, flag, Presence, always, must, may, unkept, Row, width, width_if, behind, bit_of, after, fine_bit, fine_from}
-use Rattle.schema.specs.Records.{Of, Span, given, is_set, value_at, good_value, zero_at, good_slot, good_from}
-use Rattle.schema.specs.Report.{Text}
-use Rattle.schema.specs.Texts.{read_value, shown_slot, fields_of, stored_value, stored, stored_in}
-use Rattle.tree_report.proofs.EncodeLists.{both, and_left, and_right}
+use Rattle.tree_merge.specs.of_schema.Schema.{Form, text, number, time, timestamp, uuid, flag, Presence, always, must, may, unkept, Row, width, width_if, behind, bit_of, after, fine_bit, fine_from}
+use Rattle.tree_merge.specs.of_schema.Records.{Of, Span, given, is_set, value_at, good_value, zero_at, good_slot, good_from}
+use Rattle.tree_merge.specs.of_schema.Report.{Text}
+use Rattle.tree_merge.specs.of_schema.Texts.{read_value, shown_slot, fields_of, stored_value, stored, stored_in}
+use Rattle.tree_merge.proofs.of_tree_report.EncodeLists.{both, and_left, and_right}
 use Rattle.tree_merge.specs.Moved.{is_text, is_there, has_text, text_in_of, moved_by}
 use Rattle.merge_claims.specs.inside.Stands.{Clean, Stands}
 use Rattle.merge_claims.proofs.Words.{Same, zero_same, value_same, put_other, put-length}

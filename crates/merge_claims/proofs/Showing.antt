@@ -4,10 +4,10 @@ use mathlib.Core.Path.{◌≡◌, refl, sym, ap}
 use mathlib.Core.Bool.{Bool, true, false, cond, ◌&&◌, false≢true}
 use mathlib.Core.List.{List, [], ◌∷◌, map}
 use lib.Dec.{leb, eqb}
-use Rattle.schema.specs.Elements as named
-use Rattle.tree_report.specs.Report.{failure, error, flaky, rerun, success, non_success, skipped}
-use Rattle.tree_report.specs.Fields.{kind_of, is_suite, is_suite_property, is_case_property, is_main, is_run, is_suite_extra, is_case_extra}
-use Rattle.tree_report.specs.ReportOf.{only, until, Branch, branches, pair_of, pairs_of_it, reason_of, run_of, kind_of_runs, status_of, case_of, suite_of}
+use Rattle.tree_merge.specs.of_schema.Elements as named
+use Rattle.tree_merge.specs.of_tree_report.Report.{failure, error, flaky, rerun, success, non_success, skipped}
+use Rattle.tree_merge.specs.of_tree_report.Fields.{kind_of, is_suite, is_suite_property, is_case_property, is_main, is_run, is_suite_extra, is_case_extra}
+use Rattle.tree_merge.specs.of_tree_report.ReportOf.{only, until, Branch, branches, pair_of, pairs_of_it, reason_of, run_of, kind_of_runs, status_of, case_of, suite_of}
 use Rattle.merge_claims.specs.inside.Pairs.{Pairs, ended, next}
 use Rattle.merge_claims.specs.inside.Alike.{Alike}
 

@@ -5,14 +5,14 @@ use mathlib.Core.Bool.{Bool, true, false, cond, ◌&&◌, false≢true}
 use mathlib.Core.List.{List, [], ◌∷◌, ◌++◌, append-nil}
 use mathlib.Core.Option.{Option, none, some}
 use lib.ListN.{length, get_or, length-append}
-use Rattle.schema.specs.Report.{Text}
-use Rattle.schema.specs.Schema.{Form, text, number, time, timestamp, uuid, flag, Presence, always, must, may, unkept, Row, behind, report, table_of}
-use Rattle.schema.specs.Records.{Of, Held, given, is_set, value_at, good_value, zero_at, good_slot, good_from}
-use Rattle.schema.specs.Texts.{read_value, shown_slot, fields_of, stored_value, stored, stored_in}
-use Rattle.schema.specs.Elements.{report_fields}
-use Rattle.tree_record.specs.Record.{kind_of}
-use Rattle.tree_report.specs.Report.{Report}
-use Rattle.tree_report.proofs.EncodeLists.{and_left, and_right, Each, done, more}
+use Rattle.tree_merge.specs.of_schema.Report.{Text}
+use Rattle.tree_merge.specs.of_schema.Schema.{Form, text, number, time, timestamp, uuid, flag, Presence, always, must, may, unkept, Row, behind, report, table_of}
+use Rattle.tree_merge.specs.of_schema.Records.{Of, Held, given, is_set, value_at, good_value, zero_at, good_slot, good_from}
+use Rattle.tree_merge.specs.of_schema.Texts.{read_value, shown_slot, fields_of, stored_value, stored, stored_in}
+use Rattle.tree_merge.specs.of_schema.Elements.{report_fields}
+use Rattle.tree_merge.specs.of_tree_record.Record.{kind_of}
+use Rattle.tree_merge.specs.of_tree_report.Report.{Report}
+use Rattle.tree_merge.proofs.of_tree_report.EncodeLists.{and_left, and_right, Each, done, more}
 use Rattle.tree_merge.specs.Moved.{is_text, is_there, texts_of, texts_in, moved_from}
 use Rattle.merge_claims.specs.Needs.{texts_by, text_bytes, name_bytes}
 use Rattle.merge_claims.specs.inside.Stands as inside

@@ -6,7 +6,7 @@ use mathlib.Core.List.{List}
 use native.Mathlib.Omega.{arith}
 use borrow.Author.Tests.{le-leb, lt-leb, ne_eqb}
 use lib.Dec.{leb, eqb}
-use Rattle.schema.specs.Schema.{Row, fine, report, suite, case, property, main, skipped, run, extra, table_of}
+use Rattle.tree_merge.specs.of_schema.Schema.{Row, fine, report, suite, case, property, main, skipped, run, extra, table_of}
 
 fine-cond : (b : Bool) (xs ys : List Row) → fine xs ≡ true → fine ys ≡ true → fine (cond b xs ys) ≡ true
 fine-cond true xs ys e f = e

@@ -8,16 +8,16 @@ use borrow.Author.Tests.{leb-true, le-leb}
 use lib.Dec.{leb}
 use lib.ListN.{length, take, drop, length-append, length-take, length-drop, take-append-drop}
 use lib.Seq.{take-append-le, drop-append-le, take_at, drop-append_seam}
-use Rattle.utf8.specs.Utf8.{utf8}
-use Rattle.utf8.specs.Characters.{boundary}
-use Rattle.utf8.proofs.Boundaries.{utf8-part, boundary-append}
-use Rattle.utf8.proofs.Rules.{utf8_append}
-use Rattle.text_filter.specs.Filter.{unfiltered}
-use Rattle.text_filter.proofs.Filtering.{unfiltered-append}
-use Rattle.schema.specs.Schema.{text}
-use Rattle.schema.specs.Records.{Span, good_value}
-use Rattle.schema.specs.Texts.{read_value}
-use Rattle.tree_report.proofs.EncodeLists.{both, and_left, and_right}
+use Rattle.tree_merge.specs.of_utf8.Utf8.{utf8}
+use Rattle.tree_merge.specs.of_utf8.Characters.{boundary}
+use Rattle.tree_merge.proofs.of_utf8.Boundaries.{utf8-part, boundary-append}
+use Rattle.tree_merge.proofs.of_utf8.Rules.{utf8_append}
+use Rattle.tree_merge.specs.of_text_filter.Filter.{unfiltered}
+use Rattle.tree_merge.proofs.of_text_filter.Filtering.{unfiltered-append}
+use Rattle.tree_merge.specs.of_schema.Schema.{text}
+use Rattle.tree_merge.specs.of_schema.Records.{Span, good_value}
+use Rattle.tree_merge.specs.of_schema.Texts.{read_value}
+use Rattle.tree_merge.proofs.of_tree_report.EncodeLists.{both, and_left, and_right}
 use Rattle.merge_claims.specs.inside.Stands.{Clean, Stands}
 
 -- ---- clean texts

@@ -8,16 +8,16 @@ use borrow.Author.Tests.{leb-true, eqb-true}
 use lib.Dec.{leb, eqb}
 use lib.ListN.{length, get_or, take, drop, length-take, length-drop, take-append-drop}
 use lib.Seq.{get_or-take}
-use Rattle.area.specs.Limits.{most_words}
-use Rattle.utf8.specs.Utf8.{utf8}
-use Rattle.text_filter.specs.Filter.{unfiltered}
-use Rattle.tree_layout.proofs.Filling.{filled-front}
-use Rattle.tree_report.specs.Fields.{live, is_report, is_suite, is_case, is_suite_property, is_case_property, is_suite_extra, is_case_extra}
-use Rattle.tree_report.specs.Layout.{Open, nothing, opened, used_words, used_text, filled, all_zero, good_text}
-use Rattle.tree_report.specs.Layout.{good_record, all_good, may_follow, following, good_order, records_from, records_of, layout}
-use Rattle.tree_report.specs.ReportOf.{only}
-use Rattle.tree_report.proofs.EncodeAreas.{Whole}
-use Rattle.tree_report.proofs.EncodeLists.{both, and_left, and_right, Each, done, more, only-first, only-rest}
+use Rattle.tree_merge.specs.of_area.Limits.{most_words}
+use Rattle.tree_merge.specs.of_utf8.Utf8.{utf8}
+use Rattle.tree_merge.specs.of_text_filter.Filter.{unfiltered}
+use Rattle.tree_merge.proofs.of_tree_layout.Filling.{filled-front}
+use Rattle.tree_merge.specs.of_tree_report.Fields.{live, is_report, is_suite, is_case, is_suite_property, is_case_property, is_suite_extra, is_case_extra}
+use Rattle.tree_merge.specs.of_tree_report.Layout.{Open, nothing, opened, used_words, used_text, filled, all_zero, good_text}
+use Rattle.tree_merge.specs.of_tree_report.Layout.{good_record, all_good, may_follow, following, good_order, records_from, records_of, layout}
+use Rattle.tree_merge.specs.of_tree_report.ReportOf.{only}
+use Rattle.tree_merge.proofs.of_tree_report.EncodeAreas.{Whole}
+use Rattle.tree_merge.proofs.of_tree_report.EncodeLists.{both, and_left, and_right, Each, done, more, only-first, only-rest}
 use Rattle.tree_merge.specs.Answer.{is_below}
 use Rattle.merge_claims.specs.inside.Stands.{Clean, Held}
 use Rattle.merge_claims.proofs.Order.{passed, live-order}

@@ -5,20 +5,20 @@ use mathlib.Core.Bool.{true}
 use mathlib.Core.List.{List, [], ◌∷◌, ◌++◌, map, append_assoc, append-nil}
 use mathlib.Core.Option.{some}
 use lib.ListN.{length, drop, length-append}
-use Rattle.area.proofs.Laying.{laid-zeros}
-use Rattle.area.specs.Area.{zeros, laid}
-use Rattle.utf8.specs.Characters.{joined}
-use Rattle.schema.specs.Schema.{report}
-use Rattle.schema.specs.Texts.{stored_in, record_at, sound}
-use Rattle.schema.specs.Elements.{report_fields}
-use Rattle.schema.specs.Elements as named
-use Rattle.tree_report.specs.Report.{TestSuite, Report}
-use Rattle.tree_report.specs.Fields.{live, is_suite}
-use Rattle.tree_report.specs.Layout.{nothing, opened, used_words, used_text, all_zero, filled, good_text, all_good, good_order, records_of, layout}
-use Rattle.tree_report.specs.ReportOf.{only, branches, suite_of, report_from, report_of}
-use Rattle.tree_report.proofs.EncodeAreas.{records-of, zeros-behind}
-use Rattle.tree_report.proofs.EncodeLists.{both, Each, more, each_append, each_on, only-all}
-use Rattle.tree_report.proofs.EncodeText.{take-area, filled-texts, good-texts}
+use Rattle.tree_merge.proofs.of_area.Laying.{laid-zeros}
+use Rattle.tree_merge.specs.of_area.Area.{zeros, laid}
+use Rattle.tree_merge.specs.of_utf8.Characters.{joined}
+use Rattle.tree_merge.specs.of_schema.Schema.{report}
+use Rattle.tree_merge.specs.of_schema.Texts.{stored_in, record_at, sound}
+use Rattle.tree_merge.specs.of_schema.Elements.{report_fields}
+use Rattle.tree_merge.specs.of_schema.Elements as named
+use Rattle.tree_merge.specs.of_tree_report.Report.{TestSuite, Report}
+use Rattle.tree_merge.specs.of_tree_report.Fields.{live, is_suite}
+use Rattle.tree_merge.specs.of_tree_report.Layout.{nothing, opened, used_words, used_text, all_zero, filled, good_text, all_good, good_order, records_of, layout}
+use Rattle.tree_merge.specs.of_tree_report.ReportOf.{only, branches, suite_of, report_from, report_of}
+use Rattle.tree_merge.proofs.of_tree_report.EncodeAreas.{records-of, zeros-behind}
+use Rattle.tree_merge.proofs.of_tree_report.EncodeLists.{both, Each, more, each_append, each_on, only-all}
+use Rattle.tree_merge.proofs.of_tree_report.EncodeText.{take-area, filled-texts, good-texts}
 use Rattle.tree_merge.specs.Moved.{texts_in, moved_from}
 use Rattle.merge_claims.specs.inside.Pairs.{Pairs, ended, next}
 use Rattle.merge_claims.specs.inside.Alike.{Like, Alike}

@@ -9,9 +9,9 @@ use borrow.Author.Tests.{eqb-true, eq-eqb}
 use lib.Dec.{eqb}
 use lib.ListN.{length, get_or, set, take, drop, length-set}
 use lib.Seq.{get_or-drop, get_or-set_same, get_or-set_other}
-use Rattle.schema.specs.Schema.{Form, text, number, time, timestamp, uuid, flag, Row, width, bit_of}
-use Rattle.schema.specs.Records.{value_at, all_zero, zero_at, bit_value, bits_in}
-use Rattle.tree_report.proofs.EncodeLists.{both, and_left, and_right}
+use Rattle.tree_merge.specs.of_schema.Schema.{Form, text, number, time, timestamp, uuid, flag, Row, width, bit_of}
+use Rattle.tree_merge.specs.of_schema.Records.{value_at, all_zero, zero_at, bit_value, bits_in}
+use Rattle.tree_merge.proofs.of_tree_report.EncodeLists.{both, and_left, and_right}
 
 -- ---- words of zero
 front-zero : (l : List ℕ) (k : ℕ) → all_zero (take k l) ≡ true → (i : ℕ) → i < k → get_or l i 0 ≡ 0

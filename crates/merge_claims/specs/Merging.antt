@@ -10,15 +10,15 @@
 -- Of the areas that are lent only the lengths count.
 use Rattle.std.specs.Prelude.{ℕ, ◌-◌, ◌≡◌, List, ◌++◌, true, false, ◌⊎◌, ◌↔◌, length}
 use Rattle.std.proofs.Math.Option.{some}
-use Rattle.area.specs.Area.{zeros}
-use Rattle.refusal.specs.Refusal.{Refused, Outcome, accepted, refused, late}
-use Rattle.refusal.specs.declared.Cause.{Cause}
-use Rattle.refusal.specs.declared.Cause.TheVariants as cause
-use Rattle.tree_report.specs.Fields.{live}
-use Rattle.tree_report.specs.Layout.{layout, records_of}
-use Rattle.tree_report.specs.Report.{Report}
-use Rattle.tree_report.specs.ReportOf.{only, report_of}
-use Rattle.list_text.specs.Listing.{render, listed, output_of}
+use Rattle.tree_merge.specs.of_area.Area.{zeros}
+use Rattle.tree_merge.specs.of_refusal.Refusal.{Refused, Outcome, accepted, refused, late}
+use Rattle.tree_merge.specs.of_refusal.declared.Cause.{Cause}
+use Rattle.tree_merge.specs.of_refusal.declared.Cause.TheVariants as cause
+use Rattle.tree_merge.specs.of_tree_report.Fields.{live}
+use Rattle.tree_merge.specs.of_tree_report.Layout.{layout, records_of}
+use Rattle.tree_merge.specs.of_tree_report.Report.{Report}
+use Rattle.tree_merge.specs.of_tree_report.ReportOf.{only, report_of}
+use Rattle.merge_listing.specs.of_list_text.Listing.{render, listed, output_of}
 use Rattle.tree_merge.specs.Merged.{merged_report}
 use Rattle.tree_merge.specs.Answer.{merged, records_left, text_left}
 use Rattle.merge_claims.specs.Needs.{CountsPast, TimePast, RecordsShort, BytesShort}

@@ -1,10 +1,10 @@
 -- What stands against merging two trees, and what room the merged tree needs, in numbers of the two. Definitions only.
 use Rattle.std.specs.Prelude.{ℕ, ◌+◌, ◌/◌, ◌≤◌, ◌<◌, min, cond, List, [], ◌∷◌, ◌⊎◌, length, get_or}
 use Rattle.std.proofs.Math.Option.{Option, none, some}
-use Rattle.area.specs.Limits.{most_records, most_bytes}
-use Rattle.schema.specs.Schema.{Row, table_of}
-use Rattle.tree_record.specs.Record.{kind_of}
-use Rattle.tree_report.specs.Report.{Text, Duration, Report}
+use Rattle.tree_merge.specs.of_area.Limits.{most_records, most_bytes}
+use Rattle.tree_merge.specs.of_schema.Schema.{Row, table_of}
+use Rattle.tree_merge.specs.of_tree_record.Record.{kind_of}
+use Rattle.tree_merge.specs.of_tree_report.Report.{Text, Duration, Report}
 use Rattle.merge_listing.specs.Told.{or_nothing}
 use Rattle.tree_merge.specs.Merged.{nanos_in}
 use Rattle.tree_merge.specs.Moved.{has_text}

@@ -7,10 +7,10 @@ use native.Mathlib.Omega.{arith}
 use borrow.Author.Tests.{lt-ltb, le-ltb}
 use lib.Dec.{ltb}
 use lib.ListN.{length, get_or, take, drop}
-use Rattle.list_sums.specs.inside.Rows.{stands, records_in}
-use Rattle.list_sums.proofs.Records.{stands-room, records-here, records-over}
-use Rattle.tree_record.specs.Record.{live}
-use Rattle.tree_report.specs.ReportOf.{only}
+use Rattle.tree_merge.specs.of_list_sums.inside.Rows.{stands, records_in}
+use Rattle.tree_merge.proofs.of_list_sums.Records.{stands-room, records-here, records-over}
+use Rattle.tree_values.specs.of_tree_record.Record.{live}
+use Rattle.tree_merge.specs.of_tree_report.ReportOf.{only}
 use Rattle.merge_head.specs.inside.Head.{first_of}
 
 -- none of the records before `at` is live

@@ -10,29 +10,29 @@ use borrow.Author.Tests.{leb-true, ltb-true, ltb-false, lt-ltb, le-ltb}
 use lib.Dec.{leb, ltb}
 use lib.ListN.{length, get_or, set, drop, length-drop}
 use lib.Seq.{length-take-le}
-use Rattle.area.specs.Area.{zeros}
-use Rattle.utf8.specs.Characters.{boundary}
-use Rattle.timestamp.specs.declared.Moment.{Moment}
-use Rattle.timestamp.specs.Timestamp.{in_range}
-use Rattle.timestamp.proofs.Ranges.{range-facts}
-use Rattle.instant.specs.Instant.{instant_of}
-use Rattle.span.specs.inside.Span.{sooner}
-use Rattle.span.proofs.Numbers.{as_number}
-use Rattle.starts.specs.Starts.{nanos_to}
-use Rattle.tree_stamp.specs.Stamp.{cut_moment}
-use Rattle.tree_stamp.proofs.Layouts.{moment-own}
-use Rattle.schema.specs.Report.{Text, Duration}
-use Rattle.schema.specs.Schema.{report}
-use Rattle.schema.specs.Records.{is_set, given, Fields, encode}
-use Rattle.schema.specs.Texts.{stored_in, record_at}
-use Rattle.schema.proofs.Tests.{and_left, and_right}
-use Rattle.tree_record.specs.Record.{has_bit, text_at, number_at, marked}
-use Rattle.tree_put.specs.Put.{put_text, put_count_of, put_moment, put_time}
-use Rattle.tree_counts.specs.Counts.{is_count, added}
-use Rattle.build_draft.specs.Parts.{counts_in, put_counts}
-use Rattle.tree_report.specs.Fields.{moment_of}
-use Rattle.tree_report.specs.Layout.{zero_at}
-use Rattle.tree_report.specs.inside.Parts.{good_text_at, text_slot, moment_slot, time_slot, good_common}
+use Rattle.tree_values.specs.of_area.Area.{zeros}
+use Rattle.tree_values.specs.of_utf8.Characters.{boundary}
+use Rattle.tree_values.specs.of_timestamp.declared.Moment.{Moment}
+use Rattle.tree_values.specs.of_timestamp.Timestamp.{in_range}
+use Rattle.tree_values.proofs.of_timestamp.Ranges.{range-facts}
+use Rattle.tree_merge.specs.of_instant.Instant.{instant_of}
+use Rattle.tree_merge.specs.of_span.inside.Span.{sooner}
+use Rattle.tree_merge.proofs.of_span.Numbers.{as_number}
+use Rattle.tree_merge.specs.of_starts.Starts.{nanos_to}
+use Rattle.tree_merge.specs.of_tree_stamp.Stamp.{cut_moment}
+use Rattle.tree_merge.proofs.of_tree_stamp.Layouts.{moment-own}
+use Rattle.tree_merge.specs.of_schema.Report.{Text, Duration}
+use Rattle.tree_merge.specs.of_schema.Schema.{report}
+use Rattle.tree_merge.specs.of_schema.Records.{is_set, given, Fields, encode}
+use Rattle.tree_merge.specs.of_schema.Texts.{stored_in, record_at}
+use Rattle.tree_merge.proofs.of_schema.Tests.{and_left, and_right}
+use Rattle.tree_values.specs.of_tree_record.Record.{has_bit, text_at, number_at, marked}
+use Rattle.tree_values.specs.of_tree_put.Put.{put_text, put_count_of, put_moment, put_time}
+use Rattle.tree_merge.specs.of_tree_counts.Counts.{is_count, added}
+use Rattle.build_counts.specs.of_build_draft.Parts.{counts_in, put_counts}
+use Rattle.tree_merge.specs.of_tree_report.Fields.{moment_of}
+use Rattle.tree_merge.specs.of_tree_report.Layout.{zero_at}
+use Rattle.tree_merge.specs.of_tree_report.inside.Parts.{good_text_at, text_slot, moment_slot, time_slot, good_common}
 use Rattle.tree_merge.specs.Merged.{either_by, nanos_in as nanos_of, added_time, earlier}
 use Rattle.tree_merge.specs.Answer.{if_any, is_time}
 use Rattle.merge_head.specs.inside.Head.{nanos_in, name_size, put_name, is_earlier, is_second, put_stamp, put_start, put_total, head_of}

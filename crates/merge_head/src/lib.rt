@@ -2,21 +2,23 @@
 #![tactic(auto)]
 
 ghost use Rattle.std.specs.Prelude.{◌≡◌, ◌||◌, ◌+◌, ◌<◌};
-ghost use Rattle.tree_record.specs.Record.{live};
-ghost use Rattle.tree_report.specs.ReportOf.{only};
-ghost use Rattle.list_sums.specs.inside.Rows.{records_in};
-ghost use Rattle.tree_counts.specs.Counts.{counted_from, with_suite};
-ghost use Rattle.build_draft.specs.Parts.{counts_in};
+ghost use Rattle.tree_values.specs.of_tree_record.Record.{live};
+ghost use Rattle.tree_merge.specs.of_tree_report.ReportOf.{only};
+ghost use Rattle.tree_merge.specs.of_list_sums.inside.Rows.{records_in};
+ghost use Rattle.tree_merge.specs.of_tree_counts.Counts.{counted_from, with_suite};
+ghost use Rattle.build_counts.specs.of_build_draft.Parts.{counts_in};
 ghost use Rattle.merge_head.specs.inside.Head as head;
 
 use build_counts::{counts_in, put_counts};
-use instant::instant_of;
-use list_sums::rows::stands_here;
-use span::sooner;
-use tree_counts::{Counted, Counts};
-use tree_put::put_text;
-use tree_record::{bit, field, has_bit, kind, put_field, word};
-use tree_stamp::moment_of;
+use tree_merge::the_instant::instant_of;
+use tree_merge::the_list_sums::rows::stands_here;
+use tree_merge::the_span::sooner;
+use tree_merge::the_tree_counts::{Counted, Counts};
+use tree_merge::the_tree_stamp::moment_of;
+pub use tree_values as the_tree_values;
+pub use tree_values::the_tree_put;
+use tree_values::the_tree_put::put_text;
+use tree_values::the_tree_record::{bit, field, has_bit, kind, put_field, word};
 use tree_values::{put_moment, put_time};
 
 // The first live record, which is the report's in every layout.

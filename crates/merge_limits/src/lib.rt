@@ -4,7 +4,7 @@
 ghost use Rattle.std.specs.Prelude.{◌≡◌, leb};
 ghost use Rattle.merge_limits.specs.inside.Limits.{step_answer, room_by};
 
-use refusal::Cause;
+use area::the_refusal::Cause;
 
 #[derive(Clone, Copy)]
 pub enum Step {

@@ -5,13 +5,13 @@ use mathlib.Core.Bool.{Bool, true, false, cond, true≢false}
 use mathlib.Core.List.{List, [], ◌∷◌, ◌++◌, append_assoc}
 use mathlib.Core.Option.{Option, none, some}
 use native.Mathlib.Omega.{arith}
-use Rattle.escape.specs.Escape.{marked, letter, listed, escaped}
-use Rattle.escape.proofs.Escaping.{plain-letter, listed-told}
-use Rattle.digits.specs.Digits.{is_digit, all_digits, value, decimal}
-use Rattle.digits.proofs.Printing.{decimal-digits, decimal-value}
-use Rattle.digits.proofs.Ascii.{digit-decimal}
-use Rattle.schema.proofs.Tests.{and_left, and_right}
-use Rattle.tree_report.specs.Report.{Text}
+use Rattle.list_text.specs.of_escape.Escape.{marked, letter, listed, escaped}
+use Rattle.list_text.proofs.of_escape.Escaping.{plain-letter, listed-told}
+use Rattle.list_text.specs.of_digits.Digits.{is_digit, all_digits, value, decimal}
+use Rattle.list_text.proofs.of_digits.Printing.{decimal-digits, decimal-value}
+use Rattle.list_text.proofs.of_digits.Ascii.{digit-decimal}
+use Rattle.list_text.proofs.of_schema.Tests.{and_left, and_right}
+use Rattle.list_text.specs.of_tree_report.Report.{Text}
 use Rattle.list_text.specs.Listing.{quoted, or_dash}
 use Rattle.merge_listing.specs.Told.{or_nothing}
 

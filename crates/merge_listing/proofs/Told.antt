@@ -5,9 +5,9 @@ use mathlib.Core.Bool.{false}
 use mathlib.Core.List.{List, [], ◌∷◌, ◌++◌, append_assoc}
 use native.Mathlib.Omega.{arith}
 use lib.ListN.{length, length-append}
-use Rattle.digits.specs.Digits.{digit, is_digit, decimal}
-use Rattle.names.specs.Bytes.{bytes}
-use Rattle.tree_report.specs.Report.{Counts}
+use Rattle.list_text.specs.of_digits.Digits.{digit, is_digit, decimal}
+use Rattle.list_text.specs.of_names.Bytes.{bytes}
+use Rattle.list_text.specs.of_tree_report.Report.{Counts}
 use Rattle.list_text.specs.Listing.{PublicReport, PublicSuite, quoted, or_dash, fields, count_fields, header, suite_texts, suite_text, ending, render_public}
 use Rattle.merge_listing.specs.Told.{InLimit, Told}
 use Rattle.merge_listing.proofs.Fields.{number-told, name-told, Last, missing-told}

@@ -1,7 +1,7 @@
 -- What a listing tells of its report. Definitions only.
 use Rattle.std.specs.Prelude.{ℕ, ◌≤◌, ◌≡◌}
 use Rattle.std.proofs.Math.Option.{Option, none, some}
-use Rattle.tree_report.specs.Report.{Counts}
+use Rattle.list_text.specs.of_tree_report.Report.{Counts}
 use Rattle.list_text.specs.Listing.{PublicReport, suite_texts, render_public}
 
 -- a missing count counts 0

@@ -7,11 +7,11 @@ use native.Mathlib.Omega.{arith}
 use borrow.Rule.Slice.PartMut.{put_mid}
 use lib.ListN.{length, take, drop, set, length-append, length-set}
 use lib.Seq.{drop-drop}
-use Rattle.area.proofs.Parts.{length_part}
-use Rattle.area.specs.Limits.{most_bytes}
-use Rattle.list_sums.proofs.Records.{stands-room}
-use Rattle.schema.specs.Stores.{splice}
-use Rattle.tree_merge.specs.Answer.{is_below}
+use Rattle.merge_rows.proofs.of_area.Parts.{length_part}
+use Rattle.merge_rows.specs.of_area.Limits.{most_bytes}
+use Rattle.merge_rows.proofs.of_list_sums.Records.{stands-room}
+use Rattle.merge_rows.specs.of_schema.Stores.{splice}
+use Rattle.merge_rows.specs.of_tree_merge.Answer.{is_below}
 use Rattle.merge_rows.specs.inside.Slots.{start_at, has_text, front_moved, back_moved, row_texts, row_moved_of}
 use Rattle.merge_rows.proofs.Splicing.{splice-none, splice-then, length-splice}
 use Rattle.merge_records.specs.declared.Mark.{Mark}

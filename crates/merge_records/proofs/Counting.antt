@@ -6,10 +6,10 @@ use mathlib.Core.Path.{◌≡◌, refl, sym, ap, ◌∙◌}
 use native.Mathlib.Omega.{arith}
 use lib.Dec.{ltb, eqb}
 use lib.ListN.{length, get_or, take, drop}
-use Rattle.list_sums.specs.inside.Rows.{stands}
-use Rattle.list_sums.proofs.Records.{stands-room, records-here, records-over}
-use Rattle.tree_report.specs.ReportOf.{only}
-use Rattle.tree_merge.specs.Answer.{is_below}
+use Rattle.merge_rows.specs.of_list_sums.inside.Rows.{stands}
+use Rattle.merge_rows.proofs.of_list_sums.Records.{stands-room, records-here, records-over}
+use Rattle.merge_rows.specs.of_tree_report.ReportOf.{only}
+use Rattle.merge_rows.specs.of_tree_merge.Answer.{is_below}
 use Rattle.merge_rows.specs.inside.Slots.{sizes_of}
 use Rattle.merge_records.specs.inside.Copied.{below_in, sizes_in}
 

@@ -4,12 +4,12 @@ use mathlib.Core.Bool.{Bool, true, false, cond}
 use mathlib.Core.List.{List, [], ◌∷◌, ◌++◌}
 use mathlib.Core.Path.{◌≡◌, refl, sym, ap, ap₂, ◌∙◌}
 use lib.ListN.{length, length-append}
-use Rattle.utf8.specs.Characters.{joined}
-use Rattle.schema.proofs.Tests.{and_left, and_right}
-use Rattle.tree_report.specs.Layout.{good_record, all_good}
-use Rattle.tree_report.specs.ReportOf.{only}
-use Rattle.tree_merge.specs.Answer.{is_below}
-use Rattle.tree_merge.specs.Moved.{texts_of, texts_in, moved_from}
+use Rattle.merge_rows.specs.of_utf8.Characters.{joined}
+use Rattle.merge_rows.proofs.of_schema.Tests.{and_left, and_right}
+use Rattle.merge_rows.specs.of_tree_report.Layout.{good_record, all_good}
+use Rattle.merge_rows.specs.of_tree_report.ReportOf.{only}
+use Rattle.merge_rows.specs.of_tree_merge.Answer.{is_below}
+use Rattle.merge_rows.specs.of_tree_merge.Moved.{texts_of, texts_in, moved_from}
 use Rattle.merge_rows.proofs.Rows.{row-texts, row_moved, row-sizes}
 use Rattle.merge_records.specs.inside.Copied.{sizes_in, texts_for, records_for}
 

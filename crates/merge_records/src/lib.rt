@@ -2,13 +2,17 @@
 #![tactic(auto)]
 
 ghost use Rattle.std.specs.Prelude.{◌≡◌, not, ◌&&◌, ◌+◌, ◌*◌, ◌≤◌, length, ltb, eqb};
-ghost use Rattle.area.specs.Limits.{most_words};
+ghost use Rattle.merge_rows.specs.of_area.Limits.{most_words};
 ghost use Rattle.merge_records.specs.inside.Copied.{below_in, sizes_in, records_for, texts_for, Room};
-ghost use Rattle.schema.specs.Stores.{splice};
+ghost use Rattle.merge_rows.specs.of_schema.Stores.{splice};
 
-use list_sums::rows::stands_here;
+pub use merge_rows as the_merge_rows;
+use merge_rows::the_list_sums::rows::stands_here;
+use merge_rows::the_tree_record::{field, kind, word};
+pub use merge_rows::{
+    the_list_values, the_starts, the_tree_counts, the_tree_layout, the_tree_record,
+};
 use merge_rows::{move_row, sizes_of};
-use tree_record::{field, kind, word};
 
 #[derive(Clone, Copy)]
 pub struct Needs {

@@ -8,13 +8,13 @@ use native.Mathlib.Omega.{arith}
 use borrow.Author.Tests.{leb-true, le-leb, not-true}
 use lib.Dec.{leb, eqb}
 use lib.ListN.{length, get_or, set, length-append}
-use Rattle.schema.specs.Schema.{report, suite, case, main, skipped, run, property, extra, table_of}
-use Rattle.schema.specs.Records.{is_set, bits_in, good_from, good}
-use Rattle.schema.proofs.Tests.{and_left, and_right}
-use Rattle.tree_record.specs.Record as words
-use Rattle.tree_record.specs.Record.{kind_of, live, has_bit}
-use Rattle.tree_report.specs.Fields.{is_report}
-use Rattle.tree_report.specs.Layout.{good_record}
+use Rattle.write_bytes.specs.of_schema.Schema.{report, suite, case, main, skipped, run, property, extra, table_of}
+use Rattle.write_bytes.specs.of_schema.Records.{is_set, bits_in, good_from, good}
+use Rattle.write_bytes.proofs.of_schema.Tests.{and_left, and_right}
+use Rattle.write_bytes.specs.of_tree_record.Record as words
+use Rattle.write_bytes.specs.of_tree_record.Record.{kind_of, live, has_bit}
+use Rattle.write_bytes.specs.of_tree_report.Fields.{is_report}
+use Rattle.write_bytes.specs.of_tree_report.Layout.{good_record}
 use Rattle.tree_merge.proofs.Records.{table-good}
 use Rattle.tree_merge.specs.Answer.{is_below}
 use Rattle.tree_merge.specs.Moved.{texts_of, moved_to}

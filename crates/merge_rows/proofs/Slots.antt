@@ -10,13 +10,13 @@ use borrow.Author.Tests.{leb-true}
 use lib.Dec.{leb}
 use lib.ListN.{length, get_or, set, drop, length-append, length-drop}
 use lib.Seq.{length-take-le}
-use Rattle.utf8.specs.Characters.{boundary}
-use Rattle.schema.specs.Report.{Text}
-use Rattle.schema.specs.Schema.{Form, text, number, time, timestamp, uuid, flag, Presence, always, must, may, unkept, Row, behind}
-use Rattle.schema.specs.Records.{Of, Held, is_set, given, value_at, good_value, zero_at, good_slot, good_from}
-use Rattle.schema.specs.Texts.{shown_slot, fields_of, stored_value, stored, stored_in}
-use Rattle.schema.proofs.Tests.{and_left, and_right}
-use Rattle.tree_record.specs.Record.{text_at}
+use Rattle.write_bytes.specs.of_utf8.Characters.{boundary}
+use Rattle.write_bytes.specs.of_schema.Report.{Text}
+use Rattle.write_bytes.specs.of_schema.Schema.{Form, text, number, time, timestamp, uuid, flag, Presence, always, must, may, unkept, Row, behind}
+use Rattle.write_bytes.specs.of_schema.Records.{Of, Held, is_set, given, value_at, good_value, zero_at, good_slot, good_from}
+use Rattle.write_bytes.specs.of_schema.Texts.{shown_slot, fields_of, stored_value, stored, stored_in}
+use Rattle.write_bytes.proofs.of_schema.Tests.{and_left, and_right}
+use Rattle.write_bytes.specs.of_tree_record.Record.{text_at}
 use Rattle.tree_merge.specs.Moved.{is_text, is_there, has_text, text_in_of, moved_by}
 
 -- a text's presence bit and first word

@@ -6,11 +6,11 @@ use native.Mathlib.Nat.{add-zero}
 use native.Mathlib.Omega.{arith}
 use lib.ListN.{length, take, drop, length-append, length-drop, take-append-drop}
 use lib.Seq.{length-take-le, take_at, drop_at, drop-drop}
-use Rattle.area.specs.Area.{laid}
+use Rattle.write_bytes.specs.of_area.Area.{laid}
 use borrow.Rule.Slice.PartMut.{put_mid}
-use Rattle.area.proofs.Laying.{laid-fits}
-use Rattle.area.proofs.Parts.{rest_part, rest_back}
-use Rattle.schema.specs.Stores.{splice}
+use Rattle.write_bytes.proofs.of_area.Laying.{laid-fits}
+use Rattle.write_bytes.proofs.of_area.Parts.{rest_part, rest_back}
+use Rattle.write_bytes.specs.of_schema.Stores.{splice}
 
 module _ (fill : ℕ) (b : List ℕ) where
   pub splice-none : splice fill [] b ≡ b

@@ -7,12 +7,12 @@ use native.Mathlib.Nat.{le_of_eq}
 use native.Mathlib.Omega.{arith}
 use lib.Dec.{eqb}
 use lib.ListN.{length, get_or, set, take, drop, drop_of_length-le}
-use Rattle.area.specs.declared.Stored.{Stored}
-use Rattle.area.specs.declared.Stored.TheVariants.{Put}
-use Rattle.area.proofs.Laying.{laid-fits}
-use Rattle.list_text.specs.inside.Behind.{Filled, filled, behind, Puts}
-use Rattle.tree_record.specs.Record as words
-use Rattle.tree_record.specs.Record.{kind_of}
+use Rattle.write_bytes.specs.of_area.declared.Stored.{Stored}
+use Rattle.write_bytes.specs.of_area.declared.Stored.TheVariants.{Put}
+use Rattle.write_bytes.proofs.of_area.Laying.{laid-fits}
+use Rattle.write_bytes.specs.of_list_text.inside.Behind.{Filled, filled, behind, Puts}
+use Rattle.write_bytes.specs.of_tree_record.Record as words
+use Rattle.write_bytes.specs.of_tree_record.Record.{kind_of}
 use Rattle.merge_rows.specs.inside.Slots.{text_bits, has_text, text_at, size_at, start_at, name, out, type, description, trace}
 use Rattle.merge_rows.specs.inside.Slots.{front_texts, back_texts, front_moved, back_moved, row_texts, row_moved_of, sizes_of}
 

@@ -2,15 +2,19 @@
 #![tactic(auto)]
 
 ghost use Rattle.std.specs.Prelude.{◌≡◌, ◌&&◌, ◌+◌, ◌≤◌, ◌<◌, length};
-ghost use Rattle.area.specs.Limits.{most_bytes};
-ghost use Rattle.tree_record.specs.Record.{has_bit};
-ghost use Rattle.schema.specs.Stores.{splice};
+ghost use Rattle.write_bytes.specs.of_area.Limits.{most_bytes};
+ghost use Rattle.write_bytes.specs.of_tree_record.Record.{has_bit};
+ghost use Rattle.write_bytes.specs.of_schema.Stores.{splice};
 ghost use Rattle.merge_rows.specs.inside.Slots as slots;
 
-use area::{Stored, copy_into};
-use list_values::part_of;
-use tree_record::{bit, field, has_bit, kind, put_field, word};
+use tree_merge::the_list_values::part_of;
+pub use tree_merge::{
+    the_list_sums, the_list_values, the_starts, the_tree_counts, the_tree_layout,
+};
 use write_bytes::put_words;
+use write_bytes::the_area::{Stored, copy_into};
+pub use write_bytes::the_tree_record;
+use write_bytes::the_tree_record::{bit, field, has_bit, kind, put_field, word};
 
 // The presence bits that tell of texts in a record of this kind.
 fn text_bits(k: u32) -> u32

@@ -9,25 +9,25 @@ use native.Mathlib.Omega.{arith}
 use borrow.Author.Tests.{leb-true, leb-false, ltb-true, ltb-false, le-leb, lt-leb}
 use lib.Dec.{leb, ltb}
 use lib.ListN.{length, length-append}
-use Rattle.area.specs.Answer.{Answer, gives, refuses}
-use Rattle.area.specs.Area.{zeros}
-use Rattle.area.specs.Limits.{most_words, most_records, most_bytes}
-use Rattle.refusal.specs.declared.Cause.TheVariants as cause
-use Rattle.utf8.specs.Characters.{joined}
-use Rattle.schema.specs.Schema.{report}
-use Rattle.schema.specs.Texts.{fields_of, stored_in, record_at}
-use Rattle.schema.specs.Elements as named
-use Rattle.tree_record.specs.Record.{has_bit, text_at}
-use Rattle.tree_report.specs.Report.{Report}
-use Rattle.tree_report.specs.Layout.{used_words, used_text, filled, records_of, layout}
-use Rattle.tree_report.specs.ReportOf.{report_of}
-use Rattle.tree_counts.specs.Counts as counts
-use Rattle.tree_counts.specs.Counts.{is_count, added}
-use Rattle.build_draft.specs.Parts.{counts_in}
-use Rattle.tree_merge.specs.Merged.{merged_report}
-use Rattle.tree_merge.specs.Moved.{texts_in, texts_of, moved_from}
-use Rattle.tree_merge.specs.Answer as answer
-use Rattle.tree_merge.specs.Answer.{both_by, merged_of, below_report, merged_tree, if_any, limited, placed, merge_answer}
+use Rattle.clearing.specs.of_area.Answer.{Answer, gives, refuses}
+use Rattle.clearing.specs.of_area.Area.{zeros}
+use Rattle.clearing.specs.of_area.Limits.{most_words, most_records, most_bytes}
+use Rattle.clearing.specs.of_refusal.declared.Cause.TheVariants as cause
+use Rattle.merge_records.specs.of_utf8.Characters.{joined}
+use Rattle.merge_records.specs.of_schema.Schema.{report}
+use Rattle.merge_records.specs.of_schema.Texts.{fields_of, stored_in, record_at}
+use Rattle.merge_records.specs.of_schema.Elements as named
+use Rattle.merge_records.specs.of_tree_record.Record.{has_bit, text_at}
+use Rattle.merge_records.specs.of_tree_report.Report.{Report}
+use Rattle.merge_records.specs.of_tree_report.Layout.{used_words, used_text, filled, records_of, layout}
+use Rattle.merge_records.specs.of_tree_report.ReportOf.{report_of}
+use Rattle.merge_records.specs.of_tree_counts.Counts as counts
+use Rattle.merge_records.specs.of_tree_counts.Counts.{is_count, added}
+use Rattle.merge_head.specs.of_build_draft.Parts.{counts_in}
+use Rattle.merge_head.specs.of_tree_merge.Merged.{merged_report}
+use Rattle.merge_head.specs.of_tree_merge.Moved.{texts_in, texts_of, moved_from}
+use Rattle.merge_head.specs.of_tree_merge.Answer as answer
+use Rattle.merge_head.specs.of_tree_merge.Answer.{both_by, merged_of, below_report, merged_tree, if_any, limited, placed, merge_answer}
 use Rattle.merge_head.specs.inside.Head.{name_size, head_of}
 use Rattle.merge_head.proofs.Heading.{name-sized, name-alone, disabled-fits, time-fits, head-record}
 use Rattle.merge_records.specs.inside.Copied.{below_in, sizes_in, texts_for, records_for}

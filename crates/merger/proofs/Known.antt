@@ -7,17 +7,17 @@ use native.Mathlib.Nat.{min-le_left, min-le_right, zero-add}
 use native.Mathlib.Omega.{arith}
 use lib.ListN.{length, take, drop, length-append, length-take, length-replicate, replicate-append-replicate}
 use lib.Seq.{length-take-le}
-use Rattle.area.specs.Answer.{Answer, gives, refuses}
-use Rattle.area.specs.Area.{zeros}
-use Rattle.area.specs.Limits.{most_words, most_bytes}
-use Rattle.area.proofs.Laying.{laid-zeros}
-use Rattle.area.proofs.Lists.{drop-zeros, take-zeros}
-use Rattle.refusal.specs.Refusal.{refused, late}
-use Rattle.refusal.specs.declared.Cause.TheVariants as cause
-use Rattle.utf8.specs.Characters.{joined}
-use Rattle.list_values.proofs.Cutting.{take-least}
-use Rattle.tree_report.specs.Layout.{used_words, layout}
-use Rattle.tree_merge.specs.Answer.{merged_tree, merge_answer, outcome_of, merged, left_for, records_left, text_left}
+use Rattle.clearing.specs.of_area.Answer.{Answer, gives, refuses}
+use Rattle.clearing.specs.of_area.Area.{zeros}
+use Rattle.clearing.specs.of_area.Limits.{most_words, most_bytes}
+use Rattle.clearing.proofs.of_area.Laying.{laid-zeros}
+use Rattle.clearing.proofs.of_area.Lists.{drop-zeros, take-zeros}
+use Rattle.clearing.specs.of_refusal.Refusal.{refused, late}
+use Rattle.clearing.specs.of_refusal.declared.Cause.TheVariants as cause
+use Rattle.merge_records.specs.of_utf8.Characters.{joined}
+use Rattle.merge_records.proofs.of_list_values.Cutting.{take-least}
+use Rattle.merge_records.specs.of_tree_report.Layout.{used_words, layout}
+use Rattle.merge_head.specs.of_tree_merge.Answer.{merged_tree, merge_answer, outcome_of, merged, left_for, records_left, text_left}
 use Rattle.merger.specs.declared.Merging.{Merging}
 use Rattle.merger.specs.Answer.{merging_from}
 use Rattle.merger.specs.inside.Whole.{tree_texts, tree_words, used_answer, left_by, Sized, Zero}

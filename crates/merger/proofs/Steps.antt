@@ -8,25 +8,25 @@ use borrow.Author.Tests.{leb-false, ltb-false}
 use lib.Dec.{leb, ltb, eqb}
 use lib.ListN.{length, get_or, take, drop, length-append, length-drop}
 use lib.Seq.{length-take-le}
-use Rattle.area.specs.Answer.{Answer, gives, refuses}
-use Rattle.area.specs.Area.{zeros}
-use Rattle.area.specs.Limits.{most_bytes}
-use Rattle.area.proofs.Lists.{take-zeros}
-use Rattle.refusal.specs.declared.Cause.{Cause}
-use Rattle.refusal.specs.declared.Cause.TheVariants as cause
-use Rattle.refusal.specs.declared.Verdict.{Verdict}
-use Rattle.refusal.specs.declared.Verdict.TheVariants.{Accepted, Refused}
-use Rattle.schema.specs.Stores.{splice}
-use Rattle.list_sums.specs.inside.Rows.{records_in}
-use Rattle.tree_record.specs.Record.{live, has_bit, text_at}
-use Rattle.tree_report.specs.Layout.{records_from}
-use Rattle.tree_report.specs.ReportOf.{only}
-use Rattle.tree_counts.specs.declared.Counts.{Counts}
-use Rattle.tree_counts.specs.declared.Counted.{Counted}
-use Rattle.tree_counts.specs.Counts.{added, are_counts, with_suite, counted_from}
-use Rattle.tree_merge.specs.Answer.{is_below}
-use Rattle.merge_rows.specs.inside.Slots.{row_texts, row_moved_of}
-use Rattle.merge_rows.proofs.Splicing.{splice-then, length-splice, first_fits, middle-fits, middle-size, third-fits, third-size, three}
+use Rattle.clearing.specs.of_area.Answer.{Answer, gives, refuses}
+use Rattle.clearing.specs.of_area.Area.{zeros}
+use Rattle.clearing.specs.of_area.Limits.{most_bytes}
+use Rattle.clearing.proofs.of_area.Lists.{take-zeros}
+use Rattle.clearing.specs.of_refusal.declared.Cause.{Cause}
+use Rattle.clearing.specs.of_refusal.declared.Cause.TheVariants as cause
+use Rattle.clearing.specs.of_refusal.declared.Verdict.{Verdict}
+use Rattle.clearing.specs.of_refusal.declared.Verdict.TheVariants.{Accepted, Refused}
+use Rattle.merge_records.specs.of_schema.Stores.{splice}
+use Rattle.merge_records.specs.of_list_sums.inside.Rows.{records_in}
+use Rattle.merge_records.specs.of_tree_record.Record.{live, has_bit, text_at}
+use Rattle.merge_records.specs.of_tree_report.Layout.{records_from}
+use Rattle.merge_records.specs.of_tree_report.ReportOf.{only}
+use Rattle.merge_records.specs.of_tree_counts.declared.Counts.{Counts}
+use Rattle.merge_records.specs.of_tree_counts.declared.Counted.{Counted}
+use Rattle.merge_records.specs.of_tree_counts.Counts.{added, are_counts, with_suite, counted_from}
+use Rattle.merge_head.specs.of_tree_merge.Answer.{is_below}
+use Rattle.merge_records.specs.of_merge_rows.inside.Slots.{row_texts, row_moved_of}
+use Rattle.merge_records.proofs.of_merge_rows.Splicing.{splice-then, length-splice, first_fits, middle-fits, middle-size, third-fits, third-size, three}
 use Rattle.merge_records.specs.declared.Mark.{Mark}
 use Rattle.merge_records.specs.inside.Copied.{below_in, sizes_in, texts_for, records_for, Room}
 use Rattle.merge_records.proofs.Copying.{length_moved}

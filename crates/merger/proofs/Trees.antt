@@ -5,22 +5,22 @@ use mathlib.Core.List.{List, [], ◌∷◌, map}
 use mathlib.Core.Option.{some}
 use mathlib.Core.Path.{◌≡◌, refl, sym, ap, ◌∙◌}
 use lib.ListN.{length, drop}
-use Rattle.schema.proofs.Tests.{and_left, and_right}
-use Rattle.schema.specs.Schema.{report}
-use Rattle.schema.specs.Texts.{fields_of}
-use Rattle.schema.specs.Elements as named
-use Rattle.list_sums.proofs.Used.{records-used}
-use Rattle.tree_record.specs.Record.{has_bit, live}
-use Rattle.tree_report.specs.Report.{TestSuite}
-use Rattle.tree_report.specs.Fields.{is_report, is_suite, is_case, is_suite_extra, is_case_extra, is_suite_property, is_case_property}
-use Rattle.tree_report.specs.Layout.{used_words, used_text, filled, good_text, zero_at, good_record, all_good, all_zero}
-use Rattle.tree_report.specs.inside.Parts.{good_report, good_common, good_counts, only_bits, report_bits, slot}
-use Rattle.tree_report.specs.Layout.{nothing, may_follow, following, good_order, records_of, layout}
-use Rattle.tree_report.specs.ReportOf.{only, branches, suite_of, report_from, report_of}
-use Rattle.tree_report.proofs.ByKind.{record-parts}
-use Rattle.tree_report.proofs.ByTable.{report-good}
-use Rattle.tree_layout.proofs.Filling.{fill-fits}
-use Rattle.tree_merge.specs.Answer.{is_below, below_report}
+use Rattle.merge_records.proofs.of_schema.Tests.{and_left, and_right}
+use Rattle.merge_records.specs.of_schema.Schema.{report}
+use Rattle.merge_records.specs.of_schema.Texts.{fields_of}
+use Rattle.merge_records.specs.of_schema.Elements as named
+use Rattle.merge_records.proofs.of_list_sums.Used.{records-used}
+use Rattle.merge_records.specs.of_tree_record.Record.{has_bit, live}
+use Rattle.merge_records.specs.of_tree_report.Report.{TestSuite}
+use Rattle.merge_records.specs.of_tree_report.Fields.{is_report, is_suite, is_case, is_suite_extra, is_case_extra, is_suite_property, is_case_property}
+use Rattle.merge_records.specs.of_tree_report.Layout.{used_words, used_text, filled, good_text, zero_at, good_record, all_good, all_zero}
+use Rattle.merge_records.specs.of_tree_report.inside.Parts.{good_report, good_common, good_counts, only_bits, report_bits, slot}
+use Rattle.merge_records.specs.of_tree_report.Layout.{nothing, may_follow, following, good_order, records_of, layout}
+use Rattle.merge_records.specs.of_tree_report.ReportOf.{only, branches, suite_of, report_from, report_of}
+use Rattle.merge_records.proofs.of_tree_report.ByKind.{record-parts}
+use Rattle.merge_records.proofs.of_tree_report.ByTable.{report-good}
+use Rattle.merge_records.proofs.of_tree_layout.Filling.{fill-fits}
+use Rattle.merge_head.specs.of_tree_merge.Answer.{is_below, below_report}
 use Rattle.merge_head.specs.inside.Head.{first_of}
 use Rattle.merge_records.specs.inside.Copied.{below_in}
 use Rattle.merger.specs.inside.Whole.{report_in}

@@ -1,5 +1,5 @@
 -- What merging answers. Definitions only.
-use Rattle.refusal.specs.Refusal.{Outcome, verdict_of, refusal_of}
+use Rattle.clearing.specs.of_refusal.Refusal.{Outcome, verdict_of, refusal_of}
 use Rattle.merger.specs.declared.Merging.{Merging}
 
 -- the answer whole

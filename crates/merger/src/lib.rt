@@ -2,29 +2,31 @@
 #![tactic(auto)]
 
 ghost use Rattle.std.specs.Prelude.{◌≡◌, true, ◌++◌, ◌+◌, ◌*◌, ◌≤◌, ◌<◌, length, take};
-ghost use Rattle.area.specs.Area.{zeros};
-ghost use Rattle.area.specs.Limits.{most_words, most_bytes};
-ghost use Rattle.refusal.specs.Refusal.{refused, late};
-ghost use Rattle.schema.specs.Stores.{splice};
-ghost use Rattle.tree_report.specs.Layout.{layout};
-ghost use Rattle.tree_merge.specs.Answer.{merge_answer, outcome_of, merged, records_left, text_left};
+ghost use Rattle.clearing.specs.of_area.Area.{zeros};
+ghost use Rattle.clearing.specs.of_area.Limits.{most_words, most_bytes};
+ghost use Rattle.clearing.specs.of_refusal.Refusal.{refused, late};
+ghost use Rattle.merge_records.specs.of_schema.Stores.{splice};
+ghost use Rattle.merge_records.specs.of_tree_report.Layout.{layout};
+ghost use Rattle.merge_head.specs.of_tree_merge.Answer.{merge_answer, outcome_of, merged, records_left, text_left};
 ghost use Rattle.merge_limits.specs.inside.Limits.{step_answer};
 ghost use Rattle.merge_records.specs.inside.Copied.{below_in, sizes_in};
 ghost use Rattle.merge_head.specs.inside.Head.{head_of};
 ghost use Rattle.merger.specs.Answer.{merging_from};
 ghost use Rattle.merger.specs.inside.Whole as whole;
 
-use area::{least, limit};
 use clearing::clear_tree;
-use list_values::part_of;
+use clearing::the_area::{least, limit};
+use clearing::the_refusal::{Cause, Refusal, Verdict, no_refusal, refuse_late};
+pub use merge_head::{the_tree_put, the_tree_values};
 use merge_head::{name_size, nanos_of, put_head, report_in, sums_of};
 use merge_limits::{Step, is_long, room_by};
+use merge_records::the_list_values::part_of;
+use merge_records::the_merge_rows::put_text;
+pub use merge_records::the_starts;
+use merge_records::the_tree_counts::Counts;
+use merge_records::the_tree_layout::is_layout;
+use merge_records::the_tree_record::{bit, field, has_bit, word};
 use merge_records::{Mark, needs_of, put_rows};
-use merge_rows::put_text;
-use refusal::{Cause, Refusal, Verdict, no_refusal, refuse_late};
-use tree_counts::Counts;
-use tree_layout::is_layout;
-use tree_record::{bit, field, has_bit, word};
 
 // Whether there is a merged tree, or why not.
 #[derive(Clone, Copy)]

@@ -2,3 +2,5 @@ pub mod Bytes
 pub mod Names
 pub mod Tags
 pub mod Keys
+pub use Rattle.area.specs as of_area
+pub use Rattle.area.specs.of_refusal as of_refusal

@@ -6,6 +6,9 @@ ghost use Rattle.names.specs.Names.{same_bytes, code_in, cut};
 ghost use Rattle.names.specs.Tags.{tag_of};
 ghost use Rattle.names.specs.Keys.{key_of};
 
+pub use area as the_area;
+pub use area::the_refusal;
+
 pub mod key;
 pub mod tag;
 

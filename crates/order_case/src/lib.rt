@@ -2,21 +2,23 @@
 #![tactic(auto)]
 
 ghost use Rattle.std.specs.Prelude.{List, ◌∷◌, [], ℕ};
-ghost use Rattle.names.specs.Keys as key;
-ghost use Rattle.write_table.specs.Laid.{pair};
-ghost use Rattle.write_table.specs.inside.Putting.{Wrote};
-ghost use Rattle.write_marks.specs.inside.Kept.{kept};
-ghost use Rattle.write_items.specs.inside.Values.{key_name};
+ghost use Rattle.write_entries.specs.of_names.Keys as key;
+ghost use Rattle.write_entries.specs.of_write_table.Laid.{pair};
+ghost use Rattle.write_entries.specs.of_write_table.inside.Putting.{Wrote};
+ghost use Rattle.write_entries.specs.of_write_marks.inside.Kept.{kept};
+ghost use Rattle.order_report.specs.of_write_items.inside.Values.{key_name};
 ghost use Rattle.order_report.specs.Rehearsal.{case_name};
 ghost use Rattle.order_report.specs.inside.Items.{opening_items, main_items, flaky_items, case_items};
 
-use names::{key, tag};
+pub use order_report as the_order_report;
 use order_report::Kind;
-use table::kind::{EMPTY, END, START};
+pub use write_entries as the_write_entries;
 use write_entries::put_tag;
-use write_marks::{Marks, store_attribute};
-use write_tags::put_quote;
-use write_values::put_key;
+use write_entries::the_names::{key, tag};
+use write_entries::the_table::kind::{EMPTY, END, START};
+use write_entries::the_write_marks::{Marks, store_attribute};
+use write_entries::the_write_tags::put_quote;
+use write_entries::the_write_values::put_key;
 
 // By rule O4; no byte of such a name is escaped.
 fn put_name(attributes: &mut [u32], bytes: &mut [u8], k: Marks, i: u64) -> Marks
@@ -25,8 +27,8 @@ fn put_name(attributes: &mut [u32], bytes: &mut [u8], k: Marks, i: u64) -> Marks
 {
     let from = k.bytes;
     let middle = put_key(bytes, from, k.form, key::NAME as u8);
-    let front = list_text::put(bytes, middle, b"case");
-    let value = list_text::put_decimal(bytes, front, i);
+    let front = write_entries::the_list_text::put(bytes, middle, b"case");
+    let value = write_entries::the_list_text::put_decimal(bytes, front, i);
     let to = put_quote(bytes, value, k.form);
     store_attribute(attributes, k, middle, to)
 }

@@ -7,18 +7,18 @@ use native.Mathlib.Omega.{arith}
 use borrow.Author.Tests.{eq-eqb, ne_eqb}
 use lib.Dec.{eqb}
 use lib.ListN.{length, replicate, length-append, length-replicate}
-use Rattle.names.specs.Bytes.{bytes}
-use Rattle.names.specs.Tags.{tags}
-use Rattle.names.specs.Keys.{keys}
-use Rattle.names.specs.Tags as tag
-use Rattle.digits.specs.Digits.{decimal}
-use Rattle.table.specs.Kinds as event
-use Rattle.table.specs.Event.{Attribute, Event, TagKind, Start, Empty, Tag, Eof}
-use Rattle.tree_report.specs.Report.{TestCase}
-use Rattle.write_report.specs.Written.{each, is_empty, element, start_tag, end_tag, indent, suite_attributes, report_attributes, declaration, serialize_properties, serialize_outputs, serialize_status}
-use Rattle.write_report.specs.Written.{case_attributes, serialize_rerun, serialize_elements, serialize_test_case, serialize_test_suite, serialize_report, written}
-use Rattle.write_table.specs.Laid.{Item, entry, pair, tag_number, items_of}
-use Rattle.write_table.proofs.Writing.{items_append}
+use Rattle.write_answer.specs.of_names.Bytes.{bytes}
+use Rattle.write_answer.specs.of_names.Tags.{tags}
+use Rattle.write_answer.specs.of_names.Keys.{keys}
+use Rattle.write_answer.specs.of_names.Tags as tag
+use Rattle.write_answer.specs.of_digits.Digits.{decimal}
+use Rattle.write_answer.specs.of_table.Kinds as event
+use Rattle.write_answer.specs.of_table.Event.{Attribute, Event, TagKind, Start, Empty, Tag, Eof}
+use Rattle.write_answer.specs.of_tree_report.Report.{TestCase}
+use Rattle.write_answer.specs.of_write_report.Written.{each, is_empty, element, start_tag, end_tag, indent, suite_attributes, report_attributes, declaration, serialize_properties, serialize_outputs, serialize_status}
+use Rattle.write_answer.specs.of_write_report.Written.{case_attributes, serialize_rerun, serialize_elements, serialize_test_case, serialize_test_suite, serialize_report, written}
+use Rattle.write_answer.specs.of_write_table.Laid.{Item, entry, pair, tag_number, items_of}
+use Rattle.write_answer.proofs.of_write_table.Writing.{items_append}
 use Rattle.write_items.specs.inside.Values.{tag_name, key_name}
 use Rattle.write_items.specs.inside.Document.{tail_items}
 use Rattle.write_items.proofs.Lists.{empty-each}

@@ -6,16 +6,16 @@ use mathlib.Core.Bool.{Bool, true, not, ◌&&◌, and-eq-true_iff}
 use native.Mathlib.Omega.{arith}
 use borrow.Author.Tests.{ne_eqb}
 use lib.ListN.{length}
-use Rattle.names.specs.Bytes.{bytes}
-use Rattle.digits.specs.Digits.{is_digit, all_digits, decimal}
-use Rattle.digits.proofs.Ascii.{digit-decimal}
-use Rattle.digits.proofs.Texts.{digits_utf8}
-use Rattle.digits.proofs.Printing.{places-most, length-decimal, decimal-digits}
-use Rattle.utf8.specs.Utf8.{utf8}
-use Rattle.utf8.proofs.Rules.{ascii_append}
-use Rattle.text_filter.specs.Filter.{unfiltered}
-use Rattle.text_filter.proofs.Filtering.{kept_high, unfiltered-append}
-use Rattle.write_escape.specs.Escape.{written, escaped}
+use Rattle.write_answer.specs.of_names.Bytes.{bytes}
+use Rattle.write_answer.specs.of_digits.Digits.{is_digit, all_digits, decimal}
+use Rattle.write_answer.proofs.of_digits.Ascii.{digit-decimal}
+use Rattle.write_answer.proofs.of_digits.Texts.{digits_utf8}
+use Rattle.write_answer.proofs.of_digits.Printing.{places-most, length-decimal, decimal-digits}
+use Rattle.write_answer.specs.of_utf8.Utf8.{utf8}
+use Rattle.write_answer.proofs.of_utf8.Rules.{ascii_append}
+use Rattle.write_answer.specs.of_text_filter.Filter.{unfiltered}
+use Rattle.write_answer.proofs.of_text_filter.Filtering.{kept_high, unfiltered-append}
+use Rattle.write_answer.specs.of_write_escape.Escape.{written, escaped}
 use Rattle.order_report.specs.Rehearsal.{case_name, rehearsal_name}
 
 -- a digit stands for itself

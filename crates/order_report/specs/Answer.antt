@@ -1,10 +1,10 @@
 -- What an order is answered with, and what is left in the three areas (rules O1, O2, O7 and F13). Definitions only.
 use Rattle.std.specs.Prelude.{ℕ, ◌/◌, List, cond, length, ltb}
-use Rattle.area.specs.Answer.{Answer, gives, refuses}
-use Rattle.refusal.specs.Refusal.{Outcome}
-use Rattle.refusal.specs.declared.Cause.TheVariants as cause
-use Rattle.write_report.specs.Written.{written}
-use Rattle.write_table.specs.Laid.{Table, laid_out, fits}
+use Rattle.write_answer.specs.of_area.Answer.{Answer, gives, refuses}
+use Rattle.write_answer.specs.of_refusal.Refusal.{Outcome}
+use Rattle.write_answer.specs.of_refusal.declared.Cause.TheVariants as cause
+use Rattle.write_answer.specs.of_write_report.Written.{written}
+use Rattle.write_answer.specs.of_write_table.Laid.{Table, laid_out, fits}
 use Rattle.write_answer.specs.Answer.{Sizes, outcome_of, left_for}
 use Rattle.order_report.specs.declared.Order.{Order}
 use Rattle.order_report.specs.Rehearsal.{stated, rehearsal}

@@ -1,9 +1,9 @@
 -- The report that an order gives (rules O3 to O6). Definitions only.
 use Rattle.std.specs.Prelude.{ℕ, ◌+◌, ◌-◌, List, [], ◌∷◌, ◌++◌, replicate}
 use Rattle.std.proofs.Math.Option.{none, some}
-use Rattle.names.specs.Bytes.{bytes}
-use Rattle.digits.specs.Digits.{decimal}
-use Rattle.tree_report.specs.Report.{Text, Counts, failure, error, rerun, TestRerun, Reason, TestCaseStatus, success, non_success, skipped, TestCase, TestSuite, Report}
+use Rattle.write_answer.specs.of_names.Bytes.{bytes}
+use Rattle.write_answer.specs.of_digits.Digits.{decimal}
+use Rattle.write_answer.specs.of_tree_report.Report.{Text, Counts, failure, error, rerun, TestRerun, Reason, TestCaseStatus, success, non_success, skipped, TestCase, TestSuite, Report}
 use Rattle.order_report.specs.declared.Order.{Order}
 use Rattle.order_report.specs.declared.Kind.{Kind}
 use Rattle.order_report.specs.declared.Kind.TheVariants as kind

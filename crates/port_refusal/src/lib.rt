@@ -5,6 +5,7 @@ ghost use Rattle.std.specs.Prelude.{◌≡◌, min};
 ghost use Rattle.port_refusal.specs.Port.{code, path_words, not_refused, refused_port, port_refusal};
 ghost use Rattle.port_refusal.specs.Back.{cause_at, plain_path, plain_refusal};
 
+pub use refusal as the_refusal;
 use refusal::{Cause, NOWHERE, Path, PathElement, Refusal, Verdict, number_of};
 
 // The number is 0 where nothing is refused, and the cause is then 0 too; else it counts the causes from 1 on. Of the path's words the

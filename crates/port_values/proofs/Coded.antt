@@ -5,7 +5,7 @@ use mathlib.Core.List.{List}
 use mathlib.Core.Bool.{Bool, cond}
 use lib.ListN.{length}
 use borrow.Author.Tests.{lt-ltb, le-ltb}
-use Rattle.refusal.specs.Refusal.{Outcome}
+use Rattle.port_refusal.specs.of_refusal.Refusal.{Outcome}
 use Rattle.port_values.specs.Codes.{no_code_of, coded}
 
 module _ {A B : Type 0} (variants : List A) (code : ℕ) (o : Outcome B) where

@@ -1,9 +1,9 @@
 -- Variants by their codes. Definitions only.
 use Rattle.std.specs.Prelude.{ℕ, List, [], ◌∷◌, cond, length, get_or, ltb}
-use Rattle.refusal.specs.Refusal.{Outcome as Result, refused, late}
-use Rattle.refusal.specs.declared.Cause.TheVariants as cause
-use Rattle.tree_counts.specs.declared.Outcome.{Outcome}
-use Rattle.tree_counts.specs.declared.Outcome.TheVariants as outcome
+use Rattle.port_refusal.specs.of_refusal.Refusal.{Outcome as Result, refused, late}
+use Rattle.port_refusal.specs.of_refusal.declared.Cause.TheVariants as cause
+use Rattle.build_draft.specs.of_tree_counts.declared.Outcome.{Outcome}
+use Rattle.build_draft.specs.of_tree_counts.declared.Outcome.TheVariants as outcome
 use Rattle.build_draft.specs.declared.Element.{Element}
 use Rattle.build_draft.specs.declared.Element.TheVariants as element
 use Rattle.build_draft.specs.declared.Holder.{Holder}

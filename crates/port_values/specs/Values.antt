@@ -1,10 +1,10 @@
 -- Values in structs that C has too. Definitions only.
-use Rattle.refusal.specs.Refusal.{Outcome}
-use Rattle.timestamp.specs.declared.Moment.{Moment}
-use Rattle.uuids.specs.declared.Words.{Words}
-use Rattle.tree_counts.specs.declared.Counts.{Counts}
-use Rattle.tree_counts.specs.declared.Counted.{Counted}
-use Rattle.tree_counts.specs.Counts.{counted_from}
+use Rattle.port_refusal.specs.of_refusal.Refusal.{Outcome}
+use Rattle.build_draft.specs.of_timestamp.declared.Moment.{Moment}
+use Rattle.build_draft.specs.of_uuids.declared.Words.{Words}
+use Rattle.build_draft.specs.of_tree_counts.declared.Counts.{Counts}
+use Rattle.build_draft.specs.of_tree_counts.declared.Counted.{Counted}
+use Rattle.build_draft.specs.of_tree_counts.Counts.{counted_from}
 use Rattle.build_draft.specs.declared.Built.{Built}
 use Rattle.build_draft.specs.Draft.{Draft, built_from}
 use Rattle.port_refusal.specs.Port.{port_refusal}

@@ -2,8 +2,8 @@
 ghost use Rattle.std.specs.Prelude.{◌≡◌, ltb, length};
 ghost use Rattle.port_values.specs.Codes.{outcome_at, element_at, holder_at, field_at, number_at, kind_at, families, family_at};
 
+use build_draft::the_tree_counts::Outcome;
 use build_draft::{Element, FlakyOrRerun, Holder, NonSuccessKind, NumberField, TextField};
-use tree_counts::Outcome;
 
 pub const OUTCOMES: u32 = 4;
 

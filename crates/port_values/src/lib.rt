@@ -1,19 +1,22 @@
 // Values for other languages: structs that C has too, and the codes of variants.
 #![tactic(auto)]
 
+pub use build_draft as the_build_draft;
+pub use port_refusal as the_port_refusal;
+
 pub mod codes;
 
 ghost use Rattle.std.specs.Prelude.{◌≡◌, length};
-ghost use Rattle.area.specs.Area.{zeros};
+ghost use Rattle.build_draft.specs.of_area.Area.{zeros};
 ghost use Rattle.port_values.specs.Values.{port_counted, counted_port, port_built, built_port, plain_moment, port_moment, plain_uuid};
 ghost use Rattle.port_values.specs.Codes.{no_code_of};
 
+use build_draft::the_timestamp::Moment;
+use build_draft::the_tree_counts::{Counted, Counts};
+use build_draft::the_uuids::Words;
 use build_draft::{Builder, Built, Step, settle};
+use port_refusal::the_refusal::{Cause, Verdict, refuse_late};
 use port_refusal::{KRefusal, from_refusal};
-use refusal::{Cause, Verdict, refuse_late};
-use timestamp::Moment;
-use tree_counts::{Counted, Counts};
-use uuids::Words;
 
 #[repr(C)]
 #[derive(Clone, Copy)]

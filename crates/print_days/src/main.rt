@@ -4,7 +4,7 @@
 ghost use Rattle.std.specs.Prelude.{◌≡◌};
 ghost use Rattle.days.specs.Days.{year_length};
 
-use calendar::is_leap;
+use days::the_calendar::is_leap;
 use std::io;
 
 fn year_days(year: u16) -> u64

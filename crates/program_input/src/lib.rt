@@ -1,6 +1,7 @@
 // What a program is given: as much of its standard input as there is room for.
 #![tactic(auto)]
 
+pub use list_input as the_list_input;
 use list_input::front;
 use std::io;
 use std::io::Read;

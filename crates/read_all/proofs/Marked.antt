@@ -6,18 +6,18 @@ use native.Mathlib.Omega.{arith}
 use native.Mathlib.Decide.{dec_lt}
 use lib.ListN.{length, get_or, take, drop, take-append-drop, length-drop, length-append, length-replicate, get_or-replicate, get_or-eq_default}
 use lib.Seq.{drop_at, length-take-le}
-use Rattle.area.specs.Area.{zeros}
-use Rattle.area.proofs.Parts.{rest_part}
-use Rattle.read_element.specs.Attributes.{Given}
-use Rattle.read_element.specs.inside.Held.{Held, Roomy}
-use Rattle.read_element.specs.inside.Refines.{Table, Areas, areas}
-use Rattle.read_attribute.specs.declared.Range.{Range}
-use Rattle.read_attribute.specs.inside.Steps.{Matches}
-use Rattle.read_fault.specs.declared.Step.{Step}
-use Rattle.read_each.specs.inside.Fresh.{fresh}
-use Rattle.read_each.specs.inside.Promises.{read_from, ReadsWithin}
-use Rattle.read_marks.specs.inside.Marks.{Marks}
-use Rattle.read_places.proofs.Noting.{front-is, rest-is}
+use Rattle.read_indexed.specs.of_area.Area.{zeros}
+use Rattle.read_indexed.proofs.of_area.Parts.{rest_part}
+use Rattle.read_indexed.specs.of_read_element.Attributes.{Given}
+use Rattle.read_indexed.specs.of_read_element.inside.Held.{Held, Roomy}
+use Rattle.read_indexed.specs.of_read_element.inside.Refines.{Table, Areas, areas}
+use Rattle.read_indexed.specs.of_read_attribute.declared.Range.{Range}
+use Rattle.read_indexed.specs.of_read_attribute.inside.Steps.{Matches}
+use Rattle.read_indexed.specs.of_read_fault.declared.Step.{Step}
+use Rattle.read_indexed.specs.of_read_each.inside.Fresh.{fresh}
+use Rattle.read_indexed.specs.of_read_each.inside.Promises.{read_from, ReadsWithin}
+use Rattle.read_indexed.specs.of_read_marks.inside.Marks.{Marks}
+use Rattle.read_indexed.proofs.of_read_places.Noting.{front-is, rest-is}
 
 zero-at : (n i : ℕ) → get_or (zeros n) i 0 ≡ 0
 zero-at n i = go (dec_lt i n)

@@ -8,17 +8,17 @@ use borrow.Author.Tests.{leb-false, ltb-false}
 use lib.Dec.{leb, ltb}
 use lib.ListN.{length, take, drop, length-append, length-replicate, replicate-append-replicate}
 use lib.Seq.{drop_at, drop-drop, take-append-add}
-use Rattle.area.specs.Area.{zeros}
-use Rattle.area.proofs.Lists.{take-zeros, drop-zeros}
-use Rattle.refusal.specs.Refusal.{Outcome}
-use Rattle.utf8.specs.Characters.{joined}
-use Rattle.read_element.specs.Outcome.{Place}
-use Rattle.read_element.specs.Attributes.{Given}
-use Rattle.read_element.specs.inside.Held.{Held}
-use Rattle.read_attribute.specs.inside.Steps.{Matches}
-use Rattle.read_element.specs.inside.Refines.{went, stopped}
-use Rattle.read_fault.specs.declared.Step.{Step}
-use Rattle.read_each.specs.inside.Fresh.{fresh}
+use Rattle.read_indexed.specs.of_area.Area.{zeros}
+use Rattle.read_indexed.proofs.of_area.Lists.{take-zeros, drop-zeros}
+use Rattle.read_indexed.specs.of_refusal.Refusal.{Outcome}
+use Rattle.read_indexed.specs.of_utf8.Characters.{joined}
+use Rattle.read_indexed.specs.of_read_element.Outcome.{Place}
+use Rattle.read_indexed.specs.of_read_element.Attributes.{Given}
+use Rattle.read_indexed.specs.of_read_element.inside.Held.{Held}
+use Rattle.read_indexed.specs.of_read_attribute.inside.Steps.{Matches}
+use Rattle.read_indexed.specs.of_read_element.inside.Refines.{went, stopped}
+use Rattle.read_indexed.specs.of_read_fault.declared.Step.{Step}
+use Rattle.read_indexed.specs.of_read_each.inside.Fresh.{fresh}
 
 held-wider : {own text : List ℕ} {extras fill : ℕ} {g : Given} (z : ℕ) → Held own text extras fill g → Held (own ++ zeros z) text extras fill g
 held-wider {own} {text} {extras} {fill} {g} z hd = record {

@@ -3,20 +3,24 @@
 #![tactic(auto)]
 
 ghost use Rattle.std.specs.Prelude.{◌+◌, ◌-◌, ◌*◌, ◌≤◌, ◌≡◌, length, take, drop};
-ghost use Rattle.area.specs.Area.{zeros};
-ghost use Rattle.read_marks.specs.inside.Marks.{Marks};
-ghost use Rattle.read_element.specs.inside.Refines.{tagged, areas};
-ghost use Rattle.read_plain.specs.inside.Plain.{Plain};
-ghost use Rattle.read_each.specs.inside.Promises.{Begins, ReadsAttributes, ReadsWithin};
+ghost use Rattle.read_indexed.specs.of_area.Area.{zeros};
+ghost use Rattle.read_indexed.specs.of_read_marks.inside.Marks.{Marks};
+ghost use Rattle.read_indexed.specs.of_read_element.inside.Refines.{tagged, areas};
+ghost use Rattle.read_indexed.specs.of_read_plain.inside.Plain.{Plain};
+ghost use Rattle.read_indexed.specs.of_read_each.inside.Promises.{Begins, ReadsAttributes, ReadsWithin};
 
-use area::clear_words;
-use read_attribute::Range;
-use read_each::read_each;
-use read_fault::Step;
 use read_indexed::read_marked;
-use read_marks::mark_range;
-use read_plain::plain_to;
-use tree_record::kind::{CASE, SUITE};
+use read_indexed::the_area::clear_words;
+use read_indexed::the_read_attribute::Range;
+use read_indexed::the_read_each::read_each;
+use read_indexed::the_read_fault::Step;
+use read_indexed::the_read_marks::mark_range;
+use read_indexed::the_read_plain::plain_to;
+use read_indexed::the_tree_record::kind::{CASE, SUITE};
+pub use read_indexed::{
+    the_read_attribute, the_read_fault, the_read_free, the_refusal, the_text_filter, the_tree_put,
+    the_tree_record,
+};
 
 const FEW: usize = 8;
 

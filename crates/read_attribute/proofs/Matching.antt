@@ -9,35 +9,35 @@ use mathlib.Core.Logic.{inl, inr}
 use types.Run.{OneOf}
 use lib.Dec.{eqb}
 use lib.ListN.{length, get_or, take, drop}
-use Rattle.area.specs.Answer.{Answer, gives, refuses}
-use Rattle.area.proofs.Parts.{rest_part}
-use Rattle.refusal.specs.Refusal.{Outcome}
-use Rattle.refusal.specs.declared.Cause.{Cause}
-use Rattle.names.specs.Keys.{key_of}
-use Rattle.table.specs.Event.{Attribute, part, mark_at, key_at, value_at, attribute_at}
-use Rattle.table.proofs.Words.{word_at, part_at}
-use Rattle.read_keys.specs.Roles.{role_of}
-use Rattle.read_keys.specs.declared.Role.{Role}
-use Rattle.read_keys.specs.declared.Role.TheVariants as role
-use Rattle.read_element.specs.Outcome.{Place, Rooms, within, need}
-use Rattle.text.specs.Value.{value_text}
+use Rattle.read_repeats.specs.of_area.Answer.{Answer, gives, refuses}
+use Rattle.read_repeats.proofs.of_area.Parts.{rest_part}
+use Rattle.read_repeats.specs.of_refusal.Refusal.{Outcome}
+use Rattle.read_repeats.specs.of_refusal.declared.Cause.{Cause}
+use Rattle.read_repeats.specs.of_names.Keys.{key_of}
+use Rattle.read_repeats.specs.of_table.Event.{Attribute, part, mark_at, key_at, value_at, attribute_at}
+use Rattle.read_repeats.proofs.of_table.Words.{word_at, part_at}
+use Rattle.read_repeats.specs.of_read_keys.Roles.{role_of}
+use Rattle.read_repeats.specs.of_read_keys.declared.Role.{Role}
+use Rattle.read_repeats.specs.of_read_keys.declared.Role.TheVariants as role
+use Rattle.read_repeats.specs.of_read_element.Outcome.{Place, Rooms, within, need}
+use Rattle.read_repeats.specs.of_text.Value.{value_text}
 use Rattle.read_extras.specs.inside.Hinted.{Hinted}
-use Rattle.read_element.specs.Attributes.{Given, place_of, among, numbered, read_extra, by_role}
-use Rattle.read_element.specs.inside.Held.{Held, Meets}
-use Rattle.read_element.specs.inside.Refines.{went, stopped}
-use Rattle.read_extra_record.specs.inside.Answers.{gaveAnswer}
+use Rattle.read_repeats.specs.of_read_element.Attributes.{Given, place_of, among, numbered, read_extra, by_role}
+use Rattle.read_repeats.specs.of_read_element.inside.Held.{Held, Meets}
+use Rattle.read_repeats.specs.of_read_element.inside.Refines.{went, stopped}
+use Rattle.read_extras.specs.of_read_extra_record.inside.Answers.{gaveAnswer}
 use Rattle.read_repeats.specs.inside.Words.{attribute_in}
 use Rattle.read_role.specs.inside.Roles.{took_given}
 use Rattle.read_attribute.specs.inside.Steps.{taken_step, gave_step, by_key_of, Matches}
-use Rattle.read_extra_record.specs.declared.Given.{Given as Counted}
-use Rattle.read_extra_record.specs.declared.Gave.{Gave}
-use Rattle.read_extra_record.specs.declared.Gave.TheVariants as gave
-use Rattle.read_values.specs.declared.Took.{Took}
-use Rattle.read_values.specs.declared.Took.TheVariants as took
+use Rattle.read_extras.specs.of_read_extra_record.declared.Given.{Given as Counted}
+use Rattle.read_extras.specs.of_read_extra_record.declared.Gave.{Gave}
+use Rattle.read_extras.specs.of_read_extra_record.declared.Gave.TheVariants as gave
+use Rattle.read_role.specs.of_read_values.declared.Took.{Took}
+use Rattle.read_role.specs.of_read_values.declared.Took.TheVariants as took
 use Rattle.read_fault.specs.inside.Faults.{fault_step}
 use Rattle.read_fault.specs.declared.Step.{Step}
 use Rattle.read_attribute.proofs.RoleKeys.{Accepts, unknown-accepts}
-use Rattle.refusal.specs.declared.Cause.TheVariants as cause
+use Rattle.read_repeats.specs.of_refusal.declared.Cause.TheVariants as cause
 
 -- the attribute at a place of the table, in the words from there on
 pub attribute-in : (attributes source : List ℕ) (j : ℕ) → attribute_in (drop (j * 5) attributes) source ≡ attribute_at attributes source j

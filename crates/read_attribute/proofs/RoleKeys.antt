@@ -11,16 +11,16 @@ use mathlib.Core.Bool.{Bool, true, false, cond}
 use mathlib.Core.List.{List}
 use native.Mathlib.Omega.{arith}
 use lib.Dec.{eqb, leb}
-use Rattle.names.specs.Keys.{keys, key_of}
-use Rattle.names.proofs.NameLaws.{code-most}
-use Rattle.read_keys.specs.Roles.{role_in, report_keys, report_role, suite_keys, suite_role, case_keys, case_role, property_keys, property_role, status_keys, status_role, role_of}
-use Rattle.read_keys.proofs.RoleLaws.{role-each}
-use Rattle.read_keys.specs.declared.Role.{Role}
-use Rattle.read_keys.specs.declared.Role.TheVariants as role
-use Rattle.table.specs.Event.{Attribute}
-use Rattle.refusal.specs.Refusal.{Outcome, accepted, refused}
-use Rattle.read_element.specs.Outcome.{Place, Rooms}
-use Rattle.read_element.specs.Attributes.{Given, by_role}
+use Rattle.read_repeats.specs.of_names.Keys.{keys, key_of}
+use Rattle.read_repeats.proofs.of_names.NameLaws.{code-most}
+use Rattle.read_repeats.specs.of_read_keys.Roles.{role_in, report_keys, report_role, suite_keys, suite_role, case_keys, case_role, property_keys, property_role, status_keys, status_role, role_of}
+use Rattle.read_repeats.proofs.of_read_keys.RoleLaws.{role-each}
+use Rattle.read_repeats.specs.of_read_keys.declared.Role.{Role}
+use Rattle.read_repeats.specs.of_read_keys.declared.Role.TheVariants as role
+use Rattle.read_repeats.specs.of_table.Event.{Attribute}
+use Rattle.read_repeats.specs.of_refusal.Refusal.{Outcome, accepted, refused}
+use Rattle.read_repeats.specs.of_read_element.Outcome.{Place, Rooms}
+use Rattle.read_repeats.specs.of_read_element.Attributes.{Given, by_role}
 use Rattle.read_role.specs.inside.Roles.{RoleFits}
 
 pub key-small : (s : List ℕ) → key_of s < 2 ^ 32

@@ -2,23 +2,25 @@
 #![tactic(auto)]
 
 ghost use Rattle.std.specs.Prelude.{◌≡◌, ◌<◌, ◌≤◌, ◌+◌, ◌*◌, ◌^◌, length};
-ghost use Rattle.read_element.specs.inside.Refines.{tagged, areas};
+ghost use Rattle.read_repeats.specs.of_read_element.inside.Refines.{tagged, areas};
 ghost use Rattle.read_repeats.specs.inside.Words.{attribute_in};
-ghost use Rattle.read_extra_record.specs.inside.Promises.{Bounded};
+ghost use Rattle.read_extras.specs.of_read_extra_record.inside.Promises.{Bounded};
 ghost use Rattle.read_attribute.specs.inside.Steps.{taken_step, gave_step};
 ghost use Rattle.read_attribute.specs.inside.Promises.{ReadsAttribute, StepsAttribute};
 
-use area::wide;
-use names::key_of;
-use read_extra_record::{Gave, Given};
 use read_extras::read_extra;
+pub use read_extras::the_read_extra_record;
+use read_extras::the_read_extra_record::{Gave, Given};
+pub use read_fault as the_read_fault;
 use read_fault::{Fault, Step, refused_at};
-use read_keys::{Role, role_of};
 use read_repeats::is_repeated;
+use read_repeats::the_area::wide;
+use read_repeats::the_names::key_of;
+use read_repeats::the_read_keys::{Role, role_of};
+use read_repeats::the_refusal::Cause;
+use read_repeats::the_table_parts::bytes_of;
 use read_role::read_value;
-use read_values::Took;
-use refusal::Cause;
-use table_parts::bytes_of;
+use read_role::the_read_values::Took;
 
 // Attributes from number `first` to before number `end`.
 #[derive(Clone, Copy)]

@@ -6,17 +6,17 @@ use mathlib.Core.List.{List, []}
 use native.Mathlib.Omega.{arith}
 use borrow.Author.Tests.{leb-true, not-true}
 use lib.Dec.{leb, eqb}
-use Rattle.refusal.specs.Refusal.{Outcome, accepted, refused}
-use Rattle.table.specs.Event.{key_at, mark_at, attributes_from}
-use Rattle.read_element.specs.Outcome.{Place, Rooms}
-use Rattle.read_element.specs.Attributes.{Given, among, numbered, read_attributes}
-use Rattle.read_element.specs.inside.Held.{keys_of}
+use Rattle.read_all.specs.of_refusal.Refusal.{Outcome, accepted, refused}
+use Rattle.read_all.specs.of_table.Event.{key_at, mark_at, attributes_from}
+use Rattle.read_all.specs.of_read_element.Outcome.{Place, Rooms}
+use Rattle.read_all.specs.of_read_element.Attributes.{Given, among, numbered, read_attributes}
+use Rattle.read_all.specs.of_read_element.inside.Held.{keys_of}
 use Rattle.read_attributes.specs.inside.Elements.{Free, known_of}
-use Rattle.read_attribute.specs.declared.Range.{Range}
-use Rattle.read_free.proofs.MoreKeys.{unrepeated-more}
-use Rattle.read_each.proofs.KeysBefore.{keys-next}
-use Rattle.read_element.proofs.TreeOutcome.{Holds, accept, refuse, bind, weaken, needed}
-use Rattle.refusal.specs.declared.Cause.TheVariants as cause
+use Rattle.read_all.specs.of_read_attribute.declared.Range.{Range}
+use Rattle.read_all.proofs.of_read_free.MoreKeys.{unrepeated-more}
+use Rattle.read_all.proofs.of_read_each.KeysBefore.{keys-next}
+use Rattle.read_all.proofs.of_read_element.TreeOutcome.{Holds, accept, refuse, bind, weaken, needed}
+use Rattle.read_all.specs.of_refusal.declared.Cause.TheVariants as cause
 
 and-true : (a b : Bool) → (a && b) ≡ true → (a ≡ true) × (b ≡ true)
 and-true true b e = (refl, e)

@@ -8,31 +8,31 @@ use borrow.Author.Tests.{le-leb, lt-leb}
 use lib.ListN.{length, get_or, set, take, drop, length-set, length-replicate, replicate-append-replicate, take-append-drop, get_or-append}
 use lib.Seq.{set-append_left, length-take-le}
 use lib.Dec.{leb, eqb}
-use Rattle.area.specs.Area.{zeros}
-use Rattle.refusal.specs.Refusal.{nowhere, Outcome, accepted, refused}
-use Rattle.refusal.specs.declared.Cause.TheVariants.{MissingAttribute, RecordsSpent}
-use Rattle.table.specs.Event.{Attribute, attributes_from}
-use Rattle.tree_record.specs.Record.{mask_of, has_bit}
-use Rattle.read_element.specs.Outcome.{◌>>=◌, Place, Rooms, need, within, fits}
-use Rattle.read_element.specs.Attributes.{Given, Grown, read_attributes, complete, read_element}
-use Rattle.utf8.specs.Characters.{joined}
-use Rattle.read_element.specs.inside.Held.{Held, Roomy}
-use Rattle.read_element.specs.inside.Refines.{went, stopped}
-use Rattle.read_attribute.specs.inside.Steps.{fault_at, Matches}
+use Rattle.read_all.specs.of_area.Area.{zeros}
+use Rattle.read_all.specs.of_refusal.Refusal.{nowhere, Outcome, accepted, refused}
+use Rattle.read_all.specs.of_refusal.declared.Cause.TheVariants.{MissingAttribute, RecordsSpent}
+use Rattle.read_all.specs.of_table.Event.{Attribute, attributes_from}
+use Rattle.read_all.specs.of_tree_record.Record.{mask_of, has_bit}
+use Rattle.read_all.specs.of_read_element.Outcome.{◌>>=◌, Place, Rooms, need, within, fits}
+use Rattle.read_all.specs.of_read_element.Attributes.{Given, Grown, read_attributes, complete, read_element}
+use Rattle.read_all.specs.of_utf8.Characters.{joined}
+use Rattle.read_all.specs.of_read_element.inside.Held.{Held, Roomy}
+use Rattle.read_all.specs.of_read_element.inside.Refines.{went, stopped}
+use Rattle.read_all.specs.of_read_attribute.inside.Steps.{fault_at, Matches}
 use Rattle.read_attributes.specs.inside.Elements.{fault_element, missing_of, Free, known_of, Becomes, grew}
-use Rattle.read_each.specs.inside.Fresh.{fresh}
-use Rattle.read_extra_record.specs.declared.Given.{Given as Counted}
-use Rattle.read_fault.specs.declared.Fault.{Fault}
-use Rattle.read_attribute.specs.declared.Range.{Range}
-use Rattle.read_fault.specs.declared.Step.{Step}
-use Rattle.read_fault.specs.declared.Step.TheVariants as step
+use Rattle.read_all.specs.of_read_each.inside.Fresh.{fresh}
+use Rattle.read_all.specs.of_read_extra_record.declared.Given.{Given as Counted}
+use Rattle.read_all.specs.of_read_fault.declared.Fault.{Fault}
+use Rattle.read_all.specs.of_read_attribute.declared.Range.{Range}
+use Rattle.read_all.specs.of_read_fault.declared.Step.{Step}
+use Rattle.read_all.specs.of_read_fault.declared.Step.TheVariants as step
 use Rattle.read_attributes.specs.declared.Element.{Element}
 use Rattle.read_attributes.specs.declared.Element.TheVariants as element
-use Rattle.read_element.proofs.TreeOutcome.{Holds, held}
-use Rattle.read_each.proofs.HeldBounds.{held-extras}
+use Rattle.read_all.proofs.of_read_element.TreeOutcome.{Holds, held}
+use Rattle.read_all.proofs.of_read_each.HeldBounds.{held-extras}
 use Rattle.read_attributes.proofs.FreeKeys.{free-read, free-either}
-use Rattle.read_each.proofs.Going.{spacious, somewhere, roomy_spacious, Gone, gone, halted}
-use Rattle.refusal.specs.declared.Cause.TheVariants as cause
+use Rattle.read_all.proofs.of_read_each.Going.{spacious, somewhere, roomy_spacious, Gone, gone, halted}
+use Rattle.read_all.specs.of_refusal.declared.Cause.TheVariants as cause
 
 -- the areas before the first attribute, with the kind put
 pub begun : (kind fill : ℕ) (own text : List ℕ) → own ≡ zeros (length own) → 32 ≤ length own → fill ≤ length text → drop fill text ≡ zeros (length text - fill)

@@ -4,7 +4,7 @@ use mathlib.Core.Path.{◌≡◌, sym, ap, ◌∙◌}
 use mathlib.Core.Bool.{Bool, true, false, cond, not, ◌&&◌}
 use mathlib.Core.List.{List}
 use lib.Dec.{leb}
-use Rattle.tree_record.specs.Record.{has_bit}
+use Rattle.read_all.specs.of_tree_record.Record.{has_bit}
 use Rattle.read_attributes.specs.inside.Elements.{missing_of}
 
 module _ (kind : ℕ) (r : List ℕ) {t : Bool} (e : t ≡ has_bit 0 r) where

@@ -4,8 +4,8 @@ use mathlib.Core.Path.{◌≡◌, sym, ap, ◌∙◌}
 use mathlib.Core.List.{List, ◌++◌}
 use lib.ListN.{length, take, drop, length-replicate, take-append-drop}
 use borrow.Rule.Slice.PartMut.{put_mid}
-use Rattle.area.specs.Area.{zeros}
-use Rattle.area.proofs.Parts.{rest_part, rest_back}
+use Rattle.read_all.specs.of_area.Area.{zeros}
+use Rattle.read_all.proofs.of_area.Parts.{rest_part, rest_back}
 
 module _ (text : List ℕ) (fill : ℕ) (d : drop fill text ≡ zeros (length text - fill)) where
   pub spare-zero : take (length text - fill) (drop fill text) ≡ zeros (length (take (length text - fill) (drop fill text)))

@@ -2,17 +2,18 @@
 #![tactic(auto)]
 
 ghost use Rattle.std.specs.Prelude.{◌≡◌, ◌&&◌, ◌≤◌, ◌*◌, length, leb};
-ghost use Rattle.area.specs.Area.{zeros};
-ghost use Rattle.read_element.specs.inside.Refines.{tagged, areas};
-ghost use Rattle.refusal.specs.Refusal.{nowhere};
+ghost use Rattle.read_all.specs.of_area.Area.{zeros};
+ghost use Rattle.read_all.specs.of_read_element.inside.Refines.{tagged, areas};
+ghost use Rattle.read_all.specs.of_refusal.Refusal.{nowhere};
 ghost use Rattle.read_attributes.specs.inside.Elements.{missing_of, fault_element, Free, known_of, Vacant, ReadsElement};
 
 use read_all::read_all;
-use read_attribute::Range;
-use read_fault::{Fault, Step};
-use read_free::free_to;
-use refusal::{Cause, NOWHERE};
-use tree_record::{has_bit, put_field};
+use read_all::the_read_attribute::Range;
+use read_all::the_read_fault::{Fault, Step};
+use read_all::the_read_free::free_to;
+use read_all::the_refusal::{Cause, NOWHERE};
+use read_all::the_tree_record::{has_bit, put_field};
+pub use read_all::{the_read_attribute, the_read_fault, the_text_filter, the_tree_put};
 
 // How many records the element takes, its own and its extras; where the texts end; and a range of attributes without a
 // repeated key.

@@ -8,8 +8,12 @@ ghost use Rattle.read_state.specs.Control as plan;
 ghost use Rattle.read_children.specs.Children as rules;
 ghost use Rattle.read_state.specs.inside.Coded.{level_in_of, output_of, act_in};
 
+pub use names as the_names;
 use names::tag::{STACK_TRACE, SYSTEM_ERR, SYSTEM_OUT};
+pub use read_state as the_read_state;
+pub use read_state::{the_refusal, the_tree_record, the_tree_status};
 use read_state::{Act, Output};
+pub use table as the_table;
 use table::kind::{EMPTY, START};
 
 // The seven status names (rule S1) are the codes 6 to 12.

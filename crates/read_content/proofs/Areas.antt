@@ -5,9 +5,9 @@ use mathlib.Core.List.{List}
 use native.Mathlib.Omega.{arith}
 use lib.ListN.{length, take, drop, length-append, length-replicate, length-drop, take-append-drop}
 use lib.Seq.{take_at, drop_at}
-use Rattle.area.specs.Area.{zeros}
-use Rattle.area.proofs.Parts.{rest_part}
-use Rattle.utf8.specs.Characters.{joined}
+use Rattle.trim.specs.of_area.Area.{zeros}
+use Rattle.trim.proofs.of_area.Parts.{rest_part}
+use Rattle.trim.specs.of_utf8.Characters.{joined}
 use Rattle.read_content.specs.Content.{Content}
 use Rattle.read_content.specs.inside.Holds.{Holds}
 use Rattle.read_content.specs.declared.Content.{Content as CodedContent}

@@ -4,16 +4,16 @@ use mathlib.Core.Path.{◌≡◌, refl}
 use mathlib.Core.Bool.{true, false}
 use mathlib.Core.List.{List, [], ◌∷◌, ◌++◌}
 use mathlib.Core.Option.{some}
-use Rattle.area.specs.Area.{zeros}
-use Rattle.utf8.specs.Utf8 as utf8
-use Rattle.refusal.specs.Refusal.{nowhere, accepted}
-use Rattle.table.specs.Event.{Indent}
-use Rattle.tree_record.specs.Record.{marked}
-use Rattle.read_element.specs.Outcome.{◌>>=◌, Place, refused_at, there, need, Rooms, fits}
-use Rattle.read_state.specs.Control.{status, out, at}
+use Rattle.trim.specs.of_area.Area.{zeros}
+use Rattle.trim.specs.of_utf8.Utf8 as utf8
+use Rattle.trim.specs.of_refusal.Refusal.{nowhere, accepted}
+use Rattle.read_rules.specs.of_table.Event.{Indent}
+use Rattle.read_rules.specs.of_tree_record.Record.{marked}
+use Rattle.read_attributes.specs.of_read_element.Outcome.{◌>>=◌, Place, refused_at, there, need, Rooms, fits}
+use Rattle.read_place.specs.of_read_state.Control.{status, out, at}
 use Rattle.read_place.specs.Marks.{Marks, marks}
 use Rattle.read_content.specs.Content.{Content, takes, cleaned, piece_of, gather, keeping, outputting}
-use Rattle.refusal.specs.declared.Cause.TheVariants as cause
+use Rattle.trim.specs.of_refusal.declared.Cause.TheVariants as cause
 
 -- U+0001, space, a: U+0001 isn't white space, so that the space stays; filtered first, it would go
 trimmed-first : cleaned (0x01 ∷ 0x20 ∷ 0x61 ∷ []) ≡ 0x20 ∷ 0x61 ∷ []

@@ -8,8 +8,8 @@ use lib.Dec.{ltb, leb, eqb}
 use lib.ListN.{length, get_or}
 use lib.Seq.{ext_get_or}
 use borrow.Author.Tests.{ltb-true, ltb-false, leb-true, leb-false, eqb-true, eqb-false}
-use Rattle.utf8.specs.Characters.{joined}
-use Rattle.read_element.specs.Attributes.{changed}
+use Rattle.trim.specs.of_utf8.Characters.{joined}
+use Rattle.read_attributes.specs.of_read_element.Attributes.{changed}
 use Rattle.read_content.specs.Content.{killed, kill_all, kill_kind}
 use Rattle.read_content.specs.inside.Holds.{kill_words, Whole, kind_in, Dead, Listed}
 use Rattle.read_content.specs.declared.List.{List as CodedList}

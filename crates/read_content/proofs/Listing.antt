@@ -7,8 +7,8 @@ use native.Mathlib.Omega.{arith}
 use lib.Dec.{ltb, leb, eqb, lit≤}
 use lib.ListN.{length, get_or}
 use borrow.Author.Tests.{ltb-true, ltb-false, leb-true, leb-false, eqb-true, eqb-false}
-use Rattle.read_element.specs.Attributes.{extra_kind}
-use Rattle.read_state.specs.Control.{Level, top, suite, case, status, Mode, at, gathering, listing, skipping, finished}
+use Rattle.read_attributes.specs.of_read_element.Attributes.{extra_kind}
+use Rattle.read_place.specs.of_read_state.Control.{Level, top, suite, case, status, Mode, at, gathering, listing, skipping, finished}
 use Rattle.read_place.specs.Marks.{Marks}
 use Rattle.read_place.specs.inside.Coded.{go_to}
 use Rattle.read_content.specs.Content.{Content, killed, kill_all, kill_kind}

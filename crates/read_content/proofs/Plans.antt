@@ -5,16 +5,16 @@ use mathlib.Core.Bool.{Bool, true, false, cond, ◌&&◌, ◌||◌}
 use mathlib.Core.List.{List}
 use native.Mathlib.Omega.{arith}
 use lib.Dec.{eqb}
-use Rattle.names.specs.Tags.{tag_of, testsuites, testsuite, testcase, properties, property, stack_trace, system-out, system-err}
-use Rattle.table.specs.Event.{TagKind, Start, Empty, End}
-use Rattle.read_state.specs.Control.{Level, top, suite, case, status, Output, Mode, at, gathering, listing, skipping, finished, Act, pass, open_report, open_suite, open_case}
-use Rattle.read_state.specs.Control.{open_status, close_suite, close_case, close_status, open_text, close_text, open_list, read_property, stop, missing, broken, is_status, or_skip}
+use Rattle.read_rules.specs.of_names.Tags.{tag_of, testsuites, testsuite, testcase, properties, property, stack_trace, system-out, system-err}
+use Rattle.read_rules.specs.of_table.Event.{TagKind, Start, Empty, End}
+use Rattle.read_place.specs.of_read_state.Control.{Level, top, suite, case, status, Output, Mode, at, gathering, listing, skipping, finished, Act, pass, open_report, open_suite, open_case}
+use Rattle.read_place.specs.of_read_state.Control.{open_status, close_suite, close_case, close_status, open_text, close_text, open_list, read_property, stop, missing, broken, is_status, or_skip}
 use Rattle.read_rules.specs.Rules.{outputs, emptied, at_top, at_suite, at_case, child, at_status, tag_of_output, in_text, in_list_of, plan_at, plan_eof}
-use Rattle.read_state.specs.inside.Coded.{mode_at, opening, closing, act_in}
-use Rattle.read_state.specs.declared.Mode.{Mode as CodedMode}
-use Rattle.read_state.specs.declared.Mode.TheVariants as mode
-use Rattle.read_state.specs.declared.Act.{Act as CodedAct}
-use Rattle.read_state.specs.declared.Act.TheVariants as act
+use Rattle.read_place.specs.of_read_state.inside.Coded.{mode_at, opening, closing, act_in}
+use Rattle.read_place.specs.of_read_state.declared.Mode.{Mode as CodedMode}
+use Rattle.read_place.specs.of_read_state.declared.Mode.TheVariants as mode
+use Rattle.read_place.specs.of_read_state.declared.Act.{Act as CodedAct}
+use Rattle.read_place.specs.of_read_state.declared.Act.TheVariants as act
 use Rattle.read_content.specs.inside.Holds.{apt}
 
 no : {A : Type 0} → ◌≡◌ {A = Bool} false true → A

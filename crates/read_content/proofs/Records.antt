@@ -8,13 +8,13 @@ use lib.Dec.{ltb}
 use lib.ListN.{length, get_or, set, take, drop, length-append, length-set, take-append-drop, get_or-append, get_or-eq_default}
 use lib.Seq.{take_at, drop_at, drop-drop, take-add, set-append_left, get_or-append-add}
 use borrow.Author.Tests.{ltb-false, le-ltb}
-use Rattle.utf8.specs.Characters.{joined}
-use Rattle.tree_record.specs.Record.{marked}
-use Rattle.tree_put.specs.Put.{put_pair, put_text}
-use Rattle.tree_put.proofs.Puts.{pair-length, pair-other, text-length}
-use Rattle.tree_record.proofs.Marks.{marked-front, marked-behind, marked_other}
-use Rattle.read_element.specs.Attributes.{changed}
-use Rattle.read_element.specs.inside.Held.{Keyed}
+use Rattle.trim.specs.of_utf8.Characters.{joined}
+use Rattle.read_rules.specs.of_tree_record.Record.{marked}
+use Rattle.read_attributes.specs.of_tree_put.Put.{put_pair, put_text}
+use Rattle.read_attributes.proofs.of_tree_put.Puts.{pair-length, pair-other, text-length}
+use Rattle.read_rules.proofs.of_tree_record.Marks.{marked-front, marked-behind, marked_other}
+use Rattle.read_attributes.specs.of_read_element.Attributes.{changed}
+use Rattle.read_attributes.specs.of_read_element.inside.Held.{Keyed}
 use Rattle.read_content.specs.Content.{killed, kept}
 use Rattle.read_content.specs.inside.Holds.{in_record, Whole, kind_in}
 

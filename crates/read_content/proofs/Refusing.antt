@@ -2,13 +2,13 @@
 use Prim.Native.Nat.{ℕ}
 use mathlib.Core.Path.{◌≡◌, sym, ap, subst, ◌∙◌}
 use mathlib.Core.List.{List}
-use Rattle.refusal.specs.Refusal.{nowhere, Outcome, refused}
-use Rattle.refusal.specs.declared.Cause.{Cause}
-use Rattle.read_element.specs.Outcome.{Place, refused_at}
-use Rattle.read_attribute.specs.inside.Steps.{fault_at}
+use Rattle.trim.specs.of_refusal.Refusal.{nowhere, Outcome, refused}
+use Rattle.trim.specs.of_refusal.declared.Cause.{Cause}
+use Rattle.read_attributes.specs.of_read_element.Outcome.{Place, refused_at}
+use Rattle.read_attributes.specs.of_read_attribute.inside.Steps.{fault_at}
 use Rattle.read_content.specs.Content.{Content}
 use Rattle.read_content.specs.inside.Holds.{Comes, fault_of}
-use Rattle.read_element.specs.inside.Refines.{stopped}
+use Rattle.read_attributes.specs.of_read_element.inside.Refines.{stopped}
 use Rattle.read_content.specs.declared.Content.{Content as CodedContent}
 use Rattle.read_content.specs.declared.Performed.{Performed}
 use Rattle.read_content.specs.declared.Performed.TheVariants.{Not}

@@ -1,25 +1,25 @@
 -- What each action does to records and texts, and when it refuses. Definitions only.
 use Rattle.std.specs.Prelude.{ℕ, zero, suc, ◌+◌, List, [], ◌∷◌, ◌++◌, Bool, true, false, cond, length, set, leb, eqb}
-use Rattle.area.specs.Answer.{Answer, gives, refuses}
-use Rattle.utf8.specs.Utf8.{utf8}
-use Rattle.utf8.specs.Characters.{encode}
+use Rattle.trim.specs.of_area.Answer.{Answer, gives, refuses}
+use Rattle.trim.specs.of_utf8.Utf8.{utf8}
+use Rattle.trim.specs.of_utf8.Characters.{encode}
 use Rattle.trim.specs.Trim.{trimmed}
-use Rattle.text_filter.specs.Filter.{filtered}
-use Rattle.reference.specs.Reference.{refs_ok, decoded, is_named, char_of, unnamed}
-use Rattle.refusal.specs.Refusal.{Outcome, accepted}
-use Rattle.table.specs.Event.{Attribute, PieceKind, Text, CData, Ref, Other, Indent}
-use Rattle.tree_record.specs.Words as word
-use Rattle.tree_record.specs.Bits as bit
-use Rattle.tree_record.specs.Kinds as kind
-use Rattle.tree_record.specs.Record.{kind_of, live}
-use Rattle.tree_status.specs.Status.{ruled}
-use Rattle.read_element.specs.Outcome.{◌>>=◌, Place, refused_at, there, need, Rooms, fits}
-use Rattle.tree_put.specs.Put.{put_text}
-use Rattle.read_element.specs.Attributes.{changed, storing, Grown, read_element}
-use Rattle.read_state.specs.Control.{Level, top, suite, case, status, Output, trace, out, err, Mode, at, gathering, listing, skipping, finished, Control}
-use Rattle.read_state.specs.Control.{Act, pass, open_report, open_suite, open_case, open_status, close_suite, close_case, close_status, open_text, close_text, open_list, read_property, stop, missing, broken}
+use Rattle.read_attributes.specs.of_text_filter.Filter.{filtered}
+use Rattle.read_attributes.specs.of_reference.Reference.{refs_ok, decoded, is_named, char_of, unnamed}
+use Rattle.trim.specs.of_refusal.Refusal.{Outcome, accepted}
+use Rattle.read_rules.specs.of_table.Event.{Attribute, PieceKind, Text, CData, Ref, Other, Indent}
+use Rattle.read_rules.specs.of_tree_record.Words as word
+use Rattle.read_rules.specs.of_tree_record.Bits as bit
+use Rattle.read_rules.specs.of_tree_record.Kinds as kind
+use Rattle.read_rules.specs.of_tree_record.Record.{kind_of, live}
+use Rattle.read_rules.specs.of_tree_status.Status.{ruled}
+use Rattle.read_attributes.specs.of_read_element.Outcome.{◌>>=◌, Place, refused_at, there, need, Rooms, fits}
+use Rattle.read_attributes.specs.of_tree_put.Put.{put_text}
+use Rattle.read_attributes.specs.of_read_element.Attributes.{changed, storing, Grown, read_element}
+use Rattle.read_place.specs.of_read_state.Control.{Level, top, suite, case, status, Output, trace, out, err, Mode, at, gathering, listing, skipping, finished, Control}
+use Rattle.read_place.specs.of_read_state.Control.{Act, pass, open_report, open_suite, open_case, open_status, close_suite, close_case, close_status, open_text, close_text, open_list, read_property, stop, missing, broken}
 use Rattle.read_place.specs.Marks.{Marks}
-use Rattle.refusal.specs.declared.Cause.TheVariants as cause
+use Rattle.trim.specs.of_refusal.declared.Cause.TheVariants as cause
 
 -- the records, the texts stored, the open description, and the text of a child (rule M6)
 pub record Content : Type 0 where

@@ -1,2 +1,31 @@
 pub mod Content
 pub mod inside
+pub use Rattle.trim.specs.of_area as of_area
+pub use Rattle.read_attributes.specs.of_digits as of_digits
+pub use Rattle.read_attributes.specs.of_integer as of_integer
+pub use Rattle.read_rules.specs.of_names as of_names
+pub use Rattle.read_attributes.specs.of_read_attribute as of_read_attribute
+pub use Rattle.read_attributes.specs as of_read_attributes
+pub use Rattle.read_attributes.specs.of_read_each as of_read_each
+pub use Rattle.read_attributes.specs.of_read_element as of_read_element
+pub use Rattle.read_attributes.specs.of_read_fault as of_read_fault
+pub use Rattle.read_attributes.specs.of_read_keys as of_read_keys
+pub use Rattle.read_place.specs as of_read_place
+pub use Rattle.read_attributes.specs.of_read_places as of_read_places
+pub use Rattle.read_rules.specs as of_read_rules
+pub use Rattle.read_place.specs.of_read_state as of_read_state
+pub use Rattle.read_attributes.specs.of_reference as of_reference
+pub use Rattle.trim.specs.of_refusal as of_refusal
+pub use Rattle.read_attributes.specs.of_schema as of_schema
+pub use Rattle.read_rules.specs.of_table as of_table
+pub use Rattle.read_attributes.specs.of_text as of_text
+pub use Rattle.read_attributes.specs.of_text_filter as of_text_filter
+pub use Rattle.read_attributes.specs.of_time as of_time
+pub use Rattle.read_attributes.specs.of_timestamp as of_timestamp
+pub use Rattle.read_attributes.specs.of_tree_put as of_tree_put
+pub use Rattle.read_rules.specs.of_tree_record as of_tree_record
+pub use Rattle.read_attributes.specs.of_tree_report as of_tree_report
+pub use Rattle.read_rules.specs.of_tree_status as of_tree_status
+pub use Rattle.trim.specs as of_trim
+pub use Rattle.trim.specs.of_utf8 as of_utf8
+pub use Rattle.read_attributes.specs.of_uuids as of_uuids

@@ -2,18 +2,26 @@
 #![tactic(auto)]
 
 ghost use Rattle.std.specs.Prelude.{◌≡◌};
-ghost use Rattle.read_state.specs.inside.Coded.{level_of};
+ghost use Rattle.read_place.specs.of_read_state.inside.Coded.{level_of};
 ghost use Rattle.read_place.specs.inside.Coded.{marks_of};
 ghost use Rattle.read_content.specs.declared.Performed.TheVariants.{Not};
 ghost use Rattle.read_content.specs.Content.{property_kind, takes};
 ghost use Rattle.read_content.specs.inside.Holds.{fault_of, no_content};
 
-use read_attribute::Range;
-use read_fault::Fault;
+pub use read_attributes as the_read_attributes;
+use read_attributes::the_read_attribute::Range;
+use read_attributes::the_read_fault::Fault;
+pub use read_attributes::{the_read_attribute, the_read_fault, the_text_filter, the_tree_put};
+pub use read_place as the_read_place;
 use read_place::Marks;
-use read_state::Level;
-use refusal::{Cause, NOWHERE};
-use tree_record::kind;
+pub use read_place::the_read_state;
+use read_place::the_read_state::Level;
+pub use read_rules as the_read_rules;
+use read_rules::the_tree_record::kind;
+pub use read_rules::{the_names, the_read_children, the_table, the_tree_record, the_tree_status};
+pub use trim as the_trim;
+use trim::the_refusal::{Cause, NOWHERE};
+pub use trim::{the_area, the_refusal};
 
 // Records from number `first` on.
 #[derive(Clone, Copy)]

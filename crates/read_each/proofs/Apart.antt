@@ -7,10 +7,10 @@ use native.Mathlib.Omega.{arith}
 use borrow.Author.Tests.{le-leb, leb-true}
 use lib.Dec.{leb}
 use lib.ListN.{length, get_or}
-use Rattle.names.specs.Names.{same_bytes}
-use Rattle.names.proofs.NameLaws.{same_refl, same_true}
-use Rattle.tree_record.specs.Record.{text_at}
-use Rattle.read_element.specs.Attributes.{place_of, among}
+use Rattle.read_free.specs.of_names.Names.{same_bytes}
+use Rattle.read_free.proofs.of_names.NameLaws.{same_refl, same_true}
+use Rattle.read_free.specs.of_tree_record.Record.{text_at}
+use Rattle.read_free.specs.of_read_element.Attributes.{place_of, among}
 
 -- the stored keys of extras
 abbrev pub key_texts : List ℕ → List (List ℕ) → List (List ℕ)

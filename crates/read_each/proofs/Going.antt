@@ -8,23 +8,23 @@ use native.Mathlib.Omega.{arith}
 use borrow.Author.Tests.{le-leb, lt-leb, leb-true, leb-false, ltb-true}
 use lib.ListN.{length}
 use lib.Dec.{leb, ltb}
-use Rattle.refusal.specs.Refusal.{Outcome, accepted, refused}
-use Rattle.table.specs.Event.{Attribute, key_at, attributes_from}
-use Rattle.table.proofs.Resolving.{attributes-end, attributes-next}
-use Rattle.read_element.specs.Outcome.{◌>>=◌, Place, Rooms, fits}
-use Rattle.read_element.specs.Attributes.{Given, place_of, among, read_attributes}
-use Rattle.read_element.proofs.TreeOutcome.{Holds, held}
-use Rattle.read_element.specs.inside.Held.{keys_of, Held, Roomy}
+use Rattle.read_free.specs.of_refusal.Refusal.{Outcome, accepted, refused}
+use Rattle.read_free.specs.of_table.Event.{Attribute, key_at, attributes_from}
+use Rattle.read_free.proofs.of_table.Resolving.{attributes-end, attributes-next}
+use Rattle.read_free.specs.of_read_element.Outcome.{◌>>=◌, Place, Rooms, fits}
+use Rattle.read_free.specs.of_read_element.Attributes.{Given, place_of, among, read_attributes}
+use Rattle.read_free.proofs.of_read_element.TreeOutcome.{Holds, held}
+use Rattle.read_free.specs.of_read_element.inside.Held.{keys_of, Held, Roomy}
 use Rattle.read_attribute.specs.inside.Steps.{fault_at, Matches}
-use Rattle.read_element.specs.inside.Refines.{went, stopped}
+use Rattle.read_free.specs.of_read_element.inside.Refines.{went, stopped}
 use Rattle.read_free.specs.inside.Unrepeated.{Unrepeated}
 use Rattle.read_plain.specs.inside.Plain.{Plain}
-use Rattle.text.specs.Value.{value_text}
-use Rattle.read_extras.specs.inside.Hinted.{Hinted}
-use Rattle.read_extra_record.specs.declared.Given.{Given as Counted}
-use Rattle.read_fault.specs.declared.Fault.{Fault}
-use Rattle.read_fault.specs.declared.Step.{Step}
-use Rattle.read_fault.specs.declared.Step.TheVariants as step
+use Rattle.read_free.specs.of_text.Value.{value_text}
+use Rattle.read_attribute.specs.of_read_extras.inside.Hinted.{Hinted}
+use Rattle.read_attribute.specs.of_read_extra_record.declared.Given.{Given as Counted}
+use Rattle.read_attribute.specs.of_read_fault.declared.Fault.{Fault}
+use Rattle.read_attribute.specs.of_read_fault.declared.Step.{Step}
+use Rattle.read_attribute.specs.of_read_fault.declared.Step.TheVariants as step
 use Rattle.read_each.proofs.Stepping.{attribute_step}
 use Rattle.read_each.proofs.Kept.{Kept, kept_step}
 use Rattle.read_each.proofs.Sourced.{Sourced, sourced-none, sourced-more, place-new}

@@ -3,10 +3,10 @@ use Prim.Native.Nat.{ℕ, ◌+◌, ◌*◌, ◌≤◌}
 use mathlib.Core.List.{List}
 use native.Mathlib.Omega.{arith}
 use lib.ListN.{length}
-use Rattle.read_element.specs.Attributes.{Given}
-use Rattle.read_element.specs.inside.Held.{Held}
-use Rattle.read_extra_record.proofs.Storing.{text-size}
-use Rattle.read_extra_record.proofs.NewExtras.{own-size}
+use Rattle.read_free.specs.of_read_element.Attributes.{Given}
+use Rattle.read_free.specs.of_read_element.inside.Held.{Held}
+use Rattle.read_attribute.proofs.of_read_extra_record.Storing.{text-size}
+use Rattle.read_attribute.proofs.of_read_extra_record.NewExtras.{own-size}
 
 -- the texts in use lie in the text area
 pub held-fill : {own text : List ℕ} {extras fill : ℕ} {g : Given} → Held own text extras fill g → fill ≤ length text

@@ -7,26 +7,26 @@ use native.Mathlib.Omega.{arith}
 use lib.Dec.{leb}
 use lib.ListN.{length, get_or, set, take, drop, length-drop}
 use lib.Seq.{get_or-set_other, take-append-le, drop-append-le, take_at, drop_at}
-use Rattle.names.specs.Names.{same_bytes}
-use Rattle.names.specs.Keys.{key_of}
-use Rattle.table.specs.Event.{Attribute, mark_at, key_at, attribute_at, attributes_from}
-use Rattle.integer.specs.Integer.{integer_of}
-use Rattle.time.specs.Time.{time_of}
-use Rattle.timestamp.specs.Timestamp.{timestamp_of}
-use Rattle.uuids.specs.Uuid.{uuid_of}
-use Rattle.text.specs.Value.{value_text, checked_of}
-use Rattle.tree_record.specs.Record.{text_at, marked}
-use Rattle.tree_put.specs.Put.{blank, put_pair, put_text}
-use Rattle.read_keys.specs.declared.Role.{Role}
-use Rattle.read_keys.specs.declared.Role.TheVariants as role
-use Rattle.read_keys.specs.Roles.{role_of}
-use Rattle.read_element.specs.Outcome.{Place, Rooms, within, fits}
-use Rattle.read_element.specs.Attributes.{Given, place_of, changed, extra_kind, read_text, old_extra, new_extra, read_extra, by_role, among, numbered}
-use Rattle.read_element.specs.inside.Held.{Keyed, keys_of}
-use Rattle.read_element.proofs.TreeOutcome.{Holds, accept, bind, needed, answered, either}
+use Rattle.read_free.specs.of_names.Names.{same_bytes}
+use Rattle.read_free.specs.of_names.Keys.{key_of}
+use Rattle.read_free.specs.of_table.Event.{Attribute, mark_at, key_at, attribute_at, attributes_from}
+use Rattle.read_free.specs.of_integer.Integer.{integer_of}
+use Rattle.read_free.specs.of_time.Time.{time_of}
+use Rattle.read_free.specs.of_timestamp.Timestamp.{timestamp_of}
+use Rattle.read_free.specs.of_uuids.Uuid.{uuid_of}
+use Rattle.read_free.specs.of_text.Value.{value_text, checked_of}
+use Rattle.read_free.specs.of_tree_record.Record.{text_at, marked}
+use Rattle.read_free.specs.of_tree_put.Put.{blank, put_pair, put_text}
+use Rattle.read_free.specs.of_read_keys.declared.Role.{Role}
+use Rattle.read_free.specs.of_read_keys.declared.Role.TheVariants as role
+use Rattle.read_free.specs.of_read_keys.Roles.{role_of}
+use Rattle.read_free.specs.of_read_element.Outcome.{Place, Rooms, within, fits}
+use Rattle.read_free.specs.of_read_element.Attributes.{Given, place_of, changed, extra_kind, read_text, old_extra, new_extra, read_extra, by_role, among, numbered}
+use Rattle.read_free.specs.of_read_element.inside.Held.{Keyed, keys_of}
+use Rattle.read_free.proofs.of_read_element.TreeOutcome.{Holds, accept, bind, needed, answered, either}
 use Rattle.read_each.proofs.Apart.{key_texts, Apart, apart_more, not_found}
 use Rattle.read_each.proofs.Stepping.{attribute_step}
-use Rattle.refusal.specs.declared.Cause.TheVariants as cause
+use Rattle.read_free.specs.of_refusal.declared.Cause.TheVariants as cause
 
 text-stays : (texts z r : List ℕ) → get_or r 2 0 + get_or r 3 0 ≤ length texts → text_at (texts ++ z) r 2 ≡ text_at texts r 2
 text-stays texts z r h =

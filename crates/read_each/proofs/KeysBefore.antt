@@ -4,10 +4,10 @@ use mathlib.Core.Path.{◌≡◌, refl, ap, ◌∙◌}
 use mathlib.Core.Bool.{Bool, false, ◌||◌}
 use mathlib.Core.List.{List, [], ◌∷◌, ◌++◌}
 use native.Mathlib.Omega.{arith}
-use Rattle.names.specs.Names.{same_bytes}
-use Rattle.table.specs.Event.{key_at, attributes_from}
-use Rattle.read_element.specs.Attributes.{among}
-use Rattle.read_element.specs.inside.Held.{keys_of}
+use Rattle.read_free.specs.of_names.Names.{same_bytes}
+use Rattle.read_free.specs.of_table.Event.{key_at, attributes_from}
+use Rattle.read_free.specs.of_read_element.Attributes.{among}
+use Rattle.read_free.specs.of_read_element.inside.Held.{keys_of}
 use Rattle.read_free.specs.inside.Unrepeated.{Unrepeated}
 
 module _ (attributes source : List ℕ) where

@@ -5,10 +5,10 @@ use mathlib.Core.Bool.{false}
 use mathlib.Core.List.{List, []}
 use native.Mathlib.Omega.{arith}
 use lib.ListN.{length}
-use Rattle.names.specs.Names.{same_bytes}
-use Rattle.text.specs.Value.{value_text}
-use Rattle.table.specs.Event.{key_at}
-use Rattle.read_element.specs.Attributes.{Given, place_of, among}
+use Rattle.read_free.specs.of_names.Names.{same_bytes}
+use Rattle.read_free.specs.of_text.Value.{value_text}
+use Rattle.read_free.specs.of_table.Event.{key_at}
+use Rattle.read_free.specs.of_read_element.Attributes.{Given, place_of, among}
 use Rattle.read_free.specs.inside.Unrepeated.{Unrepeated}
 use Rattle.read_plain.specs.inside.Plain.{Plain}
 use Rattle.read_each.proofs.Apart.{key_texts, among-append, place_none}

@@ -2,14 +2,14 @@
 use Prim.Native.Nat.{ℕ, ◌-◌}
 use mathlib.Core.Bool.{not}
 use mathlib.Core.List.{List}
-use Rattle.names.specs.Keys.{key_of}
-use Rattle.refusal.specs.Refusal.{Outcome}
-use Rattle.read_keys.specs.Roles.{role_of}
-use Rattle.table.specs.Event.{mark_at, key_at, attribute_at, attributes_from}
-use Rattle.read_element.specs.Outcome.{Place, Rooms, need}
-use Rattle.read_element.specs.Attributes.{Given, by_role, among, numbered}
-use Rattle.read_element.specs.inside.Held.{keys_of}
-use Rattle.refusal.specs.declared.Cause.TheVariants as cause
+use Rattle.read_free.specs.of_names.Keys.{key_of}
+use Rattle.read_free.specs.of_refusal.Refusal.{Outcome}
+use Rattle.read_free.specs.of_read_keys.Roles.{role_of}
+use Rattle.read_free.specs.of_table.Event.{mark_at, key_at, attribute_at, attributes_from}
+use Rattle.read_free.specs.of_read_element.Outcome.{Place, Rooms, need}
+use Rattle.read_free.specs.of_read_element.Attributes.{Given, by_role, among, numbered}
+use Rattle.read_free.specs.of_read_element.inside.Held.{keys_of}
+use Rattle.read_free.specs.of_refusal.declared.Cause.TheVariants as cause
 
 -- the definition's attribute j
 abbrev pub attribute_step : List ℕ → List ℕ → ℕ → ℕ → Rooms → Place → ℕ → ℕ → Given → Outcome Given

@@ -2,13 +2,18 @@
 #![tactic(auto)]
 
 ghost use Rattle.std.specs.Prelude.{◌≡◌, cond, ◌≤◌};
-ghost use Rattle.read_element.specs.inside.Refines.{tagged, areas};
+ghost use Rattle.read_free.specs.of_read_element.inside.Refines.{tagged, areas};
 ghost use Rattle.read_plain.specs.inside.Plain.{Plain};
 ghost use Rattle.read_each.specs.inside.Promises.{Begins, ReadsAttributes};
 
+pub use read_attribute as the_read_attribute;
+use read_attribute::the_read_extra_record::Given;
+use read_attribute::the_read_fault::Step;
+pub use read_attribute::{the_read_extra_record, the_read_fault};
 use read_attribute::{Range, step_attribute};
-use read_extra_record::Given;
-use read_fault::Step;
+pub use read_free as the_read_free;
+pub use read_free::the_read_chains;
+pub use read_plain as the_read_plain;
 
 fn chosen(t: bool, a: usize, b: usize) -> usize
     ensures { result ≡ cond t a b }

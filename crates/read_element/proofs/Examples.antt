@@ -4,20 +4,20 @@ use mathlib.Core.Path.{◌≡◌, refl}
 use mathlib.Core.List.{List, [], ◌∷◌}
 use mathlib.Core.Bool.{true, false}
 use mathlib.Core.Option.{none, some}
-use Rattle.area.specs.Area.{zeros}
-use Rattle.refusal.specs.Refusal.{nowhere, accepted, refused}
-use Rattle.utf8.specs.Utf8.{need as wanted}
-use Rattle.names.specs.Bytes.{bytes}
-use Rattle.names.specs.Names.{same_bytes, code_from}
-use Rattle.names.specs.Keys.{keys}
-use Rattle.reference.specs.Reference.{ref_at}
+use Rattle.integer.specs.of_area.Area.{zeros}
+use Rattle.integer.specs.of_refusal.Refusal.{nowhere, accepted, refused}
+use Rattle.integer.specs.of_utf8.Utf8.{need as wanted}
+use Rattle.integer.specs.of_names.Bytes.{bytes}
+use Rattle.integer.specs.of_names.Names.{same_bytes, code_from}
+use Rattle.integer.specs.of_names.Keys.{keys}
+use Rattle.text.specs.of_reference.Reference.{ref_at}
 use Rattle.table.specs.Event.{Attribute}
-use Rattle.tree_record.specs.Record.{marked}
+use Rattle.tree_put.specs.of_tree_record.Record.{marked}
 use Rattle.tree_put.specs.Put.{blank}
 use Rattle.read_keys.specs.Roles.{role_in, suite_role, role_of}
 use Rattle.read_element.specs.Outcome.{◌>>=◌, Place, refused_at, there, need, element, Rooms, unlimited, fits}
 use Rattle.read_element.specs.Attributes.{Given, storing, read_text, old_extra, new_extra, read_extra, by_role, numbered, read_attributes, complete, read_element}
-use Rattle.refusal.specs.declared.Cause.TheVariants as cause
+use Rattle.integer.specs.of_refusal.declared.Cause.TheVariants as cause
 
 -- a suite, before its first attribute
 abbrev suite : Place

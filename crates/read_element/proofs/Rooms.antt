@@ -8,8 +8,8 @@ use mathlib.Core.Logic.{◌⊎◌, inl, inr}
 use native.Mathlib.Omega.{arith}
 use lib.ListN.{length}
 use lib.Dec.{T, leb, leb→le, le→leb}
-use Rattle.names.specs.Keys.{key_of}
-use Rattle.refusal.specs.Refusal.{Refused, Outcome, accepted, refused}
+use Rattle.integer.specs.of_names.Keys.{key_of}
+use Rattle.integer.specs.of_refusal.Refusal.{Refused, Outcome, accepted, refused}
 use Rattle.table.specs.Event.{Attribute}
 use Rattle.text.specs.Value.{value_text}
 use Rattle.read_element.specs.Outcome.{◌>>=◌, Place, need, within, Rooms, rooms_of, unlimited, fits}
@@ -17,8 +17,8 @@ use Rattle.read_keys.specs.declared.Role.{Role}
 use Rattle.read_keys.specs.declared.Role.TheVariants as role
 use Rattle.read_keys.specs.Roles.{role_of}
 use Rattle.read_element.specs.Attributes.{Given, place_of, numbered, read_text, old_extra, new_extra, read_extra, by_role, read_attributes, read_element}
-use Rattle.refusal.specs.declared.Cause.TheVariants as cause
-use Rattle.refusal.specs.declared.Cause.{Cause}
+use Rattle.integer.specs.of_refusal.declared.Cause.TheVariants as cause
+use Rattle.integer.specs.of_refusal.declared.Cause.{Cause}
 
 -- records spent (12), text area too short (13), scratch too short (14)
 abbrev pub IsShort : Cause → Type 0

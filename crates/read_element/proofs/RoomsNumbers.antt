@@ -7,24 +7,24 @@ use mathlib.Core.Logic.{inl}
 use native.Mathlib.Omega.{arith}
 use lib.ListN.{length}
 use lib.Dec.{leb, lit≤}
-use Rattle.area.specs.Answer.{gives, refuses}
-use Rattle.utf8.specs.Utf8.{utf8}
-use Rattle.names.specs.Keys.{key_of}
-use Rattle.refusal.specs.Refusal.{number, OfRules, Refused, Outcome, accepted, refused}
+use Rattle.integer.specs.of_area.Answer.{gives, refuses}
+use Rattle.integer.specs.of_utf8.Utf8.{utf8}
+use Rattle.integer.specs.of_names.Keys.{key_of}
+use Rattle.integer.specs.of_refusal.Refusal.{number, OfRules, Refused, Outcome, accepted, refused}
 use Rattle.table.specs.Event.{Attribute}
 use Rattle.integer.specs.Integer.{is_integer}
 use Rattle.time.specs.Time.{is_time}
-use Rattle.timestamp.specs.Timestamp.{is_timestamp, timestamp_of}
-use Rattle.uuids.specs.Uuid.{is_uuid, uuid_of}
-use Rattle.reference.specs.Reference.{refs_ok}
+use Rattle.tree_put.specs.of_timestamp.Timestamp.{is_timestamp, timestamp_of}
+use Rattle.tree_put.specs.of_uuids.Uuid.{is_uuid, uuid_of}
+use Rattle.text.specs.of_reference.Reference.{refs_ok}
 use Rattle.text.specs.Value.{value_text}
 use Rattle.read_element.specs.Outcome.{◌>>=◌, Place, there, need, within, unlimited, fits}
 use Rattle.read_keys.specs.declared.Role.{Role}
 use Rattle.read_keys.specs.declared.Role.TheVariants as role
 use Rattle.read_keys.specs.Roles.{role_of}
 use Rattle.read_element.specs.Attributes.{Given, place_of, numbered, read_text, old_extra, new_extra, read_extra, by_role, read_attributes, complete, read_element}
-use Rattle.refusal.specs.declared.Cause.TheVariants as cause
-use Rattle.refusal.specs.declared.Cause.{Cause}
+use Rattle.integer.specs.of_refusal.declared.Cause.TheVariants as cause
+use Rattle.integer.specs.of_refusal.declared.Cause.{Cause}
 
 -- m accepts, or refuses with a number of the rules
 pub data ByRules {A : Type 0} : Outcome A → Type 0 where

@@ -7,18 +7,18 @@ use native.Mathlib.Omega.{arith}
 use lib.ListN.{length, take, drop, length-drop}
 use borrow.Rule.Slice.PartMut.{put_mid}
 use lib.Dec.{leb}
-use Rattle.area.specs.Answer.{Answer, gives, refuses}
-use Rattle.area.specs.Area.{placing, laid}
-use Rattle.area.proofs.Parts.{rest_part, rest_back}
-use Rattle.utf8.specs.Utf8.{utf8}
-use Rattle.reference.specs.Reference.{refs_ok}
+use Rattle.integer.specs.of_area.Answer.{Answer, gives, refuses}
+use Rattle.integer.specs.of_area.Area.{placing, laid}
+use Rattle.integer.proofs.of_area.Parts.{rest_part, rest_back}
+use Rattle.integer.specs.of_utf8.Utf8.{utf8}
+use Rattle.text.specs.of_reference.Reference.{refs_ok}
 use Rattle.text.specs.Value.{value_text, checked_of, value_of, value_laid}
 use Rattle.text.proofs.Checking.{checked-good}
 use Rattle.text.proofs.Putting.{put_both, both_yes}
 use Rattle.read_element.specs.Attributes.{keep}
 use Rattle.read_element.specs.inside.Held.{unmoved, moved, putting}
-use Rattle.refusal.specs.declared.Cause.TheVariants as cause
-use Rattle.refusal.specs.declared.Cause.{Cause}
+use Rattle.integer.specs.of_refusal.declared.Cause.TheVariants as cause
+use Rattle.integer.specs.of_refusal.declared.Cause.{Cause}
 
 module _ {A : Type 0} (f : A → List ℕ → List ℕ) (fill : ℕ) (w : List ℕ) where
   -- a value that was given is put, and one that was refused is not

@@ -9,9 +9,9 @@ use lib.Dec.{eqb}
 use lib.ListN.{length, get_or, set}
 use Rattle.tree_report.specs.inside.Cells.{flags_of}
 use Rattle.tree_report.proofs.EncodeCells.{bit-flag}
-use Rattle.tree_record.specs.Record.{marked, has_bit}
-use Rattle.tree_record.proofs.Bits.{mask_power}
-use Rattle.tree_record.proofs.Marks.{marked-already, marked-anew}
+use Rattle.tree_put.specs.of_tree_record.Record.{marked, has_bit}
+use Rattle.tree_put.proofs.of_tree_record.Bits.{mask_power}
+use Rattle.tree_put.proofs.of_tree_record.Marks.{marked-already, marked-anew}
 
 -- ---- one presence bit set
 flags-set : (k : ℕ) (bs : List Bool) → k < length bs → get_or bs k false ≡ false → flags_of bs + 2 ^ k ≡ flags_of (set bs k true)

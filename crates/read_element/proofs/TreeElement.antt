@@ -8,28 +8,28 @@ use native.Mathlib.Omega.{arith}
 use borrow.Author.Tests.{le-leb}
 use lib.Dec.{leb}
 use lib.ListN.{length, length-append}
-use Rattle.area.specs.Answer.{Answer, gives, refuses}
-use Rattle.names.specs.Keys.{key_of}
-use Rattle.utf8.specs.Utf8.{utf8}
-use Rattle.utf8.proofs.Rules.{utf8_append}
-use Rattle.text_filter.specs.Filter.{unfiltered}
+use Rattle.integer.specs.of_area.Answer.{Answer, gives, refuses}
+use Rattle.integer.specs.of_names.Keys.{key_of}
+use Rattle.integer.specs.of_utf8.Utf8.{utf8}
+use Rattle.integer.proofs.of_utf8.Rules.{utf8_append}
+use Rattle.text.specs.of_text_filter.Filter.{unfiltered}
 use Rattle.text.specs.Value.{value_text, checked_of}
 use Rattle.text.proofs.Values.{utf8-value, unfiltered-value}
-use Rattle.text_filter.proofs.Filtering.{unfiltered-append}
+use Rattle.text.proofs.of_text_filter.Filtering.{unfiltered-append}
 use Rattle.integer.specs.Integer.{integer_of}
 use Rattle.time.specs.Time.{time_of}
 use Rattle.time.proofs.Times.{time-range}
-use Rattle.timestamp.specs.Timestamp.{timestamp_of}
-use Rattle.timestamp.proofs.Ranges.{timestamp-range}
-use Rattle.uuids.specs.Uuid.{uuid_of}
-use Rattle.refusal.specs.Refusal.{Outcome}
+use Rattle.tree_put.specs.of_timestamp.Timestamp.{timestamp_of}
+use Rattle.tree_put.proofs.of_timestamp.Ranges.{timestamp-range}
+use Rattle.tree_put.specs.of_uuids.Uuid.{uuid_of}
+use Rattle.integer.specs.of_refusal.Refusal.{Outcome}
 use Rattle.table.specs.Event.{Attribute}
 use Rattle.tree_report.specs.inside.Cells.{absent, valued, fits_time}
 use Rattle.tree_report.proofs.EncodeLists.{both, Each, done, more, each_append, each_on}
 use Rattle.read_element.specs.Outcome.{Place, need, within, Rooms, fits}
 use Rattle.read_keys.specs.declared.Role.{Role}
 use Rattle.read_keys.specs.Roles.{role_of}
-use Rattle.tree_record.specs.Record.{marked, has_bit}
+use Rattle.tree_put.specs.of_tree_record.Record.{marked, has_bit}
 use Rattle.tree_put.specs.Put.{blank, put_pair, put_text}
 use Rattle.read_element.specs.Attributes.{Given, with_main, read_text, place_of, changed, extra_kind, old_extra, new_extra, read_extra}
 use Rattle.read_element.specs.Attributes.{keep, by_role, among, numbered, read_attributes, complete, Grown, read_element}
@@ -40,7 +40,7 @@ use Rattle.read_element.proofs.TreeSheet.{put-tests, put-failures, put-errors, p
 use Rattle.read_element.proofs.TreeGood.{pair_sorts}
 use Rattle.read_element.proofs.TreeRoles.{Wide, Suits, as_first, as-value, as-second, as-tests, as-failures, as-errors, as-skipped, as-disabled, as-host}
 use Rattle.read_element.proofs.TreeRoles.{as-assertions, as-uuid, as-moment, as-time, as-extra, as_ignored, Class, class_roles, class-blank, class-named}
-use Rattle.refusal.specs.declared.Cause.TheVariants as cause
+use Rattle.integer.specs.of_refusal.declared.Cause.TheVariants as cause
 
 -- ---- texts
 pub record Stored (rooms : Rooms) (t : List ℕ) : Type 0 where

@@ -8,7 +8,7 @@ use native.Mathlib.Omega.{arith}
 use borrow.Author.Tests.{le-leb}
 use lib.Dec.{leb, lit≤}
 use lib.ListN.{take, drop}
-use Rattle.timestamp.specs.declared.Moment.{Moment}
+use Rattle.tree_put.specs.of_timestamp.declared.Moment.{Moment}
 use Rattle.tree_report.specs.inside.Cells.{Cell, absent, is_given, first_word, second_word, flags_of, fits_moment, fits_time}
 use Rattle.tree_report.specs.Report.{Duration}
 use Rattle.tree_report.specs.Fields.{has_bit}

@@ -1,10 +1,10 @@
 -- What holds of an outcome where it is accepted, and the tests that it passed. Assumes nothing.
 use mathlib.Core.Bool.{Bool, true, false, cond}
 use mathlib.Core.Path.{◌≡◌, refl}
-use Rattle.area.specs.Answer.{Answer, gives, refuses}
-use Rattle.refusal.specs.Refusal.{Refused, Outcome, accepted, refused}
+use Rattle.integer.specs.of_area.Answer.{Answer, gives, refuses}
+use Rattle.integer.specs.of_refusal.Refusal.{Refused, Outcome, accepted, refused}
 use Rattle.read_element.specs.Outcome.{◌>>=◌, Place, there, need}
-use Rattle.refusal.specs.declared.Cause.{Cause}
+use Rattle.integer.specs.of_refusal.declared.Cause.{Cause}
 
 pub data Holds {A : Type 0} (Q : A → Type 0) : Outcome A → Type 0 where
   accept : {a : A} → Q a → Holds Q (accepted a)

@@ -7,7 +7,7 @@ use mathlib.Core.Path.{◌≡◌, refl, sym, ◌∙◌}
 use lib.Dec.{eqb, leb}
 use Rattle.tree_report.specs.inside.Cells.{Cell, absent, constant, is_given}
 use Rattle.tree_report.proofs.EncodeCells.{bit-flag}
-use Rattle.tree_record.specs.Record.{has_bit}
+use Rattle.tree_put.specs.of_tree_record.Record.{has_bit}
 use Rattle.tree_put.specs.Put.{blank}
 use Rattle.read_keys.specs.declared.Role.{Role}
 use Rattle.read_keys.specs.declared.Role.TheVariants as role

@@ -8,18 +8,18 @@ use native.Mathlib.Omega.{arith}
 use borrow.Author.Tests.{eqb-true, eq-eqb, ne_eqb, leb-true, le-leb, ltb-true, lt-ltb}
 use lib.Dec.{eqb, leb, ltb, lit≤}
 use lib.ListN.{length, get_or, length-append, get_or-append}
-use Rattle.utf8.specs.Utf8.{utf8, within}
-use Rattle.utf8.specs.Characters.{boundary}
-use Rattle.utf8.proofs.Boundaries.{boundary-append, boundary-in}
-use Rattle.timestamp.specs.Timestamp.{in_range}
-use Rattle.timestamp.specs.declared.Moment.{Moment}
-use Rattle.uuids.specs.declared.Words.{Words}
+use Rattle.integer.specs.of_utf8.Utf8.{utf8, within}
+use Rattle.integer.specs.of_utf8.Characters.{boundary}
+use Rattle.integer.proofs.of_utf8.Boundaries.{boundary-append, boundary-in}
+use Rattle.tree_put.specs.of_timestamp.Timestamp.{in_range}
+use Rattle.tree_put.specs.of_timestamp.declared.Moment.{Moment}
+use Rattle.tree_put.specs.of_uuids.declared.Words.{Words}
 use Rattle.tree_report.specs.inside.Cells.{Cell, absent, valued, constant, is_given, first_word, second_word, is_some, moment_or_zero, time_or_zero, flags_of, fits_moment, fits_time}
 use Rattle.tree_report.specs.Report.{Duration}
 use Rattle.tree_report.specs.Fields.{kind_of, has_bit}
 use Rattle.tree_report.proofs.EncodeLists.{both, and_left, and_right}
 use Rattle.tree_report.proofs.EncodeCells.{bit-flag}
-use Rattle.tree_record.specs.Record.{marked}
+use Rattle.tree_put.specs.of_tree_record.Record.{marked}
 use Rattle.tree_put.specs.Put.{put_text, put_count_of, put_uuid, put_moment, put_time}
 use Rattle.read_element.proofs.TreeBits.{marked-flags}
 

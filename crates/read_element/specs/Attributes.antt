@@ -1,21 +1,21 @@
 -- An element's record with what its attributes say, its extras and its texts (rules A2, A3 and A8 to A11). Definitions only.
 use Rattle.std.specs.Prelude.{ℕ, zero, suc, ◌+◌, List, [], ◌∷◌, ◌++◌, Bool, true, false, cond, not, ◌&&◌, ◌||◌, length, leb}
-use Rattle.names.specs.Names.{same_bytes}
-use Rattle.names.specs.Keys.{key_of}
-use Rattle.refusal.specs.Refusal.{Outcome, accepted}
+use Rattle.integer.specs.of_names.Names.{same_bytes}
+use Rattle.integer.specs.of_names.Keys.{key_of}
+use Rattle.integer.specs.of_refusal.Refusal.{Outcome, accepted}
 use Rattle.table.specs.Event.{Attribute}
 use Rattle.integer.specs.Integer.{integer_of}
 use Rattle.time.specs.Time.{time_of}
-use Rattle.timestamp.specs.Timestamp.{timestamp_of}
-use Rattle.uuids.specs.Uuid.{uuid_of}
+use Rattle.tree_put.specs.of_timestamp.Timestamp.{timestamp_of}
+use Rattle.tree_put.specs.of_uuids.Uuid.{uuid_of}
 use Rattle.text.specs.Value.{value_text, checked_of}
 use Rattle.read_element.specs.Outcome.{◌>>=◌, Place, there, need, within, Rooms, fits}
-use Rattle.tree_record.specs.Record.{has_bit, marked, text_at}
+use Rattle.tree_put.specs.of_tree_record.Record.{has_bit, marked, text_at}
 use Rattle.tree_put.specs.Put.{blank, put_pair, put_text, put_count_of, put_uuid, put_moment, put_time}
 use Rattle.read_keys.specs.declared.Role.{Role}
 use Rattle.read_keys.specs.declared.Role.TheVariants as role
 use Rattle.read_keys.specs.Roles.{role_of}
-use Rattle.refusal.specs.declared.Cause.TheVariants as cause
+use Rattle.integer.specs.of_refusal.declared.Cause.TheVariants as cause
 
 -- what an element's attributes have given so far:
 -- its record, the records of its extras, and the text area's texts

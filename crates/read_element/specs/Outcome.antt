@@ -1,11 +1,11 @@
 -- Steps that may refuse, the place that a refusal names, and the room that areas have. Definitions only.
 use Rattle.std.specs.Prelude.{ℕ, zero, suc, ◌/◌, min, List, [], ◌∷◌, ◌++◌, Bool, true, false, cond, leb}
 use Rattle.std.proofs.Math.Option.{Option, none, some}
-use Rattle.area.specs.Limits.{most_records, most_bytes}
-use Rattle.area.specs.Answer.{Answer, gives, refuses}
-use Rattle.refusal.specs.Refusal.{nowhere, Outcome, accepted, refused}
-use Rattle.refusal.specs.declared.PathElement.{PathElement}
-use Rattle.refusal.specs.declared.Cause.{Cause}
+use Rattle.integer.specs.of_area.Limits.{most_records, most_bytes}
+use Rattle.integer.specs.of_area.Answer.{Answer, gives, refuses}
+use Rattle.integer.specs.of_refusal.Refusal.{nowhere, Outcome, accepted, refused}
+use Rattle.integer.specs.of_refusal.declared.PathElement.{PathElement}
+use Rattle.integer.specs.of_refusal.declared.Cause.{Cause}
 
 infixl 20 ◌>>=◌
 -- one step behind another: the first that refuses decides (rule F2)

@@ -8,20 +8,20 @@ use borrow.Author.Tests.{le-leb, lt-leb}
 use lib.ListN.{length, take, drop, length-append}
 use lib.Seq.{take_at, drop_at, drop-drop, take-add}
 use borrow.Rule.Slice.PartMut.{put_mid}
-use Rattle.area.specs.Answer.{Answer, gives, refuses}
-use Rattle.area.specs.Area.{zeros, placing, laid}
-use Rattle.area.proofs.Parts.{rest_part, rest_back}
-use Rattle.refusal.specs.Refusal.{Outcome}
-use Rattle.tree_put.specs.Put.{put_pair}
-use Rattle.tree_put.proofs.Puts.{pair-length, pair-other}
+use Rattle.read_element.specs.of_area.Answer.{Answer, gives, refuses}
+use Rattle.read_element.specs.of_area.Area.{zeros, placing, laid}
+use Rattle.read_element.proofs.of_area.Parts.{rest_part, rest_back}
+use Rattle.read_element.specs.of_refusal.Refusal.{Outcome}
+use Rattle.read_element.specs.of_tree_put.Put.{put_pair}
+use Rattle.read_element.proofs.of_tree_put.Puts.{pair-length, pair-other}
 use Rattle.read_element.specs.Outcome.{Place, Rooms, need, fits}
 use Rattle.read_element.specs.Attributes.{Given, changed, old_extra}
-use Rattle.utf8.specs.Characters.{joined}
+use Rattle.read_element.specs.of_utf8.Characters.{joined}
 use Rattle.read_element.specs.inside.Held.{moved, Held, Roomy, Meets}
 use Rattle.read_element.specs.inside.Refines.{went, stopped}
 use Rattle.read_extra_record.proofs.Storing.{end-put, end-full, text-size, text-behind, extras-changed, pair-local, changed-keyed, changed-length, keyed-more}
-use Rattle.refusal.specs.declared.Cause.TheVariants as cause
-use Rattle.refusal.specs.declared.Cause.{Cause}
+use Rattle.read_element.specs.of_refusal.declared.Cause.TheVariants as cause
+use Rattle.read_element.specs.of_refusal.declared.Cause.{Cause}
 
 module _ {p : Place} {own text : List ℕ} {b : Bool} (n : Cause) (m : Outcome Given) where
   -- the code's test held: what meets the outcome behind the demand meets the whole

@@ -1,3 +1,8 @@
 pub mod Storing
 pub mod Extras
 pub mod NewExtras
+pub use Rattle.read_element.proofs.of_integer as of_integer
+pub use Rattle.read_element.proofs as of_read_element
+pub use Rattle.read_element.proofs.of_read_keys as of_read_keys
+pub use Rattle.read_element.proofs.of_tree_put as of_tree_put
+pub use Rattle.read_element.proofs.of_tree_report as of_tree_report

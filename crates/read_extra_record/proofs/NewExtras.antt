@@ -9,22 +9,22 @@ use lib.ListN.{length, get_or, set, take, drop, length-append, length-replicate,
 use lib.Seq.{take_at, drop_at, set-append_left, length-take-le}
 use lib.ListN.{length-drop}
 use borrow.Rule.Slice.PartMut.{put_mid}
-use Rattle.area.specs.Answer.{gives, refuses}
-use Rattle.area.specs.Area.{zeros, placing, laid}
-use Rattle.area.proofs.Laying.{length-laid}
-use Rattle.area.proofs.Parts.{rest_part, rest_back}
-use Rattle.tree_record.specs.Record.{marked}
-use Rattle.tree_put.specs.Put.{blank, put_pair, put_text}
-use Rattle.tree_put.proofs.Puts.{pair-length, pair-first, pair-second, pair-other, text-length}
-use Rattle.tree_record.proofs.Marks.{marked-front, marked-behind, marked_other}
+use Rattle.read_element.specs.of_area.Answer.{gives, refuses}
+use Rattle.read_element.specs.of_area.Area.{zeros, placing, laid}
+use Rattle.read_element.proofs.of_area.Laying.{length-laid}
+use Rattle.read_element.proofs.of_area.Parts.{rest_part, rest_back}
+use Rattle.read_element.specs.of_tree_record.Record.{marked}
+use Rattle.read_element.specs.of_tree_put.Put.{blank, put_pair, put_text}
+use Rattle.read_element.proofs.of_tree_put.Puts.{pair-length, pair-first, pair-second, pair-other, text-length}
+use Rattle.read_element.proofs.of_tree_record.Marks.{marked-front, marked-behind, marked_other}
 use Rattle.read_element.specs.Outcome.{Place, Rooms, fits}
 use Rattle.read_element.specs.Attributes.{Given, extra_kind, new_extra}
-use Rattle.utf8.specs.Characters.{joined}
+use Rattle.read_element.specs.of_utf8.Characters.{joined}
 use Rattle.read_element.specs.inside.Held.{moved, Keyed, extra_words, Held, Roomy, Meets}
 use Rattle.read_element.specs.inside.Refines.{went}
 use Rattle.read_extra_record.proofs.Storing.{end-put, end-full, text-size, Local, pair-local, keyed-more}
 use Rattle.read_extra_record.proofs.Extras.{meets-need, meets-refused, behind-main, text-grown, text-room, text-none}
-use Rattle.refusal.specs.declared.Cause.TheVariants as cause
+use Rattle.read_element.specs.of_refusal.declared.Cause.TheVariants as cause
 
 -- setting a presence bit touches the first record alone
 pub marked-local : (k : ℕ) → Local (marked k)

@@ -5,15 +5,15 @@ use mathlib.Core.List.{List, [], ◌∷◌, ◌++◌, append_assoc}
 use native.Mathlib.Omega.{arith}
 use lib.ListN.{length, get_or, set, take, drop, length-append, length-replicate, length-set}
 use lib.Seq.{take_at, drop_at, drop-drop, take-add, set-append_left}
-use Rattle.area.specs.Answer.{Answer, gives, refuses}
-use Rattle.area.specs.Area.{zeros, placing, laid}
-use Rattle.area.proofs.Laying.{laid-zeros, put-fits, full-over}
-use Rattle.tree_put.specs.Put.{put_pair}
-use Rattle.tree_put.proofs.Puts.{pair-length}
+use Rattle.read_element.specs.of_area.Answer.{Answer, gives, refuses}
+use Rattle.read_element.specs.of_area.Area.{zeros, placing, laid}
+use Rattle.read_element.proofs.of_area.Laying.{laid-zeros, put-fits, full-over}
+use Rattle.read_element.specs.of_tree_put.Put.{put_pair}
+use Rattle.read_element.proofs.of_tree_put.Puts.{pair-length}
 use Rattle.read_element.specs.Attributes.{changed}
-use Rattle.utf8.specs.Characters.{joined}
+use Rattle.read_element.specs.of_utf8.Characters.{joined}
 use Rattle.read_element.specs.inside.Held.{moved, Keyed}
-use Rattle.refusal.specs.declared.Cause.TheVariants as cause
+use Rattle.read_element.specs.of_refusal.declared.Cause.TheVariants as cause
 
 -- what the end of a text that was laid tells
 module _ (fill n : ℕ) (v : List ℕ) where

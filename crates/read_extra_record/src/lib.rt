@@ -3,20 +3,21 @@
 #![tactic(auto)]
 
 ghost use Rattle.std.specs.Prelude.{◌≡◌, ◌++◌, ◌≤◌, ◌<◌, ◌+◌, ◌-◌, ◌*◌, length, take, drop};
-ghost use Rattle.area.specs.Answer.{gives};
-ghost use Rattle.area.specs.Area.{placing, laid};
-ghost use Rattle.text.specs.Value.{value_text, checked_of};
+ghost use Rattle.read_element.specs.of_area.Answer.{gives};
+ghost use Rattle.read_element.specs.of_area.Area.{placing, laid};
+ghost use Rattle.read_element.specs.of_text.Value.{value_text, checked_of};
 ghost use Rattle.read_element.specs.inside.Held.{moved, extra_words};
 ghost use Rattle.read_element.specs.inside.Refines.{areas};
 ghost use Rattle.read_extra_record.specs.inside.Answers.{laidAnswer};
 ghost use Rattle.read_extra_record.specs.inside.Promises.{Bounded, ReplacesExtra, AddsExtra};
-ghost use Rattle.refusal.specs.declared.Cause.TheVariants as cause;
+ghost use Rattle.read_element.specs.of_refusal.declared.Cause.TheVariants as cause;
 
-use refusal::Cause;
-use text::kept::Kept;
-use text::value::store_value;
-use tree_put::{put_pair, put_text};
-use tree_record::put_field;
+use read_element::the_refusal::Cause;
+use read_element::the_text::kept::Kept;
+use read_element::the_text::value::store_value;
+use read_element::the_tree_put::{put_pair, put_text};
+use read_element::the_tree_record::put_field;
+pub use read_element::{the_refusal, the_table_parts, the_tree_record};
 
 // The number of extras and the end of the texts.
 #[derive(Clone, Copy)]

@@ -8,20 +8,20 @@ use borrow.Author.Tests.{le-leb, lt-leb}
 use lib.Dec.{leb}
 use lib.ListN.{length, get_or, take, drop, length-drop, get_or-append}
 use lib.Seq.{drop_at, drop-drop, take-append-le, drop-append-le}
-use Rattle.area.specs.Answer.{Answer, gives, refuses}
-use Rattle.area.specs.Area.{zeros}
-use Rattle.refusal.specs.Refusal.{Outcome}
-use Rattle.names.specs.Names.{same_bytes}
-use Rattle.table.specs.Event.{Attribute}
-use Rattle.text.specs.Value.{value_text, checked_of}
-use Rattle.read_element.specs.Outcome.{Place, Rooms, there, ◌>>=◌}
-use Rattle.tree_record.specs.Record.{text_at}
-use Rattle.read_element.specs.Attributes.{Given, place_of, old_extra, new_extra, read_extra}
-use Rattle.utf8.specs.Characters.{joined}
-use Rattle.read_element.specs.inside.Held.{place_at, put_extra, Keyed, Held, Meets}
-use Rattle.read_element.specs.inside.Refines.{stopped}
+use Rattle.text_key.specs.of_area.Answer.{Answer, gives, refuses}
+use Rattle.text_key.specs.of_area.Area.{zeros}
+use Rattle.text_key.specs.of_refusal.Refusal.{Outcome}
+use Rattle.text_key.specs.of_names.Names.{same_bytes}
+use Rattle.read_extra_record.specs.of_table.Event.{Attribute}
+use Rattle.text_key.specs.of_text.Value.{value_text, checked_of}
+use Rattle.read_extra_record.specs.of_read_element.Outcome.{Place, Rooms, there, ◌>>=◌}
+use Rattle.read_extra_record.specs.of_tree_record.Record.{text_at}
+use Rattle.read_extra_record.specs.of_read_element.Attributes.{Given, place_of, old_extra, new_extra, read_extra}
+use Rattle.text_key.specs.of_utf8.Characters.{joined}
+use Rattle.read_extra_record.specs.of_read_element.inside.Held.{place_at, put_extra, Keyed, Held, Meets}
+use Rattle.read_extra_record.specs.of_read_element.inside.Refines.{stopped}
 use Rattle.read_extras.specs.inside.Hinted.{Hinted}
-use Rattle.refusal.specs.declared.Cause.{Cause}
+use Rattle.text_key.specs.of_refusal.declared.Cause.{Cause}
 
 -- a stored key in the area is that of the texts
 pub text_in : (texts z r t : List ℕ) → length r ≡ 32 → get_or r 2 0 + get_or r 3 0 ≤ length texts → text_at (texts ++ z) (r ++ t) 2 ≡ text_at texts r 2

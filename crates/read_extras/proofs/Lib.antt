@@ -1,2 +1,3 @@
 pub mod Placing
 pub mod Choosing
+pub use Rattle.read_extra_record.proofs as of_read_extra_record

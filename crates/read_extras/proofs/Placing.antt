@@ -5,11 +5,11 @@ use mathlib.Core.Bool.{Bool, true, false, cond}
 use mathlib.Core.List.{List}
 use native.Mathlib.Omega.{arith}
 use lib.ListN.{length, take, drop}
-use Rattle.names.specs.Names.{same_bytes}
-use Rattle.names.proofs.NameLaws.{same_true}
-use Rattle.area.proofs.Parts.{rest_part}
-use Rattle.tree_record.specs.Record.{text_at}
-use Rattle.read_element.specs.inside.Held.{place_at}
+use Rattle.text_key.specs.of_names.Names.{same_bytes}
+use Rattle.text_key.proofs.of_names.NameLaws.{same_true}
+use Rattle.text_key.proofs.of_area.Parts.{rest_part}
+use Rattle.read_extra_record.specs.of_tree_record.Record.{text_at}
+use Rattle.read_extra_record.specs.of_read_element.inside.Held.{place_at}
 
 -- the extras before i have another key
 pub record Placing (own text key : List ℕ) (extras i : ℕ) : Type 0 where

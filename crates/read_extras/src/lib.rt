@@ -2,22 +2,23 @@
 #![tactic(auto)]
 
 ghost use Rattle.std.specs.Prelude.{◌≡◌, ◌≤◌, ◌+◌, ◌*◌, length};
-ghost use Rattle.area.specs.Answer.{gives};
-ghost use Rattle.names.specs.Names.{same_bytes};
-ghost use Rattle.text.specs.Value.{value_text, checked_of};
-ghost use Rattle.tree_record.specs.Record.{text_at};
-ghost use Rattle.read_element.specs.inside.Held.{place_at};
-ghost use Rattle.read_element.specs.inside.Refines.{areas};
+ghost use Rattle.text_key.specs.of_area.Answer.{gives};
+ghost use Rattle.text_key.specs.of_names.Names.{same_bytes};
+ghost use Rattle.text_key.specs.of_text.Value.{value_text, checked_of};
+ghost use Rattle.read_extra_record.specs.of_tree_record.Record.{text_at};
+ghost use Rattle.read_extra_record.specs.of_read_element.inside.Held.{place_at};
+ghost use Rattle.read_extra_record.specs.of_read_element.inside.Refines.{areas};
 ghost use Rattle.read_extra_record.specs.inside.Promises.{Bounded};
 ghost use Rattle.read_extras.specs.inside.Promises.{FindsPlace, PutsExtra, ReadsExtra};
 
-use area::wide;
+pub use read_extra_record as the_read_extra_record;
+use read_extra_record::the_table_parts::bytes_of;
+use read_extra_record::the_tree_record::field;
 use read_extra_record::{Gave, Given, new_extra, old_extra};
-use refusal::Cause;
-use table_parts::bytes_of;
-use text::value::{Checked, check_value};
+use text_key::the_area::wide;
+use text_key::the_refusal::Cause;
+use text_key::the_text::value::{Checked, check_value};
 use text_key::{cleaned_length, is_cleaned};
-use tree_record::field;
 
 // Whether `stored` is the text, of n bytes, that would be stored for `key`: lengths are compared before bytes.
 fn is_stored(stored: &[u8], key: &[u8], n: usize) -> bool

@@ -1,9 +1,9 @@
 -- A path with an Attribute. Assumes nothing.
 use Prim.Native.Nat.{ℕ, zero, suc}
 use mathlib.Core.Path.{◌≡◌, refl}
-use Rattle.refusal.specs.Refusal.{longer}
-use Rattle.refusal.specs.declared.Path.{Path}
-use Rattle.read_element.specs.Outcome.{attribute_element}
+use Rattle.read_extra_record.specs.of_refusal.Refusal.{longer}
+use Rattle.read_extra_record.specs.of_refusal.declared.Path.{Path}
+use Rattle.read_extra_record.specs.of_read_element.Outcome.{attribute_element}
 use Rattle.read_fault.specs.inside.Faults.{with_attribute}
 
 -- the path of an attribute's value

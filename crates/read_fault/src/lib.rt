@@ -2,11 +2,11 @@
 #![tactic(auto)]
 
 ghost use Rattle.std.specs.Prelude.{◌≡◌, ◌<◌, ◌^◌};
-ghost use Rattle.read_element.specs.Outcome as outcome;
+ghost use Rattle.read_extra_record.specs.of_read_element.Outcome as outcome;
 ghost use Rattle.read_fault.specs.inside.Faults.{fault_step, with_attribute};
 
 use read_extra_record::Given;
-use refusal::{Cause, NOWHERE, Path, PathElement};
+use read_extra_record::the_refusal::{Cause, NOWHERE, Path, PathElement};
 
 // Why an element is refused: the code of the key whose value it is, 0 where the path has no Attribute, and the attribute's
 // number, 4294967295 where none is concerned.

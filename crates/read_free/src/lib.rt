@@ -3,11 +3,12 @@
 #![tactic(auto)]
 
 ghost use Rattle.std.specs.Prelude.{◌≡◌, ◌-◌, ◌*◌, ◌≤◌, ◌<◌, length};
-ghost use Rattle.area.specs.Area.{zeros};
+ghost use Rattle.read_chains.specs.of_area.Area.{zeros};
 ghost use Rattle.read_free.specs.inside.Unrepeated.{Unrepeated, room_of};
 
-use area::{clear_words, least};
+pub use read_chains as the_read_chains;
 use read_chains::enter;
+use read_chains::the_area::{clear_words, least};
 use read_sorted::free_by_sort;
 
 const FEW: usize = 8;

@@ -5,12 +5,12 @@ use mathlib.Core.Bool.{true}
 use mathlib.Core.List.{List}
 use native.Mathlib.Omega.{arith}
 use lib.ListN.{length, get_or, take, drop}
-use Rattle.area.proofs.Parts.{rest_part}
-use Rattle.names.specs.Names.{same_bytes}
-use Rattle.text.specs.Value.{value_text}
-use Rattle.table.specs.Event.{key_at}
-use Rattle.read_element.specs.inside.Held.{place_at}
-use Rattle.read_marks.specs.inside.Marks.{stored_for, New}
+use Rattle.read_places.proofs.of_area.Parts.{rest_part}
+use Rattle.read_places.specs.of_names.Names.{same_bytes}
+use Rattle.read_places.specs.of_text.Value.{value_text}
+use Rattle.read_places.specs.of_table.Event.{key_at}
+use Rattle.read_places.specs.of_read_element.inside.Held.{place_at}
+use Rattle.read_places.specs.of_read_marks.inside.Marks.{stored_for, New}
 use Rattle.read_places.specs.inside.Stands.{stored_key}
 use Rattle.read_places.specs.inside.Told.{Told}
 

@@ -7,24 +7,24 @@ use borrow.Author.Tests.{ltb-true}
 use lib.ListN.{length, get_or, take, drop, length-drop, length-append}
 use lib.Seq.{length-take-le}
 use lib.Dec.{ltb}
-use Rattle.refusal.specs.Refusal.{Outcome}
-use Rattle.names.specs.Names.{same_bytes}
-use Rattle.text.specs.Value.{value_text}
-use Rattle.table.specs.Event.{Attribute, key_at, attributes_from}
-use Rattle.table.proofs.Resolving.{attributes-end, attributes-next}
-use Rattle.read_element.specs.Outcome.{◌>>=◌, Place, Rooms}
-use Rattle.read_element.specs.Attributes.{Given, read_attributes}
-use Rattle.read_element.specs.inside.Held.{keys_of, place_at, Held, Roomy}
-use Rattle.read_element.proofs.TreeOutcome.{Holds, held}
-use Rattle.read_attribute.specs.inside.Steps.{Matches}
-use Rattle.read_element.specs.inside.Refines.{went, stopped}
-use Rattle.read_free.specs.inside.Unrepeated.{Unrepeated}
-use Rattle.read_extras.proofs.Choosing.{place-held}
-use Rattle.read_extra_record.specs.declared.Given.{Given as Counted}
-use Rattle.read_fault.specs.declared.Fault.{Fault}
-use Rattle.read_fault.specs.declared.Step.{Step}
-use Rattle.read_fault.specs.declared.Step.TheVariants as step
-use Rattle.read_marks.specs.inside.Marks.{stored_for, New, Marks}
+use Rattle.read_places.specs.of_refusal.Refusal.{Outcome}
+use Rattle.read_places.specs.of_names.Names.{same_bytes}
+use Rattle.read_places.specs.of_text.Value.{value_text}
+use Rattle.read_places.specs.of_table.Event.{Attribute, key_at, attributes_from}
+use Rattle.read_places.proofs.of_table.Resolving.{attributes-end, attributes-next}
+use Rattle.read_places.specs.of_read_element.Outcome.{◌>>=◌, Place, Rooms}
+use Rattle.read_places.specs.of_read_element.Attributes.{Given, read_attributes}
+use Rattle.read_places.specs.of_read_element.inside.Held.{keys_of, place_at, Held, Roomy}
+use Rattle.read_places.proofs.of_read_element.TreeOutcome.{Holds, held}
+use Rattle.read_each.specs.of_read_attribute.inside.Steps.{Matches}
+use Rattle.read_places.specs.of_read_element.inside.Refines.{went, stopped}
+use Rattle.read_each.specs.of_read_free.inside.Unrepeated.{Unrepeated}
+use Rattle.read_each.proofs.of_read_extras.Choosing.{place-held}
+use Rattle.read_each.specs.of_read_extra_record.declared.Given.{Given as Counted}
+use Rattle.read_each.specs.of_read_fault.declared.Fault.{Fault}
+use Rattle.read_each.specs.of_read_fault.declared.Step.{Step}
+use Rattle.read_each.specs.of_read_fault.declared.Step.TheVariants as step
+use Rattle.read_places.specs.of_read_marks.inside.Marks.{stored_for, New, Marks}
 use Rattle.read_places.specs.inside.Stands.{stored_key}
 use Rattle.read_places.specs.inside.Told.{Quiet, Told}
 use Rattle.read_each.proofs.HeldBounds.{held-fill, held-extras}

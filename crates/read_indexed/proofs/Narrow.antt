@@ -8,19 +8,19 @@ use native.Mathlib.Omega.{arith}
 use borrow.Author.Tests.{le-leb, lt-leb, leb-true, leb-false}
 use lib.Dec.{leb}
 use lib.ListN.{length}
-use Rattle.refusal.specs.Refusal.{Outcome, accepted}
-use Rattle.names.specs.Keys.{key_of}
-use Rattle.table.specs.Event.{Attribute, mark_at, key_at, attribute_at, attributes_from}
-use Rattle.text.specs.Value.{value_text, checked_of}
-use Rattle.tree_put.specs.Put.{blank, put_text}
-use Rattle.read_keys.specs.declared.Role.{Role}
-use Rattle.read_keys.specs.declared.Role.TheVariants as role
-use Rattle.read_keys.specs.Roles.{role_of}
-use Rattle.read_element.specs.Outcome.{Place, Rooms, need, there, ◌>>=◌, fits}
-use Rattle.read_element.specs.Attributes.{Given, place_of, extra_kind, storing, read_text, old_extra, new_extra, read_extra, by_role, among, numbered}
-use Rattle.read_element.specs.inside.Held.{keys_of, Roomy}
+use Rattle.read_places.specs.of_refusal.Refusal.{Outcome, accepted}
+use Rattle.read_places.specs.of_names.Keys.{key_of}
+use Rattle.read_places.specs.of_table.Event.{Attribute, mark_at, key_at, attribute_at, attributes_from}
+use Rattle.read_places.specs.of_text.Value.{value_text, checked_of}
+use Rattle.read_places.specs.of_tree_put.Put.{blank, put_text}
+use Rattle.read_places.specs.of_read_keys.declared.Role.{Role}
+use Rattle.read_places.specs.of_read_keys.declared.Role.TheVariants as role
+use Rattle.read_places.specs.of_read_keys.Roles.{role_of}
+use Rattle.read_places.specs.of_read_element.Outcome.{Place, Rooms, need, there, ◌>>=◌, fits}
+use Rattle.read_places.specs.of_read_element.Attributes.{Given, place_of, extra_kind, storing, read_text, old_extra, new_extra, read_extra, by_role, among, numbered}
+use Rattle.read_places.specs.of_read_element.inside.Held.{keys_of, Roomy}
 use Rattle.read_each.proofs.Stepping.{attribute_step}
-use Rattle.refusal.specs.declared.Cause.TheVariants as cause
+use Rattle.read_places.specs.of_refusal.declared.Cause.TheVariants as cause
 
 -- rooms for `used` records and so many words
 abbrev pub narrow : Rooms → ℕ → ℕ → Rooms

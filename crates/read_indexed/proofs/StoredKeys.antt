@@ -5,12 +5,12 @@ use mathlib.Core.List.{List, [], ◌∷◌, ◌++◌, append_assoc}
 use native.Mathlib.Omega.{arith}
 use lib.ListN.{length, get_or, drop, length-append}
 use lib.Seq.{drop_at, drop-drop}
-use Rattle.area.specs.Area.{zeros}
-use Rattle.utf8.specs.Characters.{joined}
-use Rattle.tree_record.specs.Record.{text_at}
-use Rattle.read_element.specs.Attributes.{Given}
-use Rattle.read_element.specs.inside.Held.{Keyed, Held}
-use Rattle.read_extras.proofs.Choosing.{text_in}
+use Rattle.read_places.specs.of_area.Area.{zeros}
+use Rattle.read_places.specs.of_utf8.Characters.{joined}
+use Rattle.read_places.specs.of_tree_record.Record.{text_at}
+use Rattle.read_places.specs.of_read_element.Attributes.{Given}
+use Rattle.read_places.specs.of_read_element.inside.Held.{Keyed, Held}
+use Rattle.read_each.proofs.of_read_extras.Choosing.{text_in}
 use Rattle.read_places.specs.inside.Stands.{stored_key}
 use Rattle.read_each.proofs.Apart.{key_texts, length-texts}
 use Rattle.read_each.proofs.Kept.{Kept}

@@ -3,20 +3,25 @@
 #![tactic(auto)]
 
 ghost use Rattle.std.specs.Prelude.{◌≡◌, ◌+◌, ◌-◌, ◌*◌, ◌≤◌, length, take, drop};
-ghost use Rattle.text.specs.Value.{value_text};
-ghost use Rattle.table.specs.Event.{key_at};
-ghost use Rattle.read_element.specs.inside.Held.{place_at};
-ghost use Rattle.read_element.specs.inside.Refines.{tagged, areas};
-ghost use Rattle.read_marks.specs.inside.Marks.{Marks};
+ghost use Rattle.read_places.specs.of_text.Value.{value_text};
+ghost use Rattle.read_places.specs.of_table.Event.{key_at};
+ghost use Rattle.read_places.specs.of_read_element.inside.Held.{place_at};
+ghost use Rattle.read_places.specs.of_read_element.inside.Refines.{tagged, areas};
+ghost use Rattle.read_places.specs.of_read_marks.inside.Marks.{Marks};
 ghost use Rattle.read_each.specs.inside.Promises.{Begins, ReadsWithin};
 ghost use Rattle.read_places.specs.inside.Told.{Told};
 
-use read_attribute::{Range, step_attribute};
-use read_chains::key::key_at;
-use read_extra_record::Given;
-use read_fault::Step;
+pub use read_each as the_read_each;
+use read_each::the_read_attribute::{Range, step_attribute};
+use read_each::the_read_chains::key::key_at;
+use read_each::the_read_extra_record::Given;
+use read_each::the_read_fault::Step;
+pub use read_each::{the_read_attribute, the_read_fault, the_read_free, the_read_plain};
+use read_places::the_table_parts::word_of;
+pub use read_places::{
+    the_area, the_read_marks, the_refusal, the_text_filter, the_tree_put, the_tree_record,
+};
 use read_places::{is_at, note_extra, place_told};
-use table_parts::word_of;
 
 // The place of the extra with the key of attribute j among the extras, or their number; more where that isn't told. A place that is told
 // is compared once.

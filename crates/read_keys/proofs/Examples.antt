@@ -1,8 +1,8 @@
 -- Roles by the record's kind and the key, by computing. Assumes nothing.
 use mathlib.Core.Bool.{true, false}
 use mathlib.Core.Path.{◌≡◌, refl}
-use Rattle.names.specs.Keys as key
-use Rattle.tree_record.specs.Kinds as kind
+use Rattle.schema.specs.of_names.Keys as key
+use Rattle.schema.specs.of_tree_record.Kinds as kind
 use Rattle.read_keys.specs.declared.Role.TheVariants.{Text, Count, Number, Time, Extra, Ignored}
 use Rattle.read_keys.specs.Roles.{role_in, report_role, suite_role, case_role, property_role, status_role, role_of}
 

@@ -7,9 +7,9 @@ use native.Mathlib.Omega.{arith}
 use borrow.Author.Tests.{ne_eqb, eqb-true, eqb-false, leb-true, leb-false}
 use lib.Dec.{eqb, leb}
 use lib.ListN.{drop}
-use Rattle.names.specs.Keys as key
-use Rattle.tree_record.specs.Words as word
-use Rattle.tree_record.specs.Bits as bit
+use Rattle.schema.specs.of_names.Keys as key
+use Rattle.schema.specs.of_tree_record.Words as word
+use Rattle.schema.specs.of_tree_record.Bits as bit
 use Rattle.read_keys.specs.Roles.{role_in, report_keys, report_role, suite_keys, suite_role, case_keys, case_role, property_keys, property_role, status_keys, status_role, role_of}
 use Rattle.read_keys.specs.declared.Role.{Role}
 use Rattle.read_keys.specs.declared.Role.TheVariants.{Text, Timestamp, Time, Extra, Ignored}

@@ -1,7 +1,7 @@
 -- Which attributes an element reads, and where they go: the `match attr.key` of deserialize.rs, element by element, by the rows of its table
 -- (crate schema). Definitions only.
 use Rattle.std.specs.Prelude.{ℕ, List, [], ◌∷◌, Bool, true, false, cond, leb, eqb}
-use Rattle.tree_record.specs.Kinds as kind
+use Rattle.schema.specs.of_tree_record.Kinds as kind
 use Rattle.schema.specs.Schema.{Form, text, number, time, timestamp, uuid, flag, Presence, always, must, may, unkept, Row}
 use Rattle.schema.specs.Schema as table
 use Rattle.read_keys.specs.declared.Role.{Role}

@@ -4,11 +4,11 @@
 ghost use Rattle.std.specs.Prelude.{◌≡◌};
 ghost use Rattle.read_keys.specs.Roles.{report_role, suite_role, case_role, property_role, status_role, role_of};
 
-use names::key::{
+use schema::the_names::key::{
     ASSERTIONS, CLASSNAME, DISABLED, ERRORS, FAILURES, HOSTNAME, MESSAGE, NAME, SKIPPED, TESTS,
     TIME, TIMESTAMP, TYPE, UUID, VALUE,
 };
-use tree_record::{bit, kind, word};
+use schema::the_tree_record::{bit, kind, word};
 
 // What a value is read as: a text with its word and presence bit; a count with its word, without or with a presence bit; a
 // UUID; a timestamp and a time, kept or dropped; an extra; nothing.

@@ -7,7 +7,7 @@ use native.Mathlib.Omega.{arith}
 use lib.ListN.{length, get_or, take, drop, length-append, length-drop, set}
 use lib.Seq.{length-take-le}
 use borrow.Rule.Slice.PartMut.{put_mid}
-use Rattle.area.proofs.Parts.{rest_part, rest_back}
+use Rattle.read_content.proofs.of_area.Parts.{rest_part, rest_back}
 use Rattle.read_content.specs.Content.{killed}
 use Rattle.read_content.specs.inside.Holds.{in_record, kill_words}
 use Rattle.read_content.specs.declared.List.{List as CodedList}

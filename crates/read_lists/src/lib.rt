@@ -3,12 +3,14 @@
 
 ghost use Rattle.std.specs.Prelude.{◌≡◌, ◌≤◌, ◌+◌, ◌-◌, ◌*◌, length};
 ghost use Rattle.read_content.specs.Content.{killed};
-ghost use Rattle.read_state.specs.inside.Coded.{level_of};
+ghost use Rattle.read_content.specs.of_read_state.inside.Coded.{level_of};
 ghost use Rattle.read_content.specs.inside.Holds.{kill_words, list_of, with_list};
 
+pub use read_content as the_read_content;
+use read_content::the_read_state::Level;
+use read_content::the_tree_record::{field, kind, put_field, word};
+pub use read_content::{the_read_attribute, the_read_attributes, the_read_state, the_tree_record};
 use read_content::{Content, List};
-use read_state::Level;
-use tree_record::{field, kind, put_field, word};
 
 // The record at the front of the part is marked dead, if it isn't.
 fn kill_record(words: &mut [u32])

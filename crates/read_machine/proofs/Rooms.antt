@@ -4,14 +4,14 @@ use mathlib.Core.Path.{◌≡◌}
 use mathlib.Core.List.{List, [], ◌∷◌}
 use mathlib.Core.Bool.{Bool, true}
 use mathlib.Core.Logic.{◌⊎◌}
-use Rattle.table.specs.Event.{Attribute, PieceKind, Event, Tag, Piece, Eof, Fault}
-use Rattle.trim.specs.Trim.{trimmed}
-use Rattle.read_element.specs.Outcome.{Place, Rooms, unlimited}
-use Rattle.read_element.proofs.Rooms.{Short, Agrees, same, agreed, suffices, bind, choosing, Wider, wider-unlimited, text-fits, scratch-fits, element-agrees}
-use Rattle.read_state.specs.Control.{Level, Output, Mode, Control, gathers}
-use Rattle.read_rules.specs.Rules.{plan_at, plan_eof, plan_fault}
-use Rattle.read_state.specs.Control.{Act, pass, open_report, open_suite, open_case, open_status, close_suite, close_case, close_status, open_text, close_text, open_list, read_property, stop, missing, broken}
-use Rattle.read_place.specs.Marks.{Marks}
+use Rattle.table_events.specs.of_table.Event.{Attribute, PieceKind, Event, Tag, Piece, Eof, Fault}
+use Rattle.read_content.specs.of_trim.Trim.{trimmed}
+use Rattle.read_path.specs.of_read_element.Outcome.{Place, Rooms, unlimited}
+use Rattle.read_path.proofs.of_read_element.Rooms.{Short, Agrees, same, agreed, suffices, bind, choosing, Wider, wider-unlimited, text-fits, scratch-fits, element-agrees}
+use Rattle.read_path.specs.of_read_state.Control.{Level, Output, Mode, Control, gathers}
+use Rattle.read_path.specs.of_read_rules.Rules.{plan_at, plan_eof, plan_fault}
+use Rattle.read_path.specs.of_read_state.Control.{Act, pass, open_report, open_suite, open_case, open_status, close_suite, close_case, close_status, open_text, close_text, open_list, read_property, stop, missing, broken}
+use Rattle.read_path.specs.of_read_place.Marks.{Marks}
 use Rattle.read_path.specs.Paths.{act_place}
 use Rattle.read_content.specs.Content.{Content, kill_all, property_kind, record_of_it, word_of, bit_of, takes, gather, adding, with_records, keeping, is_empty, describing, outputting, perform}
 use Rattle.read_machine.specs.Machine.{Machine, act, step, run}

@@ -6,26 +6,26 @@ use mathlib.Core.Bool.{Bool, true, false, cond, ◌&&◌}
 use mathlib.Core.Logic.{inl, inr}
 use native.Mathlib.Omega.{arith}
 use lib.Dec.{eqb, lit≤}
-use Rattle.utf8.specs.Utf8.{utf8}
-use Rattle.utf8.specs.Characters.{encode}
-use Rattle.trim.specs.Trim.{trimmed}
-use Rattle.names.specs.Tags.{tag_of, testsuites, testsuite, testcase, properties, property, stack_trace, system-out, system-err}
-use Rattle.reference.specs.Reference.{refs_ok, decoded, is_numeric, is_named, char_of, unnamed}
-use Rattle.refusal.specs.Refusal.{number, OfRules, Refused, refused}
-use Rattle.table.specs.Event.{Attribute, TagKind, Start, Empty, End, PieceKind, Text, CData, Ref, Other, Indent, Event, Tag, Piece, Eof, Fault}
-use Rattle.read_element.specs.Outcome.{Place, there, unlimited}
-use Rattle.read_element.proofs.Rooms.{IsShort, Short, short-refusal}
-use Rattle.read_element.proofs.RoomsNumbers.{ByRules, fine, low, low-number, low-bind, low-need, low-cond, low-room, low-leaf, low-element}
-use Rattle.read_state.specs.Control.{Level, top, suite, case, status, Output, Mode, at, gathering, listing, skipping, finished, Control}
-use Rattle.read_state.specs.Control.{Act, pass, open_report, open_suite, open_case, open_status, close_suite, close_case, close_status, open_text, close_text, open_list, read_property, stop, missing, broken}
-use Rattle.read_state.specs.Control.{is_status, or_skip, gathers}
-use Rattle.read_rules.specs.Rules.{outputs, emptied, at_top, at_suite, at_case, child, at_status, tag_of_output, in_text, in_list_of, in_skip, plan_at, plan_eof, plan_fault}
-use Rattle.read_place.specs.Marks.{Marks}
+use Rattle.text_pieces.specs.of_utf8.Utf8.{utf8}
+use Rattle.text_pieces.specs.of_utf8.Characters.{encode}
+use Rattle.read_content.specs.of_trim.Trim.{trimmed}
+use Rattle.table_events.specs.of_names.Tags.{tag_of, testsuites, testsuite, testcase, properties, property, stack_trace, system-out, system-err}
+use Rattle.text_pieces.specs.of_reference.Reference.{refs_ok, decoded, is_numeric, is_named, char_of, unnamed}
+use Rattle.text_pieces.specs.of_refusal.Refusal.{number, OfRules, Refused, refused}
+use Rattle.table_events.specs.of_table.Event.{Attribute, TagKind, Start, Empty, End, PieceKind, Text, CData, Ref, Other, Indent, Event, Tag, Piece, Eof, Fault}
+use Rattle.read_path.specs.of_read_element.Outcome.{Place, there, unlimited}
+use Rattle.read_path.proofs.of_read_element.Rooms.{IsShort, Short, short-refusal}
+use Rattle.read_path.proofs.of_read_element.RoomsNumbers.{ByRules, fine, low, low-number, low-bind, low-need, low-cond, low-room, low-leaf, low-element}
+use Rattle.read_path.specs.of_read_state.Control.{Level, top, suite, case, status, Output, Mode, at, gathering, listing, skipping, finished, Control}
+use Rattle.read_path.specs.of_read_state.Control.{Act, pass, open_report, open_suite, open_case, open_status, close_suite, close_case, close_status, open_text, close_text, open_list, read_property, stop, missing, broken}
+use Rattle.read_path.specs.of_read_state.Control.{is_status, or_skip, gathers}
+use Rattle.read_path.specs.of_read_rules.Rules.{outputs, emptied, at_top, at_suite, at_case, child, at_status, tag_of_output, in_text, in_list_of, in_skip, plan_at, plan_eof, plan_fault}
+use Rattle.read_path.specs.of_read_place.Marks.{Marks}
 use Rattle.read_path.specs.Paths.{act_place}
 use Rattle.read_content.specs.Content.{Content, kill_all, property_kind, piece_of, gather, adding, with_records, keeping, is_empty, describing, outputting, perform}
 use Rattle.read_machine.specs.Machine.{Machine, act, step, run}
-use Rattle.refusal.specs.declared.Cause.TheVariants as cause
-use Rattle.refusal.specs.declared.Cause.{Cause}
+use Rattle.text_pieces.specs.of_refusal.declared.Cause.TheVariants as cause
+use Rattle.text_pieces.specs.of_refusal.declared.Cause.{Cause}
 
 -- ---- plans
 -- the number that an action refuses with for itself

@@ -5,21 +5,21 @@ use mathlib.Core.List.{List, []}
 use mathlib.Core.Option.{Option}
 use mathlib.Core.Logic.{◌⊎◌, inl, inr}
 use native.Mathlib.Omega.{arith}
-use Rattle.refusal.specs.Refusal.{number, OfRules, Refused, Outcome, accepted, refused}
-use Rattle.table.specs.Event.{Event, resolve}
-use Rattle.table.specs.Table.{check_of, checked_answer, table_of}
-use Rattle.table.specs.declared.Checked.{Checked}
-use Rattle.table.specs.declared.Checked.TheVariants.{Good, Bad}
-use Rattle.tree_report.specs.Report.{Report}
-use Rattle.tree_report.specs.ReportOf.{report_from, only}
-use Rattle.tree_report.specs.Fields.{live}
-use Rattle.read_element.specs.Outcome.{◌>>=◌, rooms_of, unlimited}
-use Rattle.read_element.proofs.Rooms.{IsShort, Short, lacking, short-refusal, Agrees, accepts, refuses-so, refuses-too, suffices, wider-unlimited, wider-areas}
+use Rattle.text_pieces.specs.of_refusal.Refusal.{number, OfRules, Refused, Outcome, accepted, refused}
+use Rattle.table_events.specs.of_table.Event.{Event, resolve}
+use Rattle.table_events.specs.of_table.Table.{check_of, checked_answer, table_of}
+use Rattle.table_events.specs.of_table.declared.Checked.{Checked}
+use Rattle.table_events.specs.of_table.declared.Checked.TheVariants.{Good, Bad}
+use Rattle.read_path.specs.of_tree_report.Report.{Report}
+use Rattle.read_path.specs.of_tree_report.ReportOf.{report_from, only}
+use Rattle.read_path.specs.of_tree_report.Fields.{live}
+use Rattle.read_path.specs.of_read_element.Outcome.{◌>>=◌, rooms_of, unlimited}
+use Rattle.read_path.proofs.of_read_element.Rooms.{IsShort, Short, lacking, short-refusal, Agrees, accepts, refuses-so, refuses-too, suffices, wider-unlimited, wider-areas}
 use Rattle.read_machine.specs.Machine.{Machine, run, begin}
 use Rattle.read_machine.specs.Reading.{reading, read_as, deserialize}
 use Rattle.read_machine.proofs.Rooms.{run-agrees, rooms-suffice}
 use Rattle.read_machine.proofs.RoomsNumbers.{run-number}
-use Rattle.refusal.specs.declared.Cause.TheVariants as cause
+use Rattle.text_pieces.specs.of_refusal.declared.Cause.TheVariants as cause
 
 -- the report in what reading left
 abbrev pub report_in : Machine → Option Report

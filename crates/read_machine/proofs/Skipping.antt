@@ -5,20 +5,20 @@ use mathlib.Core.List.{List, [], ◌∷◌, ◌++◌}
 use mathlib.Core.Bool.{Bool, true, false, cond}
 use native.Mathlib.Omega.{arith}
 use lib.ListN.{length}
-use Rattle.names.specs.Names.{same_bytes}
-use Rattle.refusal.specs.Refusal.{nowhere, Outcome, accepted, refused}
-use Rattle.table.specs.Event.{Attribute, TagKind, Start, Empty, End, Event, Tag, Piece, Eof, Fault, event_at, resolve_from}
+use Rattle.table_events.specs.of_names.Names.{same_bytes}
+use Rattle.text_pieces.specs.of_refusal.Refusal.{nowhere, Outcome, accepted, refused}
+use Rattle.table_events.specs.of_table.Event.{Attribute, TagKind, Start, Empty, End, Event, Tag, Piece, Eof, Fault, event_at, resolve_from}
 use Rattle.table_events.specs.Skip.{Skip, next, broken_at, up_from, skip_of}
 use Rattle.table_events.proofs.Turns.{Far, skip-far}
-use Rattle.read_element.specs.Outcome.{◌>>=◌, element, Rooms}
-use Rattle.read_state.specs.Control.{Level, top, suite, case, status, Mode, at, gathering, listing, skipping, finished, control, Act, pass, read_property, stop, broken, gathers, turn}
-use Rattle.read_rules.specs.Rules.{shallower, in_skip, plan_at, plan_eof, plan_fault}
-use Rattle.read_place.specs.Marks.{marks, marks_after, onward}
+use Rattle.read_path.specs.of_read_element.Outcome.{◌>>=◌, element, Rooms}
+use Rattle.read_path.specs.of_read_state.Control.{Level, top, suite, case, status, Mode, at, gathering, listing, skipping, finished, control, Act, pass, read_property, stop, broken, gathers, turn}
+use Rattle.read_path.specs.of_read_rules.Rules.{shallower, in_skip, plan_at, plan_eof, plan_fault}
+use Rattle.read_path.specs.of_read_place.Marks.{marks, marks_after, onward}
 use Rattle.read_path.specs.Paths.{level_path, output_element, mode_path, act_place}
 use Rattle.read_content.specs.Content.{Content, property_kind, adding, perform}
 use Rattle.read_machine.specs.Machine.{Machine, act, step, run}
-use Rattle.refusal.specs.declared.Cause.TheVariants as cause
-use Rattle.refusal.specs.declared.Cause.{Cause}
+use Rattle.text_pieces.specs.of_refusal.declared.Cause.TheVariants as cause
+use Rattle.text_pieces.specs.of_refusal.declared.Cause.{Cause}
 
 -- the machine in another mode, at another event
 abbrev pub moved : Mode → ℕ → Machine → Machine

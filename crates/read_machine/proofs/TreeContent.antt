@@ -6,35 +6,35 @@ use mathlib.Core.Path.{◌≡◌, refl, sym, ap, subst, ◌∙◌}
 use native.Mathlib.Omega.{arith}
 use lib.Dec.{leb, lit≤}
 use lib.ListN.{length}
-use Rattle.area.specs.Answer.{gives, refuses}
-use Rattle.utf8.specs.Characters.{encode}
-use Rattle.utf8.specs.Utf8.{utf8}
-use Rattle.utf8.proofs.Rules.{utf8_append}
-use Rattle.trim.specs.Trim.{trimmed}
-use Rattle.trim.proofs.Ends.{utf8-trimmed}
-use Rattle.text_filter.proofs.Filtering.{utf8-filtered, unfiltered-filtered}
+use Rattle.text_pieces.specs.of_area.Answer.{gives, refuses}
+use Rattle.text_pieces.specs.of_utf8.Characters.{encode}
+use Rattle.text_pieces.specs.of_utf8.Utf8.{utf8}
+use Rattle.text_pieces.proofs.of_utf8.Rules.{utf8_append}
+use Rattle.read_content.specs.of_trim.Trim.{trimmed}
+use Rattle.read_content.proofs.of_trim.Ends.{utf8-trimmed}
+use Rattle.text_pieces.proofs.of_text_filter.Filtering.{utf8-filtered, unfiltered-filtered}
 use Rattle.text_pieces.proofs.Gathering.{utf8-reference}
-use Rattle.reference.specs.Reference.{refs_ok, decoded, is_named, char_of, unnamed}
-use Rattle.reference.proofs.Keeping.{utf8-decoded}
-use Rattle.table.specs.Event.{Attribute, PieceKind, Text, CData, Ref, Other, Indent}
-use Rattle.tree_report.proofs.EncodeLists.{Each, done, more, each_append, each_on}
-use Rattle.read_element.specs.Outcome.{Place, there, Rooms, fits}
-use Rattle.tree_put.specs.Put.{put_text}
-use Rattle.read_element.specs.Attributes.{changed, extra_kind}
-use Rattle.read_element.proofs.TreeOutcome.{Holds, accept, bind, needed, answered, either}
-use Rattle.read_element.proofs.TreeSheet.{name, pair, Sorts, Sheet, sheet-kind, good_at, Grows, good_new, put-out, put-err, put-third, put-fourth}
-use Rattle.read_element.proofs.TreeGood.{pair_sorts, suite_extra, case_extra}
-use Rattle.read_element.proofs.TreeRoles.{Wide, suite-wide, case-wide, Class, class_final}
-use Rattle.read_element.proofs.TreeElement.{Stored, grows-by, stores, Few, no-extras, extras-of, element-read, length-changed}
-use Rattle.read_state.specs.Control.{Level, top, suite, case, status, Output, Mode, at, gathering, listing, skipping, finished}
-use Rattle.read_place.specs.Marks.{Marks}
+use Rattle.text_pieces.specs.of_reference.Reference.{refs_ok, decoded, is_named, char_of, unnamed}
+use Rattle.text_pieces.proofs.of_reference.Keeping.{utf8-decoded}
+use Rattle.table_events.specs.of_table.Event.{Attribute, PieceKind, Text, CData, Ref, Other, Indent}
+use Rattle.read_path.proofs.of_tree_report.EncodeLists.{Each, done, more, each_append, each_on}
+use Rattle.read_path.specs.of_read_element.Outcome.{Place, there, Rooms, fits}
+use Rattle.read_path.specs.of_tree_put.Put.{put_text}
+use Rattle.read_path.specs.of_read_element.Attributes.{changed, extra_kind}
+use Rattle.read_path.proofs.of_read_element.TreeOutcome.{Holds, accept, bind, needed, answered, either}
+use Rattle.read_path.proofs.of_read_element.TreeSheet.{name, pair, Sorts, Sheet, sheet-kind, good_at, Grows, good_new, put-out, put-err, put-third, put-fourth}
+use Rattle.read_path.proofs.of_read_element.TreeGood.{pair_sorts, suite_extra, case_extra}
+use Rattle.read_path.proofs.of_read_element.TreeRoles.{Wide, suite-wide, case-wide, Class, class_final}
+use Rattle.read_path.proofs.of_read_element.TreeElement.{Stored, grows-by, stores, Few, no-extras, extras-of, element-read, length-changed}
+use Rattle.read_path.specs.of_read_state.Control.{Level, top, suite, case, status, Output, Mode, at, gathering, listing, skipping, finished}
+use Rattle.read_path.specs.of_read_place.Marks.{Marks}
 use Rattle.read_content.specs.Content.{Content, kill_all, kill_kind, kept, piece_of, with_texts, join_piece, own, gather, adding, with_records, cleaned, keeping, is_empty, describing, outputting}
 use Rattle.read_machine.proofs.TreeOrder.{kinds, kinds-append, Some, There}
 use Rattle.read_machine.proofs.TreeKept.{Kept, alive, kept-some, kept_more, all-killed, length-all, kind-killed-kept, length-kind}
 use Rattle.read_machine.proofs.TreeKept.{sorts_of, kept-changed, changed-same, Status, status-bounds, status-third, status-outputs}
 use Rattle.read_machine.proofs.TreePlans.{Gathered, suite-out, suite-err, case-out, case-err, status-trace, status-out, status-err}
-use Rattle.refusal.specs.declared.Cause.TheVariants as cause
-use Rattle.refusal.specs.declared.Cause.{Cause}
+use Rattle.text_pieces.specs.of_refusal.declared.Cause.TheVariants as cause
+use Rattle.text_pieces.specs.of_refusal.declared.Cause.{Cause}
 
 pub record Sound (rooms : Rooms) (c : Content) : Type 0 where
   pub records : Each (Kept c.texts) c.records

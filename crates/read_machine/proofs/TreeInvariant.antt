@@ -6,16 +6,16 @@ use mathlib.Core.Path.{◌≡◌, refl, sym, ap, subst, ◌∙◌}
 use native.Mathlib.Omega.{arith}
 use lib.Dec.{lit≤}
 use lib.ListN.{length}
-use Rattle.table.specs.Event.{Attribute, Event, Tag, Piece, Eof, Fault}
-use Rattle.tree_status.specs.declared.Tally.{Tally}
-use Rattle.tree_status.specs.Status.{no_status, tallied, ruled}
-use Rattle.tree_report.proofs.EncodeLists.{Each, done, more}
-use Rattle.read_element.specs.Outcome.{◌>>=◌, Rooms}
-use Rattle.read_element.proofs.TreeOutcome.{Holds, accept, refuse, bind, needed, either}
-use Rattle.read_element.proofs.TreeRoles
-use Rattle.read_state.specs.Control.{Level, top, suite, case, status, Output, Mode, at, gathering, listing, skipping, finished, control, Act, gathers, turn}
-use Rattle.read_rules.specs.Rules.{plan_eof}
-use Rattle.read_place.specs.Marks.{Marks, marks_after}
+use Rattle.table_events.specs.of_table.Event.{Attribute, Event, Tag, Piece, Eof, Fault}
+use Rattle.read_path.specs.of_tree_status.declared.Tally.{Tally}
+use Rattle.read_path.specs.of_tree_status.Status.{no_status, tallied, ruled}
+use Rattle.read_path.proofs.of_tree_report.EncodeLists.{Each, done, more}
+use Rattle.read_path.specs.of_read_element.Outcome.{◌>>=◌, Rooms}
+use Rattle.read_path.proofs.of_read_element.TreeOutcome.{Holds, accept, refuse, bind, needed, either}
+use Rattle.read_path.proofs.of_read_element.TreeRoles
+use Rattle.read_path.specs.of_read_state.Control.{Level, top, suite, case, status, Output, Mode, at, gathering, listing, skipping, finished, control, Act, gathers, turn}
+use Rattle.read_path.specs.of_read_rules.Rules.{plan_eof}
+use Rattle.read_path.specs.of_read_place.Marks.{Marks, marks_after}
 use Rattle.read_content.specs.Content.{Content, perform}
 use Rattle.read_machine.specs.Machine.{Machine, act, step, run}
 use Rattle.read_machine.proofs.TreeOrder.{kinds, kinds-length, kinds-killed, killed-all, There, there-new}
@@ -26,7 +26,7 @@ use Rattle.read_machine.proofs.TreePlans.{Gathered, suite-out, suite-err, case-o
 use Rattle.read_machine.proofs.TreePlans.{skips_on, returns, listed, reports, suites, stops, misses, breaks, cases, suite-ends, suite-list, statuses}
 use Rattle.read_machine.proofs.TreePlans.{case-ends, case-list, status-ends, texts, texts-empty, text-ends, properties-read, tag-plan, eof-plan, fault-plan}
 use Rattle.read_machine.proofs.TreeContent.{Sound, sound-some, sound-all, sound-kind, More, adds, Same, describes, Holder, puts-out, Fair, gathers-piece}
-use Rattle.refusal.specs.declared.Cause.TheVariants as cause
+use Rattle.text_pieces.specs.of_refusal.declared.Cause.TheVariants as cause
 
 -- ---- by the level that is open; s, c and e are the records of the open suite, case and status element, κ the last one's kind
 abbrev pub Standing : Level → Bool → Tally → (s c e κ : ℕ) → List ℕ → Type 0

@@ -7,17 +7,17 @@ use native.Mathlib.Omega.{arith}
 use borrow.Author.Tests.{ltb-true, lt-ltb, le-ltb, le-leb, leb-true, ne_eqb, eqb-true, eqb-false}
 use lib.Dec.{leb, ltb, eqb, lit≤}
 use lib.ListN.{length, get_or, set, length-set}
-use Rattle.tree_report.specs.Fields.{kind_of, live, has_bit}
-use Rattle.tree_report.specs.Layout.{good_record, all_good}
-use Rattle.tree_report.proofs.EncodeLists.{both, and_left, and_right, Each, done, more}
-use Rattle.tree_report.proofs.EncodeAreas.{Whole}
-use Rattle.read_element.specs.Attributes.{changed}
-use Rattle.read_element.proofs.TreeSheet.{text, name, outputs, pair, Grows, Sorts, Sheet, sheet-kind, sheet-size, sheet-plain, sheet-more}
-use Rattle.read_element.proofs.TreeGood.{report_sorts, suite_sorts, case_sorts, pair_sorts, main_sorts, run_sorts, Final, report, suite, case, suite_property, case_property}
-use Rattle.read_element.proofs.TreeGood.{failure, error, skipped, flaky_failure, flaky_error, rerun_failure, rerun_error, suite_extra, case_extra, final_bounds, sheet-good}
-use Rattle.read_element.proofs.TreeRoles.{Class}
-use Rattle.read_element.proofs.TreeRoles
-use Rattle.read_state.specs.Control.{is_status}
+use Rattle.read_path.specs.of_tree_report.Fields.{kind_of, live, has_bit}
+use Rattle.read_path.specs.of_tree_report.Layout.{good_record, all_good}
+use Rattle.read_path.proofs.of_tree_report.EncodeLists.{both, and_left, and_right, Each, done, more}
+use Rattle.read_path.proofs.of_tree_report.EncodeAreas.{Whole}
+use Rattle.read_path.specs.of_read_element.Attributes.{changed}
+use Rattle.read_path.proofs.of_read_element.TreeSheet.{text, name, outputs, pair, Grows, Sorts, Sheet, sheet-kind, sheet-size, sheet-plain, sheet-more}
+use Rattle.read_path.proofs.of_read_element.TreeGood.{report_sorts, suite_sorts, case_sorts, pair_sorts, main_sorts, run_sorts, Final, report, suite, case, suite_property, case_property}
+use Rattle.read_path.proofs.of_read_element.TreeGood.{failure, error, skipped, flaky_failure, flaky_error, rerun_failure, rerun_error, suite_extra, case_extra, final_bounds, sheet-good}
+use Rattle.read_path.proofs.of_read_element.TreeRoles.{Class}
+use Rattle.read_path.proofs.of_read_element.TreeRoles
+use Rattle.read_path.specs.of_read_state.Control.{is_status}
 use Rattle.read_content.specs.Content.{killed, kill_all, kill_kind}
 use Rattle.read_machine.proofs.TreeOrder.{kinds, dead, Some, kind-killed}
 

@@ -7,10 +7,10 @@ use native.Mathlib.Omega.{arith}
 use borrow.Author.Tests.{lt-ltb, le-leb, eq-eqb, ne_eqb, eqb-true}
 use lib.Dec.{ltb, eqb, lit≤}
 use lib.ListN.{length}
-use Rattle.tree_report.specs.Layout.{Open, nothing, over, may_end, may_follow, following, opened}
-use Rattle.tree_status.specs.declared.Tally.{Tally}
-use Rattle.tree_status.specs.Status.{no_status, tallied, ruled}
-use Rattle.tree_report.proofs.EncodeLists.{both, Each, done, more, each_on}
+use Rattle.read_path.specs.of_tree_report.Layout.{Open, nothing, over, may_end, may_follow, following, opened}
+use Rattle.read_path.specs.of_tree_status.declared.Tally.{Tally}
+use Rattle.read_path.specs.of_tree_status.Status.{no_status, tallied, ruled}
+use Rattle.read_path.proofs.of_tree_report.EncodeLists.{both, Each, done, more, each_on}
 use Rattle.read_machine.proofs.TreeOrder.{kill_from, length-kill, kill-append, kill-end, kill-free, kill-twice, There, there-append}
 use Rattle.read_machine.proofs.TreeOrder.{there-new, there-kept, only-kind, Path, end, past, next, path-append, path-dead}
 

@@ -7,9 +7,9 @@ use native.Mathlib.Omega.{arith}
 use borrow.Author.Tests.{ltb-false, le-ltb, le-leb, ne_eqb}
 use lib.Dec.{ltb, eqb}
 use lib.ListN.{length, get_or, length-append, get_or-append}
-use Rattle.tree_report.specs.Fields.{kind_of, live, has_bit}
-use Rattle.tree_report.specs.Layout.{Open, may_end, may_follow, following, good_order}
-use Rattle.tree_report.proofs.EncodeLists.{both, Each, done, more}
+use Rattle.read_path.specs.of_tree_report.Fields.{kind_of, live, has_bit}
+use Rattle.read_path.specs.of_tree_report.Layout.{Open, may_end, may_follow, following, good_order}
+use Rattle.read_path.proofs.of_tree_report.EncodeLists.{both, Each, done, more}
 use Rattle.read_content.specs.Content.{killed, kill_all, kill_kind}
 
 -- ---- kinds

@@ -4,15 +4,15 @@ use mathlib.Core.Bool.{Bool, true, false, cond, ◌&&◌}
 use mathlib.Core.List.{List}
 use mathlib.Core.Path.{◌≡◌, refl}
 use lib.Dec.{eqb}
-use Rattle.names.specs.Names.{same_bytes}
-use Rattle.names.specs.Tags.{tag_of, testsuites, testsuite, testcase, properties, property, stack_trace, system-out, system-err}
-use Rattle.table.specs.Event.{TagKind, Start, Empty, End}
-use Rattle.tree_report.proofs.EncodeLists.{and_right}
-use Rattle.read_state.specs.Control.{Level, top, suite, case, status, Output, trace, out, err, Mode, at, gathering, listing, skipping, finished}
-use Rattle.read_state.specs.Control.{Act, pass, open_report, open_suite, open_case, open_status, close_suite, close_case, close_status, open_text, close_text, open_list, read_property, stop, missing, broken}
-use Rattle.read_state.specs.Control.{is_status, or_skip}
-use Rattle.read_rules.specs.Rules.{outputs, emptied, at_top, at_suite, at_case, child, at_status, tag_of_output, in_text, in_list_of, shallower, in_skip, plan_at, plan_eof, plan_fault}
-use Rattle.refusal.specs.declared.Cause.{Cause}
+use Rattle.table_events.specs.of_names.Names.{same_bytes}
+use Rattle.table_events.specs.of_names.Tags.{tag_of, testsuites, testsuite, testcase, properties, property, stack_trace, system-out, system-err}
+use Rattle.table_events.specs.of_table.Event.{TagKind, Start, Empty, End}
+use Rattle.read_path.proofs.of_tree_report.EncodeLists.{and_right}
+use Rattle.read_path.specs.of_read_state.Control.{Level, top, suite, case, status, Output, trace, out, err, Mode, at, gathering, listing, skipping, finished}
+use Rattle.read_path.specs.of_read_state.Control.{Act, pass, open_report, open_suite, open_case, open_status, close_suite, close_case, close_status, open_text, close_text, open_list, read_property, stop, missing, broken}
+use Rattle.read_path.specs.of_read_state.Control.{is_status, or_skip}
+use Rattle.read_path.specs.of_read_rules.Rules.{outputs, emptied, at_top, at_suite, at_case, child, at_status, tag_of_output, in_text, in_list_of, shallower, in_skip, plan_at, plan_eof, plan_fault}
+use Rattle.text_pieces.specs.of_refusal.declared.Cause.{Cause}
 
 -- the texts that an element gathers
 pub data Gathered : Level → Output → Type 0 where

@@ -8,22 +8,22 @@ use native.Mathlib.Omega.{arith}
 use borrow.Author.Tests.{leb-true, le-leb}
 use lib.Dec.{eqb}
 use lib.ListN.{length, drop}
-use Rattle.area.specs.Area.{zeros, laid}
-use Rattle.area.proofs.Laying.{laid-zeros}
-use Rattle.utf8.specs.Characters.{joined}
-use Rattle.refusal.specs.Refusal.{Outcome, accepted, refused}
-use Rattle.table.specs.Event.{Attribute, Start, Empty, End, Text, CData, Ref, Other, Indent, Event, Tag, Piece, Eof, Fault, kind_at, bytes_at, attributes_from, event_of, event_at, resolve_from, resolve}
-use Rattle.table.specs.Table.{word, count_of, table_of}
+use Rattle.text_pieces.specs.of_area.Area.{zeros, laid}
+use Rattle.text_pieces.proofs.of_area.Laying.{laid-zeros}
+use Rattle.text_pieces.specs.of_utf8.Characters.{joined}
+use Rattle.text_pieces.specs.of_refusal.Refusal.{Outcome, accepted, refused}
+use Rattle.table_events.specs.of_table.Event.{Attribute, Start, Empty, End, Text, CData, Ref, Other, Indent, Event, Tag, Piece, Eof, Fault, kind_at, bytes_at, attributes_from, event_of, event_at, resolve_from, resolve}
+use Rattle.table_events.specs.of_table.Table.{word, count_of, table_of}
 use Rattle.text_pieces.proofs.Gathering.{utf8-newline}
-use Rattle.tree_report.specs.Fields.{live}
-use Rattle.tree_report.specs.Layout.{Open, nothing, used_words, used_text, all_zero, filled, good_text, all_good, good_order, records_of, layout}
-use Rattle.tree_report.specs.Report.{Report}
-use Rattle.tree_report.specs.ReportOf.{only, report_from, report_of}
-use Rattle.tree_report.proofs.EncodeLists.{both, Each, done, more, each_on}
-use Rattle.tree_report.proofs.EncodeText.{take-area, filled-texts, good-texts}
-use Rattle.tree_report.proofs.EncodeAreas.{Whole, records-of, zeros-behind}
-use Rattle.read_element.specs.Outcome.{◌>>=◌, rooms_of, fits}
-use Rattle.read_element.proofs.TreeOutcome.{Holds, accept, refuse, bind, held}
+use Rattle.read_path.specs.of_tree_report.Fields.{live}
+use Rattle.read_path.specs.of_tree_report.Layout.{Open, nothing, used_words, used_text, all_zero, filled, good_text, all_good, good_order, records_of, layout}
+use Rattle.read_path.specs.of_tree_report.Report.{Report}
+use Rattle.read_path.specs.of_tree_report.ReportOf.{only, report_from, report_of}
+use Rattle.read_path.proofs.of_tree_report.EncodeLists.{both, Each, done, more, each_on}
+use Rattle.read_path.proofs.of_tree_report.EncodeText.{take-area, filled-texts, good-texts}
+use Rattle.read_path.proofs.of_tree_report.EncodeAreas.{Whole, records-of, zeros-behind}
+use Rattle.read_path.specs.of_read_element.Outcome.{◌>>=◌, rooms_of, fits}
+use Rattle.read_path.proofs.of_read_element.TreeOutcome.{Holds, accept, refuse, bind, held}
 use Rattle.read_machine.specs.Machine.{Machine, run, begin}
 use Rattle.read_machine.specs.Reading.{read_as, reading}
 use Rattle.read_machine.proofs.TreeReport.{report-same}

@@ -8,17 +8,17 @@ use native.Mathlib.Omega.{arith}
 use borrow.Author.Tests.{leb-true, le-leb, eqb-true, ltb-true}
 use lib.Dec.{leb, eqb, lit≤}
 use lib.ListN.{length, get_or, take, drop}
-use Rattle.utf8.specs.Characters.{boundary}
-use Rattle.tree_report.specs.inside.Cells.{Cell, is_given, first_word, second_word, flags_of}
-use Rattle.tree_report.specs.Fields.{kind_of, live, is_suite, is_case, is_main, is_run, has_bit, given, text_at, first, system_out}
-use Rattle.tree_report.specs.Fields.{system_err, second, description, stack_trace, uuid, timestamp, time, counts, assertions}
-use Rattle.tree_report.specs.Report.{failure, error, success, non_success, skipped}
-use Rattle.tree_report.specs.ReportOf.{only, until, Branch, branches, pair_of, pairs_of_it, reason_of, run_of, kind_of_runs, status_of, case_of, suite_of, report_from}
-use Rattle.tree_report.proofs.EncodeLists.{both, and_left, and_right, Each, done, more, each_on}
-use Rattle.tree_report.proofs.EncodeCells.{bit-flag}
-use Rattle.read_element.proofs.TreeSheet.{Sort, text, name, Fits, textless, placed, named, Middle, outputs, pair, InMiddle, two, full-value, good_at, Sorts, flags, rest, Sheet, sheet}
-use Rattle.read_element.proofs.TreeGood.{Final}
-use Rattle.read_element.proofs.TreeGood
+use Rattle.text_pieces.specs.of_utf8.Characters.{boundary}
+use Rattle.read_path.specs.of_tree_report.inside.Cells.{Cell, is_given, first_word, second_word, flags_of}
+use Rattle.read_path.specs.of_tree_report.Fields.{kind_of, live, is_suite, is_case, is_main, is_run, has_bit, given, text_at, first, system_out}
+use Rattle.read_path.specs.of_tree_report.Fields.{system_err, second, description, stack_trace, uuid, timestamp, time, counts, assertions}
+use Rattle.read_path.specs.of_tree_report.Report.{failure, error, success, non_success, skipped}
+use Rattle.read_path.specs.of_tree_report.ReportOf.{only, until, Branch, branches, pair_of, pairs_of_it, reason_of, run_of, kind_of_runs, status_of, case_of, suite_of, report_from}
+use Rattle.read_path.proofs.of_tree_report.EncodeLists.{both, and_left, and_right, Each, done, more, each_on}
+use Rattle.read_path.proofs.of_tree_report.EncodeCells.{bit-flag}
+use Rattle.read_path.proofs.of_read_element.TreeSheet.{Sort, text, name, Fits, textless, placed, named, Middle, outputs, pair, InMiddle, two, full-value, good_at, Sorts, flags, rest, Sheet, sheet}
+use Rattle.read_path.proofs.of_read_element.TreeGood.{Final}
+use Rattle.read_path.proofs.of_read_element.TreeGood
 use Rattle.read_machine.proofs.TreeKept.{Kept, alive, gone, sorts_of, kept_at, Status, status-bounds, status-of, status-first, status-second, status-third, status-outputs}
 
 -- ---- a text that ends within the texts

@@ -1,12 +1,12 @@
 -- Reading as a machine over resolved events. Definitions only.
 use Rattle.std.specs.Prelude.{ℕ, List, [], ◌∷◌, false, cond, length}
-use Rattle.refusal.specs.Refusal.{nowhere, Outcome, accepted}
-use Rattle.table.specs.Event.{Attribute, Event, Tag, Piece, Eof, Fault}
-use Rattle.tree_status.specs.Status.{no_status}
-use Rattle.read_element.specs.Outcome.{◌>>=◌, Rooms}
-use Rattle.read_state.specs.Control.{top, at, Control, control, Act, gathers, turn}
-use Rattle.read_rules.specs.Rules.{plan_at, plan_eof, plan_fault}
-use Rattle.read_place.specs.Marks.{Marks, marks, marks_after, onward}
+use Rattle.text_pieces.specs.of_refusal.Refusal.{nowhere, Outcome, accepted}
+use Rattle.table_events.specs.of_table.Event.{Attribute, Event, Tag, Piece, Eof, Fault}
+use Rattle.read_path.specs.of_tree_status.Status.{no_status}
+use Rattle.read_path.specs.of_read_element.Outcome.{◌>>=◌, Rooms}
+use Rattle.read_path.specs.of_read_state.Control.{top, at, Control, control, Act, gathers, turn}
+use Rattle.read_path.specs.of_read_rules.Rules.{plan_at, plan_eof, plan_fault}
+use Rattle.read_path.specs.of_read_place.Marks.{Marks, marks, marks_after, onward}
 use Rattle.read_path.specs.Paths.{mode_path, act_place}
 use Rattle.read_content.specs.Content.{Content, gather, perform}
 

@@ -1,15 +1,15 @@
 -- What reading a table gives: answer, refusal and the areas afterwards. Definitions only.
 use Rattle.std.specs.Prelude.{ℕ, List}
 use Rattle.std.proofs.Math.Option.{Option}
-use Rattle.area.specs.Area.{zeros, laid}
-use Rattle.utf8.specs.Characters.{joined}
-use Rattle.refusal.specs.Refusal.{Outcome, accepted, refused}
-use Rattle.table.specs.Event.{Event, resolve}
-use Rattle.table.specs.Table.{table_of}
-use Rattle.tree_report.specs.Report.{Report}
-use Rattle.tree_report.specs.ReportOf.{report_from, only}
-use Rattle.tree_report.specs.Fields.{live}
-use Rattle.read_element.specs.Outcome.{◌>>=◌, rooms_of, unlimited}
+use Rattle.text_pieces.specs.of_area.Area.{zeros, laid}
+use Rattle.text_pieces.specs.of_utf8.Characters.{joined}
+use Rattle.text_pieces.specs.of_refusal.Refusal.{Outcome, accepted, refused}
+use Rattle.table_events.specs.of_table.Event.{Event, resolve}
+use Rattle.table_events.specs.of_table.Table.{table_of}
+use Rattle.read_path.specs.of_tree_report.Report.{Report}
+use Rattle.read_path.specs.of_tree_report.ReportOf.{report_from, only}
+use Rattle.read_path.specs.of_tree_report.Fields.{live}
+use Rattle.read_path.specs.of_read_element.Outcome.{◌>>=◌, rooms_of, unlimited}
 use Rattle.read_machine.specs.Machine.{Machine, run, begin}
 
 -- the answer, and the three areas

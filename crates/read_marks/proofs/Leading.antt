@@ -8,14 +8,14 @@ use native.Mathlib.Omega.{arith}
 use borrow.Author.Tests.{not-true, eq-eqb, eqb-true, eqb-false, ltb-true, ltb-false}
 use lib.Dec.{eqb, ltb}
 use lib.ListN.{length, get_or}
-use Rattle.text.specs.Value.{value_text}
-use Rattle.table.specs.Event.{key_at}
-use Rattle.names.specs.Names.{same_bytes}
-use Rattle.names.proofs.NameLaws.{same_true}
-use Rattle.key_order.specs.inside.KeyOrder.{Comes, common_length, comes}
-use Rattle.key_order.proofs.Ordering.{comes-same, comes-tied}
-use Rattle.key_order.proofs.Testing.{by_number}
-use Rattle.clean_order.specs.inside.CleanOrder.{ComesBy}
+use Rattle.key_sort.specs.of_text.Value.{value_text}
+use Rattle.key_sort.specs.of_table.Event.{key_at}
+use Rattle.key_sort.specs.of_names.Names.{same_bytes}
+use Rattle.key_sort.proofs.of_names.NameLaws.{same_true}
+use Rattle.key_sort.specs.of_key_order.inside.KeyOrder.{Comes, common_length, comes}
+use Rattle.key_sort.proofs.of_key_order.Ordering.{comes-same, comes-tied}
+use Rattle.key_sort.proofs.of_key_order.Testing.{by_number}
+use Rattle.key_sort.specs.of_clean_order.inside.CleanOrder.{ComesBy}
 use Rattle.key_sort.specs.inside.Arranged.{count, numbers, Arranged}
 use Rattle.key_sort.proofs.Counting.{count-in, Placed, placed, ordered_at}
 use Rattle.read_marks.specs.inside.Marks.{stored_for, New, Leads}

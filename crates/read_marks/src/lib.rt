@@ -2,18 +2,19 @@
 #![tactic(auto)]
 
 ghost use Rattle.std.specs.Prelude.{◌≡◌, true, cond, ◌&&◌, ◌-◌, ◌*◌, ◌≤◌, ◌<◌, length, set, leb, ltb};
-ghost use Rattle.area.specs.Area.{zeros};
-ghost use Rattle.clean_order.specs.inside.CleanOrder.{ComesBy};
+ghost use Rattle.key_sort.specs.of_area.Area.{zeros};
+ghost use Rattle.key_sort.specs.of_clean_order.inside.CleanOrder.{ComesBy};
 ghost use Rattle.key_sort.specs.inside.Arranged.{Arranged};
 ghost use Rattle.key_sort.specs.inside.Numbers.{numbers_in};
 ghost use Rattle.read_marks.specs.inside.Marks.{Leads, Marks};
 
-use area::{clear, wide};
-use clean_order::comes_cleaned;
-use key_order::key_of;
 use key_sort::number::number_at;
 use key_sort::sort;
-use text::value::{Checked, check_value};
+use key_sort::the_area::{clear, wide};
+use key_sort::the_clean_order::comes_cleaned;
+use key_sort::the_key_order::key_of;
+use key_sort::the_text::value::{Checked, check_value};
+pub use key_sort::the_text_key;
 
 // Whether number p isn't an attribute with what would be stored for the key of the one before it.
 fn is_first(attributes: &[u32], source: &[u8], bytes: &[u8], p: usize) -> bool

@@ -2,12 +2,12 @@
 use mathlib.Core.Path.{◌≡◌, refl}
 use mathlib.Core.Bool.{false}
 use mathlib.Core.List.{[], ◌∷◌}
-use Rattle.refusal.specs.Refusal.{nowhere}
-use Rattle.read_element.specs.Outcome.{element}
-use Rattle.read_state.specs.Control.{suite, case, out, at, listing, skipping, open_case, close_case, close_text, broken}
+use Rattle.read_rules.specs.of_refusal.Refusal.{nowhere}
+use Rattle.read_fault.specs.of_read_element.Outcome.{element}
+use Rattle.read_place.specs.of_read_state.Control.{suite, case, out, at, listing, skipping, open_case, close_case, close_text, broken}
 use Rattle.read_place.specs.Marks.{marks}
-use Rattle.names.specs.Bytes.{bytes}
-use Rattle.refusal.specs.declared.Cause.TheVariants as cause
+use Rattle.read_rules.specs.of_names.Bytes.{bytes}
+use Rattle.read_rules.specs.of_refusal.declared.Cause.TheVariants as cause
 use Rattle.read_path.specs.Paths.{path_of}
 
 -- until the case is named its element has no event number, also if an earlier case had one

@@ -4,14 +4,14 @@ use mathlib.Core.List.{List, [], ◌∷◌, ◌++◌, append_assoc}
 use mathlib.Core.Path.{◌≡◌, refl, ap, ◌∙◌, subst}
 use native.Mathlib.Omega.{arith}
 use lib.ListN.{length, length-append}
-use Rattle.refusal.specs.Refusal.{path_from, empty_path, longer}
-use Rattle.refusal.specs.declared.PathElement.{PathElement}
-use Rattle.refusal.specs.declared.Path.{Path}
-use Rattle.refusal.proofs.PathLaws.{longer-path}
-use Rattle.read_element.specs.Outcome.{attribute_element, path_to}
-use Rattle.read_state.specs.Control.{Level}
-use Rattle.read_state.specs.inside.Coded.{level_of, level_in_of, mode_of}
-use Rattle.read_state.specs.declared.Control.{Control as CodedControl}
+use Rattle.read_rules.specs.of_refusal.Refusal.{path_from, empty_path, longer}
+use Rattle.read_rules.specs.of_refusal.declared.PathElement.{PathElement}
+use Rattle.read_rules.specs.of_refusal.declared.Path.{Path}
+use Rattle.read_rules.proofs.of_refusal.PathLaws.{longer-path}
+use Rattle.read_fault.specs.of_read_element.Outcome.{attribute_element, path_to}
+use Rattle.read_place.specs.of_read_state.Control.{Level}
+use Rattle.read_place.specs.of_read_state.inside.Coded.{level_of, level_in_of, mode_of}
+use Rattle.read_place.specs.of_read_state.declared.Control.{Control as CodedControl}
 use Rattle.read_place.proofs.Lasting.{level-of}
 use Rattle.read_fault.specs.inside.Faults.{with_attribute}
 use Rattle.read_path.specs.inside.Coded.{Leads}

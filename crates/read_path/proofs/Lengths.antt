@@ -6,17 +6,17 @@ use mathlib.Core.Path.{◌≡◌, refl}
 use native.Mathlib.Omega.{arith}
 use lib.Dec.{eqb}
 use lib.ListN.{length, length-append}
-use Rattle.names.specs.Tags.{tag_of, testsuites, testsuite, testcase, properties, property, stack_trace, system-out, system-err}
-use Rattle.refusal.specs.declared.PathElement.{PathElement}
-use Rattle.table.specs.Event.{TagKind, Start, Empty, End}
-use Rattle.read_state.specs.Control.{Level, top, suite, case, status, Output, trace, out, err, Mode, at, gathering, listing, skipping, finished}
-use Rattle.read_state.specs.Control.{Act, pass, open_report, open_suite, open_case, open_status, close_suite, close_case, close_status, open_text, close_text, open_list, read_property, stop, missing, broken}
-use Rattle.read_state.specs.Control.{is_status, or_skip}
+use Rattle.read_rules.specs.of_names.Tags.{tag_of, testsuites, testsuite, testcase, properties, property, stack_trace, system-out, system-err}
+use Rattle.read_rules.specs.of_refusal.declared.PathElement.{PathElement}
+use Rattle.read_rules.specs.of_table.Event.{TagKind, Start, Empty, End}
+use Rattle.read_place.specs.of_read_state.Control.{Level, top, suite, case, status, Output, trace, out, err, Mode, at, gathering, listing, skipping, finished}
+use Rattle.read_place.specs.of_read_state.Control.{Act, pass, open_report, open_suite, open_case, open_status, close_suite, close_case, close_status, open_text, close_text, open_list, read_property, stop, missing, broken}
+use Rattle.read_place.specs.of_read_state.Control.{is_status, or_skip}
 use Rattle.read_rules.specs.Rules.{tag_of_output, outputs, emptied, child, at_top, at_suite, at_case, at_status, in_text, in_list_of, in_skip, plan_at, plan_eof, plan_fault}
 use Rattle.read_place.specs.Marks.{Marks}
 use Rattle.read_path.specs.Paths.{level_path, mode_path, path_of}
 use Rattle.read_path.specs.inside.Coded.{has_room}
-use Rattle.refusal.specs.declared.Cause.TheVariants as cause
+use Rattle.read_rules.specs.of_refusal.declared.Cause.TheVariants as cause
 
 pub level-short : (l : Level) (m : Marks) → length (level_path l m) ≤ 4
 level-short top m = omega arith

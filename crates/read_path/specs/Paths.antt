@@ -1,10 +1,10 @@
 -- The path of where reading stands, and of a refusal at an act. Definitions only.
 use Rattle.std.specs.Prelude.{List, [], ◌∷◌, ◌++◌}
-use Rattle.refusal.specs.Refusal.{nowhere}
-use Rattle.refusal.specs.declared.PathElement.{PathElement}
-use Rattle.read_element.specs.Outcome.{Place, element, stack_trace_element}
-use Rattle.read_state.specs.Control.{Level, top, suite, case, status, Output, trace, out, err, Mode, at, gathering, listing, skipping, finished}
-use Rattle.read_state.specs.Control.{Act, pass, open_report, open_suite, open_case, open_status, close_suite, close_case, close_status, open_text, close_text, open_list, read_property, stop, missing, broken}
+use Rattle.read_rules.specs.of_refusal.Refusal.{nowhere}
+use Rattle.read_rules.specs.of_refusal.declared.PathElement.{PathElement}
+use Rattle.read_fault.specs.of_read_element.Outcome.{Place, element, stack_trace_element}
+use Rattle.read_place.specs.of_read_state.Control.{Level, top, suite, case, status, Output, trace, out, err, Mode, at, gathering, listing, skipping, finished}
+use Rattle.read_place.specs.of_read_state.Control.{Act, pass, open_report, open_suite, open_case, open_status, close_suite, close_case, close_status, open_text, close_text, open_list, read_property, stop, missing, broken}
 use Rattle.read_place.specs.Marks.{Marks}
 
 abbrev pub root : List PathElement

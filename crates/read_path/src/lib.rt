@@ -2,17 +2,17 @@
 #![tactic(auto)]
 
 ghost use Rattle.std.specs.Prelude.{◌≡◌, ℕ, Bool, List};
-ghost use Rattle.read_state.specs.Control as plan;
-ghost use Rattle.read_state.specs.inside.Coded.{level_of, output_of, mode_of, opening, closing, act_of};
+ghost use Rattle.read_place.specs.of_read_state.Control as plan;
+ghost use Rattle.read_place.specs.of_read_state.inside.Coded.{level_of, output_of, mode_of, opening, closing, act_of};
 ghost use Rattle.read_path.specs.Paths as standing;
 ghost use Rattle.read_place.specs.inside.Coded.{marks_of};
 ghost use Rattle.read_path.specs.inside.Coded.{Leads};
 
 use read_fault::element_of;
 use read_place::Marks;
-use read_state::{Act, Control, Level, Mode, Output};
-use refusal::{NOWHERE, Path, PathElement};
-use tree_record::kind::{CASE, REPORT, SUITE};
+use read_place::the_read_state::{Act, Control, Level, Mode, Output};
+use read_rules::the_refusal::{NOWHERE, Path, PathElement};
+use read_rules::the_tree_record::kind::{CASE, REPORT, SUITE};
 
 fn root() -> Path
     ensures { Leads result standing.root }

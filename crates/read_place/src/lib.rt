@@ -7,8 +7,9 @@ ghost use Rattle.read_state.specs.inside.Coded.{level_of, opening, closing, act_
 ghost use Rattle.read_place.specs.Marks as standing;
 ghost use Rattle.read_place.specs.inside.Coded.{marks_of, go_to, counting, Low};
 
+pub use read_state as the_read_state;
+use read_state::the_tree_record::kind::{CASE, REPORT, SUITE};
 use read_state::{Act, Control, Level};
-use tree_record::kind::{CASE, REPORT, SUITE};
 
 // The event being read; index and Start of the open suite and case; the open status element's kind; the number of properties
 // read in the open list; the records of the open suite, case and status element.

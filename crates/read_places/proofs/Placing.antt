@@ -5,8 +5,8 @@ use mathlib.Core.Bool.{Bool, true, false}
 use mathlib.Core.List.{List}
 use lib.ListN.{length, get_or, take, drop}
 use lib.Seq.{get_or-drop}
-use Rattle.names.specs.Names.{same_bytes}
-use Rattle.names.proofs.NameLaws.{same_true}
+use Rattle.read_element.specs.of_names.Names.{same_bytes}
+use Rattle.read_element.proofs.of_names.NameLaws.{same_true}
 use Rattle.read_places.specs.inside.Stands.{stored_key}
 
 pub other_length : (a b : List ℕ) → (length a ≡ length b → ⊥) → false ≡ same_bytes a b

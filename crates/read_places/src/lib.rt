@@ -2,14 +2,18 @@
 #![tactic(auto)]
 
 ghost use Rattle.std.specs.Prelude.{◌≡◌, true, ◌≤◌, ◌<◌, length, take, drop};
-ghost use Rattle.names.specs.Names.{same_bytes};
-ghost use Rattle.text.specs.Value.{value_text};
+ghost use Rattle.read_element.specs.of_names.Names.{same_bytes};
+ghost use Rattle.read_element.specs.of_text.Value.{value_text};
 ghost use Rattle.read_places.specs.inside.Told.{Quiet};
 ghost use Rattle.read_places.specs.inside.Stands.{stored_key};
 
-use area::wide;
-use table_parts::{bytes_of, word_of};
-use text_key::{cleaned_length, is_cleaned};
+use read_element::the_area::wide;
+use read_element::the_table_parts::{bytes_of, word_of};
+pub use read_element::{
+    the_area, the_refusal, the_table_parts, the_text_filter, the_tree_put, the_tree_record,
+};
+pub use read_marks as the_read_marks;
+use read_marks::the_text_key::{cleaned_length, is_cleaned};
 
 // The stored key of extra i: its record stands behind the element's own and those before it.
 fn stored_key<'a>(own: &[u32], text: &'a [u8], i: usize) -> &'a [u8]

@@ -6,11 +6,11 @@ use mathlib.Core.Bool.{Bool, true, false, not, ◌&&◌, ◌||◌, and-eq-true_i
 use native.Mathlib.Omega.{arith}
 use borrow.Author.Tests.{not-true, ltb-true, ltb-false}
 use lib.Dec.{eqb, ltb}
-use Rattle.reference.specs.Reference.{no_ampersand}
-use Rattle.text_filter.specs.Filter.{dropped, unfiltered}
-use Rattle.text.specs.Value.{value_text}
-use Rattle.text.proofs.Values.{plain_value}
-use Rattle.table.specs.Event.{key_at}
+use Rattle.read_chains.specs.of_reference.Reference.{no_ampersand}
+use Rattle.read_chains.specs.of_text_filter.Filter.{dropped, unfiltered}
+use Rattle.read_chains.specs.of_text.Value.{value_text}
+use Rattle.read_chains.proofs.of_text.Values.{plain_value}
+use Rattle.read_chains.specs.of_table.Event.{key_at}
 use Rattle.read_plain.specs.inside.Plain.{altered, unaltered, Plain}
 
 or-none : (t u : Bool) → (t || u) ≡ false → (t ≡ false) × (u ≡ false)

@@ -5,7 +5,7 @@ ghost use Rattle.std.specs.Prelude.{◌≡◌, ◌*◌, ◌≤◌, length};
 ghost use Rattle.read_plain.specs.inside.Plain.{unaltered, Plain};
 
 use read_chains::key::key_at;
-use text_filter::is_dropped;
+use read_chains::the_text_filter::is_dropped;
 
 // Whether no byte begins a reference or is dropped (rules X3 and X8). No exit before the end: so the compiler takes many bytes at a time.
 fn is_own(key: &[u8]) -> bool

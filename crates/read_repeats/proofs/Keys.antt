@@ -5,11 +5,11 @@ use mathlib.Core.Bool.{Bool, true, false, not, ◌&&◌, ◌||◌}
 use mathlib.Core.List.{List}
 use native.Mathlib.Omega.{arith}
 use lib.ListN.{length, get_or, take, drop, length-drop}
-use Rattle.names.specs.Names.{same_bytes}
-use Rattle.table.specs.Event.{Attribute, part, key_at, attributes_from}
-use Rattle.table.proofs.Words.{part_at}
-use Rattle.table.proofs.Resolving.{attributes-end, attributes-next}
-use Rattle.area.proofs.Parts.{rest_part}
+use Rattle.read_element.specs.of_names.Names.{same_bytes}
+use Rattle.read_element.specs.of_table.Event.{Attribute, part, key_at, attributes_from}
+use Rattle.read_element.proofs.of_table.Words.{part_at}
+use Rattle.read_element.proofs.of_table.Resolving.{attributes-end, attributes-next}
+use Rattle.read_element.proofs.of_area.Parts.{rest_part}
 use Rattle.read_element.specs.Attributes.{among}
 use Rattle.read_element.specs.inside.Held.{keys_of}
 

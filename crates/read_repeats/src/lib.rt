@@ -2,15 +2,16 @@
 #![tactic(auto)]
 
 ghost use Rattle.std.specs.Prelude.{◌≡◌, not, ◌&&◌, ◌≤◌, ◌*◌, ◌-◌, length, get_or};
-ghost use Rattle.names.specs.Names.{same_bytes};
-ghost use Rattle.table.specs.Event.{part, attributes_from};
+ghost use Rattle.read_element.specs.of_names.Names.{same_bytes};
+ghost use Rattle.read_element.specs.of_table.Event.{part, attributes_from};
 ghost use Rattle.read_element.specs.Attributes.{among};
 ghost use Rattle.read_element.specs.inside.Held.{keys_of};
 ghost use Rattle.read_repeats.specs.inside.Words.{attribute_in};
 
-use area::wide;
-use names::same;
-use table_parts::bytes_of;
+use read_element::the_area::wide;
+use read_element::the_names::same;
+use read_element::the_table_parts::bytes_of;
+pub use read_element::{the_area, the_names, the_read_keys, the_refusal, the_table_parts};
 
 // Whether the attribute that `words` begins with has this key.
 fn has_key(words: &[u32], source: &[u8], key: &[u8]) -> bool

@@ -8,29 +8,29 @@ use borrow.Author.Tests.{leb-true, leb-false}
 use lib.Dec.{leb}
 use lib.ListN.{length, set, take, drop, length-append, length-set}
 use lib.Seq.{set-append_left}
-use Rattle.area.specs.Answer.{Answer, gives, refuses}
-use Rattle.area.specs.Area.{zeros, laid}
-use Rattle.utf8.specs.Utf8.{utf8}
-use Rattle.reference.specs.Reference.{refs_ok}
-use Rattle.refusal.specs.Refusal.{accepted}
-use Rattle.table.specs.Event.{Attribute}
-use Rattle.integer.specs.Integer.{integer_of}
-use Rattle.time.specs.Time.{time_of}
-use Rattle.timestamp.specs.Timestamp.{timestamp_of}
-use Rattle.timestamp.specs.declared.Moment.{Moment}
-use Rattle.uuids.specs.Uuid.{uuid_of}
-use Rattle.uuids.specs.declared.Words.{Words}
-use Rattle.text.specs.Value.{value_text, value_of, value_laid}
-use Rattle.tree_record.specs.Record.{marked}
-use Rattle.tree_put.specs.Put.{put_text, put_count_of, put_words, put_uuid, uuid_words, put_moment, moment_words, put_time}
-use Rattle.tree_put.proofs.Puts.{pair-length, words-length, text-length, uuid-length, moment-length, time-length}
-use Rattle.read_keys.specs.declared.Role.{Role}
-use Rattle.read_keys.specs.declared.Role.TheVariants as role
-use Rattle.read_element.specs.Outcome.{Place, Rooms, there, within, ◌>>=◌}
-use Rattle.read_element.specs.Attributes.{Given, storing, read_text, by_role, keep}
-use Rattle.utf8.specs.Characters.{joined}
-use Rattle.read_element.specs.inside.Held.{unmoved, moved, putting, Held, Roomy, Meets}
-use Rattle.read_element.specs.inside.Refines.{went, stopped}
+use Rattle.read_values.specs.of_area.Answer.{Answer, gives, refuses}
+use Rattle.read_values.specs.of_area.Area.{zeros, laid}
+use Rattle.read_values.specs.of_utf8.Utf8.{utf8}
+use Rattle.read_values.specs.of_reference.Reference.{refs_ok}
+use Rattle.read_values.specs.of_refusal.Refusal.{accepted}
+use Rattle.read_values.specs.of_table.Event.{Attribute}
+use Rattle.read_values.specs.of_integer.Integer.{integer_of}
+use Rattle.read_values.specs.of_time.Time.{time_of}
+use Rattle.read_values.specs.of_timestamp.Timestamp.{timestamp_of}
+use Rattle.read_values.specs.of_timestamp.declared.Moment.{Moment}
+use Rattle.read_values.specs.of_uuids.Uuid.{uuid_of}
+use Rattle.read_values.specs.of_uuids.declared.Words.{Words}
+use Rattle.read_values.specs.of_text.Value.{value_text, value_of, value_laid}
+use Rattle.read_values.specs.of_tree_record.Record.{marked}
+use Rattle.read_values.specs.of_tree_put.Put.{put_text, put_count_of, put_words, put_uuid, uuid_words, put_moment, moment_words, put_time}
+use Rattle.read_values.proofs.of_tree_put.Puts.{pair-length, words-length, text-length, uuid-length, moment-length, time-length}
+use Rattle.read_values.specs.of_read_keys.declared.Role.{Role}
+use Rattle.read_values.specs.of_read_keys.declared.Role.TheVariants as role
+use Rattle.read_values.specs.of_read_element.Outcome.{Place, Rooms, there, within, ◌>>=◌}
+use Rattle.read_values.specs.of_read_element.Attributes.{Given, storing, read_text, by_role, keep}
+use Rattle.read_values.specs.of_utf8.Characters.{joined}
+use Rattle.read_values.specs.of_read_element.inside.Held.{unmoved, moved, putting, Held, Roomy, Meets}
+use Rattle.read_values.specs.of_read_element.inside.Refines.{went, stopped}
 use Rattle.read_values.specs.inside.Answers.{tookAnswer}
 use Rattle.read_role.specs.inside.Roles.{RoleFits, took_given}
 use Rattle.read_values.specs.declared.Took.{Took}
@@ -39,8 +39,8 @@ use Rattle.read_extra_record.proofs.Storing.{Local, pair-local, keyed-more}
 use Rattle.read_extra_record.proofs.Extras.{meets-need, meets-refused, text-grown, text-room, text-none}
 use Rattle.read_extra_record.proofs.NewExtras.{marked-local, text-local}
 use Rattle.read_role.proofs.Valuing.{value-meets}
-use Rattle.refusal.specs.declared.Cause.TheVariants as cause
-use Rattle.refusal.specs.declared.Cause.{Cause}
+use Rattle.read_values.specs.of_refusal.declared.Cause.TheVariants as cause
+use Rattle.read_values.specs.of_refusal.declared.Cause.{Cause}
 
 -- what is put into a record changes that record only
 row-local : (o : ℕ) (vs : List ℕ) → o + length vs ≤ 32 → Local (put_words o vs)

@@ -4,14 +4,14 @@ use mathlib.Core.Path.{◌≡◌, ap, ◌∙◌}
 use mathlib.Core.List.{List, ◌++◌}
 use native.Mathlib.Omega.{arith}
 use lib.ListN.{length}
-use Rattle.area.specs.Answer.{Answer, gives, refuses}
-use Rattle.area.specs.Area.{zeros}
-use Rattle.refusal.specs.Refusal.{accepted}
-use Rattle.read_element.specs.Outcome.{Place, there, ◌>>=◌}
-use Rattle.read_element.specs.Attributes.{Given, with_main}
-use Rattle.utf8.specs.Characters.{joined}
-use Rattle.read_element.specs.inside.Held.{unmoved, putting, Held, Meets}
-use Rattle.read_element.specs.inside.Refines.{went, stopped}
+use Rattle.read_values.specs.of_area.Answer.{Answer, gives, refuses}
+use Rattle.read_values.specs.of_area.Area.{zeros}
+use Rattle.read_values.specs.of_refusal.Refusal.{accepted}
+use Rattle.read_values.specs.of_read_element.Outcome.{Place, there, ◌>>=◌}
+use Rattle.read_values.specs.of_read_element.Attributes.{Given, with_main}
+use Rattle.read_values.specs.of_utf8.Characters.{joined}
+use Rattle.read_values.specs.of_read_element.inside.Held.{unmoved, putting, Held, Meets}
+use Rattle.read_values.specs.of_read_element.inside.Refines.{went, stopped}
 use Rattle.read_values.specs.inside.Answers.{tookAnswer}
 use Rattle.read_role.specs.inside.Roles.{took_given}
 use Rattle.read_values.specs.declared.Took.{Took}

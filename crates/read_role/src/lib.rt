@@ -2,10 +2,11 @@
 #![tactic(auto)]
 
 ghost use Rattle.std.specs.Prelude.{◌≤◌, length};
-ghost use Rattle.read_element.specs.inside.Refines.{areas};
+ghost use Rattle.read_values.specs.of_read_element.inside.Refines.{areas};
 ghost use Rattle.read_role.specs.inside.Roles.{RoleFits, ReadsValue};
 
-use read_keys::Role;
+pub use read_values as the_read_values;
+use read_values::the_read_keys::Role;
 use read_values::{
     Took, read_count, read_duration, read_number, read_text, read_timestamp, read_uuid,
 };

@@ -1,13 +1,13 @@
 -- What is done at a tag, at Eof and at a Fault, computed where a wrong rule would differ. Assumes nothing.
 use mathlib.Core.Path.{◌≡◌, refl}
 use mathlib.Core.Bool.{true, false}
-use Rattle.names.specs.Bytes.{bytes}
-use Rattle.names.specs.Names.{same_bytes, code_from}
-use Rattle.names.specs.Tags.{tags, tag_of}
-use Rattle.table.specs.Event.{Start, Empty, End}
-use Rattle.refusal.specs.declared.Cause.TheVariants as cause
-use Rattle.read_state.specs.Control.{top, suite, case, status, out, err, trace, at, gathering, listing, skipping, pass, open_report}
-use Rattle.read_state.specs.Control.{open_suite, close_status, close_text, open_list, read_property, stop, missing, broken, or_skip}
+use Rattle.read_children.specs.of_names.Bytes.{bytes}
+use Rattle.read_children.specs.of_names.Names.{same_bytes, code_from}
+use Rattle.read_children.specs.of_names.Tags.{tags, tag_of}
+use Rattle.read_children.specs.of_table.Event.{Start, Empty, End}
+use Rattle.read_children.specs.of_refusal.declared.Cause.TheVariants as cause
+use Rattle.read_children.specs.of_read_state.Control.{top, suite, case, status, out, err, trace, at, gathering, listing, skipping, pass, open_report}
+use Rattle.read_children.specs.of_read_state.Control.{open_suite, close_status, close_text, open_list, read_property, stop, missing, broken, or_skip}
 use Rattle.read_rules.specs.Rules.{outputs, emptied, at_top, at_suite, at_case, child, at_status, in_text, in_list_of, in_skip, plan_eof, plan_fault}
 
 -- a suite counts only once a report exists

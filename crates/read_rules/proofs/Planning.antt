@@ -6,17 +6,17 @@ use mathlib.Core.Path.{◌≡◌, refl}
 use native.Mathlib.Omega.{arith}
 use borrow.Author.Tests.{lt-ltb, leb-true}
 use lib.Dec.{leb, ltb, eqb}
-use Rattle.names.specs.Tags.{tag_of}
-use Rattle.table.specs.Event.{Start, Empty, End, tag_kind}
-use Rattle.read_state.specs.Control.{Level, top, suite, case, status, Output, at, gathering, listing, pass, open_report, open_suite}
-use Rattle.read_state.specs.Control.{open_case, open_status, close_text, open_list, read_property, stop, missing, broken, is_status}
+use Rattle.read_children.specs.of_names.Tags.{tag_of}
+use Rattle.read_children.specs.of_table.Event.{Start, Empty, End, tag_kind}
+use Rattle.read_children.specs.of_read_state.Control.{Level, top, suite, case, status, Output, at, gathering, listing, pass, open_report, open_suite}
+use Rattle.read_children.specs.of_read_state.Control.{open_case, open_status, close_text, open_list, read_property, stop, missing, broken, is_status}
 use Rattle.read_rules.specs.Rules.{outputs, emptied, at_top, at_suite, at_case, tag_of_output, in_text, in_list_of, plan_eof}
 use Rattle.read_children.proofs.Children.{kind-end}
-use Rattle.read_state.proofs.Turning.{opening-other}
-use Rattle.read_state.specs.inside.Coded.{mode_at, is_top, opening}
-use Rattle.read_state.specs.declared.Mode.{Mode as CodedMode}
-use Rattle.read_state.specs.declared.Mode.TheVariants.{At, Text, List as Listing}
-use Rattle.refusal.specs.declared.Cause.TheVariants as cause
+use Rattle.read_children.proofs.of_read_state.Turning.{opening-other}
+use Rattle.read_children.specs.of_read_state.inside.Coded.{mode_at, is_top, opening}
+use Rattle.read_children.specs.of_read_state.declared.Mode.{Mode as CodedMode}
+use Rattle.read_children.specs.of_read_state.declared.Mode.TheVariants.{At, Text, List as Listing}
+use Rattle.read_children.specs.of_refusal.declared.Cause.TheVariants as cause
 
 pub kind-above : (k : ℕ) → 1 < k → tag_kind k ≡ End
 kind-above k h = kind-end k (λ e. omega arith) (λ e. omega arith)

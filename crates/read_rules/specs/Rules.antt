@@ -1,12 +1,12 @@
 -- What is done at a tag, at Eof and at a Fault (rules R3 to R16, R18, R19 and S2 to S4). It sees kinds and tag names only.
 -- Definitions only.
 use Rattle.std.specs.Prelude.{ℕ, zero, suc, List, Bool, true, false, cond, ◌&&◌, eqb}
-use Rattle.names.specs.Names.{same_bytes}
-use Rattle.names.specs.Tags.{tag_of, testsuites, testsuite, testcase, properties, property, stack_trace, system-out, system-err}
-use Rattle.table.specs.Event.{TagKind, Start, Empty, End}
-use Rattle.read_state.specs.Control.{Level, top, suite, case, status, Output, trace, out, err, Mode, at, gathering, listing, skipping, finished, Act, pass, open_report, open_suite}
-use Rattle.read_state.specs.Control.{open_case, open_status, close_suite, close_case, close_text, open_list, read_property, stop, missing, broken, is_status}
-use Rattle.refusal.specs.declared.Cause.TheVariants as cause
+use Rattle.read_children.specs.of_names.Names.{same_bytes}
+use Rattle.read_children.specs.of_names.Tags.{tag_of, testsuites, testsuite, testcase, properties, property, stack_trace, system-out, system-err}
+use Rattle.read_children.specs.of_table.Event.{TagKind, Start, Empty, End}
+use Rattle.read_children.specs.of_read_state.Control.{Level, top, suite, case, status, Output, trace, out, err, Mode, at, gathering, listing, skipping, finished, Act, pass, open_report, open_suite}
+use Rattle.read_children.specs.of_read_state.Control.{open_case, open_status, close_suite, close_case, close_text, open_list, read_property, stop, missing, broken, is_status}
+use Rattle.read_children.specs.of_refusal.declared.Cause.TheVariants as cause
 -- the children of suite, case and status element
 unfoldable pub use Rattle.read_children.specs.Children.{outputs, emptied, child, at_status}
 

@@ -2,20 +2,22 @@
 #![tactic(auto)]
 
 ghost use Rattle.std.specs.Prelude.{◌≡◌, ℕ, List, [], cond};
-ghost use Rattle.names.specs.Tags.{tag_of};
-ghost use Rattle.table.specs.Event.{Start, Empty, tag_kind};
-ghost use Rattle.read_state.specs.Control as plan;
+ghost use Rattle.read_children.specs.of_names.Tags.{tag_of};
+ghost use Rattle.read_children.specs.of_table.Event.{Start, Empty, tag_kind};
+ghost use Rattle.read_children.specs.of_read_state.Control as plan;
 ghost use Rattle.read_rules.specs.Rules as rules;
-ghost use Rattle.read_state.specs.inside.Coded.{level_of, output_of, mode_of, is_top, act_in, act_of};
+ghost use Rattle.read_children.specs.of_read_state.inside.Coded.{level_of, output_of, mode_of, is_top, act_in, act_of};
 
-use names::tag::{
+pub use read_children as the_read_children;
+use read_children::the_names::tag::{
     PROPERTIES, PROPERTY, STACK_TRACE, SYSTEM_ERR, SYSTEM_OUT, TESTCASE, TESTSUITE, TESTSUITES,
 };
+use read_children::the_read_state::{Act, Control, Level, Mode, Output};
+use read_children::the_refusal::Cause;
+use read_children::the_table::kind::{EMPTY, START};
+use read_children::the_tree_record::kind::{CASE, REPORT, SUITE};
+pub use read_children::{the_names, the_refusal, the_table, the_tree_record, the_tree_status};
 use read_children::{child, is_status, list_of, step_status};
-use read_state::{Act, Control, Level, Mode, Output};
-use refusal::Cause;
-use table::kind::{EMPTY, START};
-use tree_record::kind::{CASE, REPORT, SUITE};
 
 // By rules R3 to R5.
 fn open_top(seen: bool, tag: usize, empty: bool) -> Act

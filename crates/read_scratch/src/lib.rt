@@ -4,8 +4,10 @@
 ghost use Rattle.std.specs.Prelude.{◌≡◌, cond, not, ◌+◌, ◌≤◌, eqb};
 ghost use Rattle.read_scratch.specs.inside.Places.{piece_from, may_move, fronted_in};
 
+pub use read_content as the_read_content;
 use read_content::Content;
-use read_state::Mode;
+use read_content::the_read_state::Mode;
+pub use read_content::{the_read_children, the_read_rules, the_read_state, the_table};
 
 // A piece goes behind the text that it belongs to.
 pub fn piece_from(mode: Mode, content: Content) -> usize

@@ -8,11 +8,11 @@ use native.Mathlib.Omega.{arith}
 use borrow.Author.Tests.{eq-eqb, eqb-true, eqb-false, ltb-true, ltb-false}
 use lib.Dec.{eqb, ltb}
 use lib.ListN.{length, get_or}
-use Rattle.names.specs.Names.{same_bytes}
-use Rattle.names.proofs.NameLaws.{same_refl, same_true}
-use Rattle.table.specs.Event.{key_at}
-use Rattle.key_order.specs.inside.KeyOrder.{Comes, ComesIn}
-use Rattle.key_order.proofs.Ordering.{comes-same, comes-tied}
+use Rattle.key_sort.specs.of_names.Names.{same_bytes}
+use Rattle.key_sort.proofs.of_names.NameLaws.{same_refl, same_true}
+use Rattle.key_sort.specs.of_table.Event.{key_at}
+use Rattle.key_sort.specs.of_key_order.inside.KeyOrder.{Comes, ComesIn}
+use Rattle.key_sort.proofs.of_key_order.Ordering.{comes-same, comes-tied}
 use Rattle.key_sort.specs.inside.Arranged.{count, numbers, Arranged}
 use Rattle.key_sort.proofs.Counting.{count-in, Placed, placed, ordered_at}
 use Rattle.read_sorted.specs.inside.Repeats.{Unrepeated, Repeated, FirstRepeat, alike, Hit, FirstIn}

@@ -8,8 +8,8 @@ use native.Mathlib.Omega.{arith}
 use borrow.Author.Tests.{leb-true, leb-false, ltb-true, ltb-false, le-leb, lt-leb}
 use lib.Dec.{leb, ltb}
 use lib.ListN.{length, get_or}
-use Rattle.names.specs.Names.{same_bytes}
-use Rattle.table.specs.Event.{key_at}
+use Rattle.key_sort.specs.of_names.Names.{same_bytes}
+use Rattle.key_sort.specs.of_table.Event.{key_at}
 use Rattle.read_sorted.specs.inside.Repeats.{alike, nearer, FirstOf}
 
 pub nearer-kept : (t : Bool) (j found : ℕ) → found ≤ j → found ≡ nearer t j found

@@ -2,17 +2,17 @@
 #![tactic(auto)]
 
 ghost use Rattle.std.specs.Prelude.{◌≡◌, ◌-◌, ◌*◌, ◌≤◌, length};
-ghost use Rattle.area.specs.Area.{zeros};
-ghost use Rattle.names.specs.Names.{same_bytes};
-ghost use Rattle.table.specs.Event.{key_at};
+ghost use Rattle.key_sort.specs.of_area.Area.{zeros};
+ghost use Rattle.key_sort.specs.of_names.Names.{same_bytes};
+ghost use Rattle.key_sort.specs.of_table.Event.{key_at};
 ghost use Rattle.key_sort.specs.inside.Numbers.{numbers_in};
 ghost use Rattle.read_sorted.specs.inside.Repeats.{FirstRepeat, FirstIn, nearer};
 
-use area::{clear, wide};
-use key_order::key_of;
 use key_sort::number::number_at;
 use key_sort::sort;
-use names::same;
+use key_sort::the_area::{clear, wide};
+use key_sort::the_key_order::key_of;
+use key_sort::the_names::same;
 
 // The lesser of `found` and attribute j, where j has the key of attribute i.
 fn lesser(attributes: &[u32], source: &[u8], i: u32, j: u32, found: usize) -> usize

@@ -6,8 +6,11 @@ ghost use Rattle.tree_status.specs.Status.{Few};
 ghost use Rattle.read_state.specs.Control as plan;
 ghost use Rattle.read_state.specs.inside.Coded.{level_of, output_of, mode_at, control_of, opening, closing, turned};
 
+pub use refusal as the_refusal;
 use refusal::Cause;
-use tree_record::kind;
+pub use tree_status as the_tree_status;
+pub use tree_status::the_tree_record;
+use tree_status::the_tree_record::kind;
 use tree_status::{Tally, no_status, tallied};
 
 // What is open.

@@ -9,24 +9,24 @@ use lib.ListN.{length, take, drop, length-append, length-drop, take-append-drop}
 use lib.Seq.{take_at, drop_at}
 use borrow.Author.Tests.{le-leb, lt-leb}
 use borrow.Rule.Slice.PartMut.{put_mid}
-use Rattle.area.specs.Answer.{Answer, gives}
-use Rattle.area.specs.Area.{zeros, stored_answer, placing, laid}
-use Rattle.area.specs.declared.Stored.{Stored}
-use Rattle.area.specs.declared.Stored.TheVariants.{Put, Full}
-use Rattle.area.proofs.Laying.{laid-zeros, put-fits, full-over}
-use Rattle.area.proofs.Parts.{rest_part, rest_back}
-use Rattle.utf8.specs.Characters.{joined}
-use Rattle.trim.specs.Trim.{trimmed}
-use Rattle.text_filter.specs.Filter.{filtered}
-use Rattle.refusal.specs.Refusal.{nowhere, Outcome, accepted}
-use Rattle.refusal.specs.declared.Cause.TheVariants.{TextFull}
-use Rattle.read_element.specs.Outcome.{◌>>=◌, Place, refused_at, need, Rooms, fits}
-use Rattle.read_element.specs.Attributes.{changed}
-use Rattle.tree_put.specs.Put.{put_text}
-use Rattle.read_state.specs.Control.{Level, top, suite, case, status, Output, trace, out, err, at}
-use Rattle.read_place.specs.Marks.{Marks}
+use Rattle.read_content.specs.of_area.Answer.{Answer, gives}
+use Rattle.read_content.specs.of_area.Area.{zeros, stored_answer, placing, laid}
+use Rattle.read_content.specs.of_area.declared.Stored.{Stored}
+use Rattle.read_content.specs.of_area.declared.Stored.TheVariants.{Put, Full}
+use Rattle.read_content.proofs.of_area.Laying.{laid-zeros, put-fits, full-over}
+use Rattle.read_content.proofs.of_area.Parts.{rest_part, rest_back}
+use Rattle.read_content.specs.of_utf8.Characters.{joined}
+use Rattle.read_content.specs.of_trim.Trim.{trimmed}
+use Rattle.read_content.specs.of_text_filter.Filter.{filtered}
+use Rattle.read_content.specs.of_refusal.Refusal.{nowhere, Outcome, accepted}
+use Rattle.read_content.specs.of_refusal.declared.Cause.TheVariants.{TextFull}
+use Rattle.read_content.specs.of_read_element.Outcome.{◌>>=◌, Place, refused_at, need, Rooms, fits}
+use Rattle.read_content.specs.of_read_element.Attributes.{changed}
+use Rattle.read_content.specs.of_tree_put.Put.{put_text}
+use Rattle.read_content.specs.of_read_state.Control.{Level, top, suite, case, status, Output, trace, out, err, at}
+use Rattle.read_content.specs.of_read_place.Marks.{Marks}
 use Rattle.read_content.specs.Content.{Content, record_of_it, word_of, bit_of, takes, kept, with_texts, cleaned, keeping, is_empty, describing, outputting}
-use Rattle.read_element.specs.inside.Refines.{went}
+use Rattle.read_content.specs.of_read_element.inside.Refines.{went}
 use Rattle.read_content.specs.inside.Holds.{in_record, Holds, Sized, Opened, Lists, Comes, Performs}
 use Rattle.read_texts.specs.inside.Stored.{stored_in, stored_end, kept_words, kept_to}
 use Rattle.read_content.specs.declared.Content.{Content as CodedContent}
@@ -36,7 +36,7 @@ use Rattle.read_content.proofs.Records.{kept-local, kept-size, kept-kind, joined
 use Rattle.read_content.proofs.Listing.{dead-kinds, opened-kinds}
 use Rattle.read_content.proofs.Refusing.{halts}
 use Rattle.read_content.proofs.Areas.{text-size, description-part, gathered-part}
-use Rattle.refusal.specs.declared.Cause.TheVariants as cause
+use Rattle.read_content.specs.of_refusal.declared.Cause.TheVariants as cause
 
 -- ---- the text stored behind `fill` bytes of l
 module _ (l : List ℕ) (fill : ℕ) (g clean : List ℕ) (e : clean ≡ trimmed g) where

@@ -1,1 +1,7 @@
 pub mod Keeping
+pub use Rattle.read_content.proofs as of_read_content
+pub use Rattle.read_content.proofs.of_read_element as of_read_element
+pub use Rattle.read_content.proofs.of_read_place as of_read_place
+pub use Rattle.read_content.proofs.of_read_state as of_read_state
+pub use Rattle.read_content.proofs.of_table as of_table
+pub use Rattle.read_content.proofs.of_tree_status as of_tree_status

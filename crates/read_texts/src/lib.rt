@@ -2,24 +2,29 @@
 #![tactic(auto)]
 
 ghost use Rattle.std.specs.Prelude.{◌≡◌, ◌++◌, ◌+◌, ◌-◌, ◌*◌, ◌≤◌, length, take, drop};
-ghost use Rattle.area.specs.Area.{stored_answer, placing, laid};
-ghost use Rattle.read_state.specs.inside.Coded.{level_of, output_of};
-ghost use Rattle.read_place.specs.inside.Coded.{marks_of};
+ghost use Rattle.read_content.specs.of_area.Area.{stored_answer, placing, laid};
+ghost use Rattle.read_content.specs.of_read_state.inside.Coded.{level_of, output_of};
+ghost use Rattle.read_content.specs.of_read_place.inside.Coded.{marks_of};
 ghost use Rattle.read_content.specs.Content.{record_of_it, cleaned, word_of, bit_of};
 ghost use Rattle.read_texts.specs.inside.Promises.{ClosesStatus, ClosesText};
 ghost use Rattle.read_texts.specs.inside.Stored.{kept_words, kept_to, stored_end};
-ghost use Rattle.read_element.specs.inside.Refines.{areas};
-ghost use Rattle.refusal.specs.declared.Cause.TheVariants as cause;
+ghost use Rattle.read_content.specs.of_read_element.inside.Refines.{areas};
+ghost use Rattle.read_content.specs.of_refusal.declared.Cause.TheVariants as cause;
 
-use area::Stored;
+pub use read_content as the_read_content;
+use read_content::the_area::Stored;
+use read_content::the_read_place::Marks;
+use read_content::the_read_state::{Level, Output};
+use read_content::the_refusal::Cause;
+use read_content::the_text_filter::store;
+use read_content::the_tree_put::put_text;
+use read_content::the_tree_record::{bit, word};
+use read_content::the_trim::trim;
+pub use read_content::{
+    the_names, the_read_attribute, the_read_fault, the_read_place, the_read_rules, the_read_state,
+    the_refusal, the_table, the_tree_status,
+};
 use read_content::{Content, Performed, is_taken, refused};
-use read_place::Marks;
-use read_state::{Level, Output};
-use refusal::Cause;
-use text_filter::store;
-use tree_put::put_text;
-use tree_record::{bit, word};
-use trim::trim;
 
 fn word_of_output(output: Output) -> usize
     ensures { result ≡ word_of (output_of output) }

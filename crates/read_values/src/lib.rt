@@ -2,27 +2,28 @@
 #![tactic(auto)]
 
 ghost use Rattle.std.specs.Prelude.{◌≡◌, ◌++◌, ◌≤◌, ◌-◌, length, take, drop};
-ghost use Rattle.tree_record.specs.Record.{marked};
-ghost use Rattle.tree_put.specs.Put.{put_text, put_count_of, put_uuid, put_moment, put_time};
-ghost use Rattle.integer.specs.Integer.{integer_of};
-ghost use Rattle.uuids.specs.Uuid.{uuid_of};
-ghost use Rattle.timestamp.specs.Timestamp.{timestamp_of};
-ghost use Rattle.time.specs.Time.{time_of};
-ghost use Rattle.text.specs.Value.{value_of, value_laid};
+ghost use Rattle.tree_values.specs.of_tree_record.Record.{marked};
+ghost use Rattle.tree_values.specs.of_tree_put.Put.{put_text, put_count_of, put_uuid, put_moment, put_time};
+ghost use Rattle.read_element.specs.of_integer.Integer.{integer_of};
+ghost use Rattle.tree_values.specs.of_uuids.Uuid.{uuid_of};
+ghost use Rattle.tree_values.specs.of_timestamp.Timestamp.{timestamp_of};
+ghost use Rattle.read_element.specs.of_time.Time.{time_of};
+ghost use Rattle.read_element.specs.of_text.Value.{value_of, value_laid};
 ghost use Rattle.read_element.specs.Attributes.{keep};
 ghost use Rattle.read_element.specs.inside.Held.{unmoved, moved, putting};
 ghost use Rattle.read_values.specs.inside.Answers.{tookAnswer};
 
-use integer::{Integer, integer_of};
-use refusal::Cause;
-use text::kept::Kept;
-use text::value::store_value;
-use time::read::{Time, read_time};
-use timestamp::{Timestamp, timestamp_of};
-use tree_put::{put_count, put_text};
-use tree_record::put_bit;
+use read_element::the_integer::{Integer, integer_of};
+pub use read_element::the_read_keys;
+use read_element::the_text::kept::Kept;
+use read_element::the_text::value::store_value;
+use read_element::the_time::read::{Time, read_time};
+use tree_values::the_refusal::Cause;
+use tree_values::the_timestamp::{Timestamp, timestamp_of};
+use tree_values::the_tree_put::{put_count, put_text};
+use tree_values::the_tree_record::put_bit;
+use tree_values::the_uuids::{Uuid, uuid_of};
 use tree_values::{put_moment, put_time, put_uuid};
-use uuids::{Uuid, uuid_of};
 
 // Where the texts end now, or why the value is refused.
 #[derive(Clone, Copy)]

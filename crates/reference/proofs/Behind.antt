@@ -9,14 +9,14 @@ use borrow.Author.Tests.{lt-ltb, le-ltb, ltb-true}
 use lib.Dec.{ltb}
 use lib.ListN.{length, take, length-append}
 use lib.Seq.{length-take-le, take-append_seam}
-use Rattle.area.specs.Answer.{gives, refuses}
+use Rattle.names.specs.of_area.Answer.{gives, refuses}
 use Rattle.reference.specs.Reference.{xml_char, is_named, char_of, named, semicolon, ref_at, bytes_of}
 use Rattle.reference.specs.declared.Ref.{Ref}
 use Rattle.reference.specs.declared.Ref.TheVariants.{Is, Not}
-use Rattle.area.proofs.Answers.{given, refused}
+use Rattle.names.proofs.of_area.Answers.{given, refused}
 use Rattle.reference.proofs.Naming.{char-code}
 use Rattle.reference.proofs.Letters.{named-length, named-xml, named-semicolon}
-use Rattle.refusal.specs.declared.Cause.TheVariants as cause
+use Rattle.names.specs.of_refusal.declared.Cause.TheVariants as cause
 
 -- the reference, from the tests that lead to it
 module _ (s : List ℕ) (e : ℕ) (q : e ≡ semicolon s) where

@@ -5,7 +5,7 @@ use mathlib.Core.List.{List}
 use mathlib.Core.Bool.{true, false}
 use native.Mathlib.Omega.{arith}
 use lib.ListN.{length, take, drop, get_or}
-use Rattle.area.proofs.Parts.{rest_part}
+use Rattle.names.proofs.of_area.Parts.{rest_part}
 use Rattle.reference.specs.Reference.{ref_at, refs_ok}
 use Rattle.reference.specs.declared.Ref.{Ref}
 use Rattle.reference.specs.declared.Ref.TheVariants.{Is, Not}

@@ -8,9 +8,9 @@ use borrow.Author.Tests.{eq-eqb, ne_eqb, not-true}
 use lib.Dec.{eqb, lit≤}
 use lib.ListN.{length, drop, get_or, drop_of_length-le, length-drop, length-append}
 use lib.Seq.{drop-drop, drop-append-add}
-use Rattle.area.proofs.Lists.{drop-next}
-use Rattle.utf8.specs.Characters.{encode}
-use Rattle.utf8.proofs.Encoding.{encode-most}
+use Rattle.names.proofs.of_area.Lists.{drop-next}
+use Rattle.digits.specs.of_utf8.Characters.{encode}
+use Rattle.digits.proofs.of_utf8.Encoding.{encode-most}
 use Rattle.reference.specs.Reference.{is_named, char_of, ref_at, is_ref, code_of, bytes_of, refs_ok, decoded, no_ampersand}
 use Rattle.reference.specs.declared.Ref.{Ref}
 use Rattle.reference.specs.declared.Ref.TheVariants.{Is, Not}

@@ -2,13 +2,13 @@
 use mathlib.Core.Path.{◌≡◌, refl}
 use mathlib.Core.List.{[], ◌∷◌}
 use mathlib.Core.Bool.{false}
-use Rattle.area.specs.Answer.{gives, refuses}
-use Rattle.utf8.specs.Characters.{encode}
+use Rattle.names.specs.of_area.Answer.{gives, refuses}
+use Rattle.digits.specs.of_utf8.Characters.{encode}
 use Rattle.digits.specs.Digits.{digit, is_number}
 use Rattle.names.specs.Bytes.{bytes}
 use Rattle.names.specs.Names.{same_bytes, code_from}
 use Rattle.reference.specs.Reference.{xml_char, entities, entity_chars, is_entity, entity_char, entity_of, base, digits_in, number, is_char_ref, unnamed, ref_at, good_refs, decodes}
-use Rattle.refusal.specs.declared.Cause.TheVariants as cause
+use Rattle.names.specs.of_refusal.declared.Cause.TheVariants as cause
 
 -- a&#x20AC;&lt;
 euro : decodes (0x61 ∷ 0x26 ∷ 0x23 ∷ 0x78 ∷ 0x32 ∷ 0x30 ∷ 0x41 ∷ 0x43 ∷ 0x3B ∷ 0x26 ∷ 0x6C ∷ 0x74 ∷ 0x3B ∷ []) ≡ 0x61 ∷ 0xE2 ∷ 0x82 ∷ 0xAC ∷ 0x3C ∷ []

@@ -8,12 +8,12 @@ use borrow.Author.Tests.{ne_eqb, leb-true, eqb-true}
 use lib.Dec.{leb, eqb, lit≤}
 use lib.ListN.{take, drop, get_or}
 use lib.Seq.{split_at}
-use Rattle.utf8.specs.Utf8.{need, low, high, within, ok, utf8}
-use Rattle.utf8.specs.Characters.{encode}
-use Rattle.area.proofs.Seeking.{at_first}
-use Rattle.utf8.proofs.Runs.{ok-zero, low-least}
-use Rattle.utf8.proofs.Rules.{ascii-on, ascii_append}
-use Rattle.utf8.proofs.Encoding.{utf8_encode}
+use Rattle.digits.specs.of_utf8.Utf8.{need, low, high, within, ok, utf8}
+use Rattle.digits.specs.of_utf8.Characters.{encode}
+use Rattle.names.proofs.of_area.Seeking.{at_first}
+use Rattle.digits.proofs.of_utf8.Runs.{ok-zero, low-least}
+use Rattle.digits.proofs.of_utf8.Rules.{ascii-on, ascii_append}
+use Rattle.digits.proofs.of_utf8.Encoding.{utf8_encode}
 use Rattle.reference.specs.Reference.{semicolon, ref_at, code_of, bytes_of, decoded}
 use Rattle.reference.specs.declared.Ref.{Ref}
 use Rattle.reference.specs.declared.Ref.TheVariants.{Is, Not}

@@ -8,7 +8,7 @@ use native.Mathlib.Omega.{arith}
 use borrow.Author.Tests.{lt-ltb, ltb-true, le-leb, leb-true, ne_eqb, eqb-true, not-true}
 use lib.Dec.{ltb, leb, eqb}
 use lib.ListN.{length, get_or}
-use Rattle.utf8.specs.inside.Ascii.{ascii}
+use Rattle.digits.specs.of_utf8.inside.Ascii.{ascii}
 use Rattle.digits.specs.Digits.{is_digit, all_digits, is_number}
 use Rattle.digits.proofs.Ascii.{digit-class}
 use Rattle.digits.proofs.Numbers.{number-parts}

@@ -8,15 +8,15 @@ use native.Mathlib.Decide.{dec_lt}
 use borrow.Author.Tests.{lt-ltb, lt-leb, eq-eqb, ne_eqb}
 use lib.Dec.{eqb}
 use lib.ListN.{length, drop, get_or}
-use Rattle.area.specs.Answer.{Answer, gives, refuses}
+use Rattle.names.specs.of_area.Answer.{Answer, gives, refuses}
 use Rattle.digits.specs.Digits.{is_number, number_in}
 use Rattle.digits.specs.declared.Number.TheVariants.{Is, Not}
 use Rattle.digits.proofs.Numbers.{is-number, not-number, number-empty}
 use Rattle.names.specs.Names.{code_in, cut}
 use Rattle.names.proofs.NameLaws.{code-most}
 use Rattle.reference.specs.Reference.{xml_char, entities, entity_chars, is_entity, entity_char, entity_of, base, digits_in, number, is_char_ref, named}
-use Rattle.area.proofs.Answers.{given, refused}
-use Rattle.refusal.specs.declared.Cause.TheVariants as cause
+use Rattle.names.proofs.of_area.Answers.{given, refused}
+use Rattle.names.specs.of_refusal.declared.Cause.TheVariants as cause
 
 -- the names as the code has them, one behind the other, with their lengths
 abbrev letters : List ℕ

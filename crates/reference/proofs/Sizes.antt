@@ -8,9 +8,9 @@ use native.Mathlib.Decide.{dec_lt}
 use borrow.Author.Tests.{ltb-true}
 use lib.Dec.{eqb, lit<}
 use lib.ListN.{length}
-use Rattle.utf8.specs.Characters.{is_scalar, encode}
-use Rattle.utf8.proofs.Forms.{form-0, form-1, form-2}
-use Rattle.utf8.proofs.Encoding.{encode-most}
+use Rattle.digits.specs.of_utf8.Characters.{is_scalar, encode}
+use Rattle.digits.proofs.of_utf8.Forms.{form-0, form-1, form-2}
+use Rattle.digits.proofs.of_utf8.Encoding.{encode-most}
 use Rattle.digits.specs.Digits.{digit, is_digit, all_digits, value, is_number}
 use Rattle.digits.proofs.Numbers.{number-parts}
 use Rattle.reference.specs.Reference.{xml_char, is_entity, entity_char, is_numeric, base, digits_in, number, is_char_ref, is_named, char_of}

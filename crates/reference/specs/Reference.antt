@@ -1,9 +1,9 @@
 -- References (XML 1.0, fifth edition, sections 2.2, 4.1 and 4.6), what a value with references stands for, and what refuses a Ref
 -- event's name (rules X3 to X7). Definitions only.
 use Rattle.std.specs.Prelude.{ℕ, zero, suc, ◌-◌, List, [], ◌∷◌, ◌++◌, Bool, true, false, cond, ◌&&◌, ◌||◌, not, length, take, drop, get_or, ltb, leb, eqb}
-use Rattle.area.specs.Answer.{Answer, gives, refuses}
-use Rattle.area.specs.Area.{first_at}
-use Rattle.utf8.specs.Characters.{encode}
+use Rattle.names.specs.of_area.Answer.{Answer, gives, refuses}
+use Rattle.names.specs.of_area.Area.{first_at}
+use Rattle.digits.specs.of_utf8.Characters.{encode}
 use Rattle.digits.specs.Digits.{value, is_number}
 use Rattle.names.specs.Bytes.{bytes}
 use Rattle.names.specs.Names.{code_in}
@@ -13,8 +13,8 @@ use Rattle.reference.specs.declared.Named.{Named}
 use Rattle.reference.specs.declared.Named.TheVariants as of-name
 use Rattle.reference.specs.declared.Ref.{Ref}
 use Rattle.reference.specs.declared.Ref.TheVariants.{Is, Not}
-use Rattle.refusal.specs.declared.Cause.{Cause}
-use Rattle.refusal.specs.declared.Cause.TheVariants as cause
+use Rattle.names.specs.of_refusal.declared.Cause.{Cause}
+use Rattle.names.specs.of_refusal.declared.Cause.TheVariants as cause
 
 -- section 2.2: Char ::= #x9 | #xA | #xD | [#x20-#xD7FF] | [#xE000-#xFFFD] | [#x10000-#x10FFFF], rule X4
 unfoldable pub xml_char : ℕ → Bool

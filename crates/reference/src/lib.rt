@@ -2,12 +2,13 @@
 #![tactic(auto)]
 
 ghost use Rattle.std.specs.Prelude.{◌≡◌, cond, ◌≤◌, length};
-ghost use Rattle.area.specs.Answer.{gives, refuses};
+ghost use Rattle.names.specs.of_area.Answer.{gives, refuses};
 ghost use Rattle.digits.specs.Digits.{number_in};
 ghost use Rattle.reference.specs.Reference.{xml_char, entity_answer, entity_of, base, digits_in, number, is_char_ref, named_answer, named, ref_at, refs_ok};
-ghost use Rattle.refusal.specs.declared.Cause.TheVariants as cause;
+ghost use Rattle.names.specs.of_refusal.declared.Cause.TheVariants as cause;
 
 use digits::Number;
+pub use names as the_names;
 
 // The character of one of the five names.
 #[derive(Clone, Copy)]
@@ -106,7 +107,7 @@ pub fn named_by(name: &[u8]) -> Named
 pub fn ref_at(s: &[u8]) -> Ref
     ensures { result ≡ ref_at s.now }
 {
-    let e = area::first_at(s, 0x3b);
+    let e = names::the_area::first_at(s, 0x3b);
     if s.len() <= e {
         return Ref::Not;
     }

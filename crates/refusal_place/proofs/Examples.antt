@@ -3,7 +3,7 @@ use Prim.Native.Nat.{ℕ}
 use mathlib.Core.Path.{◌≡◌, refl}
 use mathlib.Core.List.{List, [], ◌∷◌}
 use mathlib.Core.Bool.{true, false}
-use Rattle.refusal.specs.Refusal.{nowhere}
+use Rattle.table.specs.of_refusal.Refusal.{nowhere}
 use Rattle.refusal_place.specs.Place.{root_from, byte_of}
 
 -- an Other, a Start with both attributes, an End without bytes

@@ -1,1 +1,2 @@
 pub mod Place
+pub use Rattle.table.specs as of_table

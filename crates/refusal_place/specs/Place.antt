@@ -1,6 +1,6 @@
 -- The byte of a table's source where a refusal arose (rule F14). Definitions only.
 use Rattle.std.specs.Prelude.{ℕ, zero, suc, ◌+◌, ◌≤◌, ◌<◌, ◌≡◌, List, Bool, cond, not, ◌&&◌, ◌⊎◌, leb, eqb, length}
-use Rattle.refusal.specs.Refusal.{nowhere}
+use Rattle.table.specs.of_refusal.Refusal.{nowhere}
 use Rattle.table.specs.Kinds as kind
 use Rattle.table.specs.Table.{word, count_of, check_of}
 use Rattle.table.specs.declared.Checked.TheVariants.{Good}

@@ -4,10 +4,10 @@
 ghost use Rattle.std.specs.Prelude.{◌≡◌, Bool, length};
 ghost use Rattle.refusal_place.specs.Place.{attribute_byte, event_byte, root_byte, byte_of};
 
-use area::wide;
-use refusal::NOWHERE;
 use table::kind;
-use table_parts::word_of;
+use table::the_area::wide;
+use table::the_refusal::NOWHERE;
+use table::the_table_parts::word_of;
 
 // Stands for no byte.
 const NO_BYTE: usize = 4294967295;

@@ -6,10 +6,10 @@ use mathlib.Core.List.{List, [], ◌∷◌}
 use mathlib.Core.Option.{none, some}
 use mathlib.Core.Path.{◌≡◌, refl}
 use lib.ListN.{set}
-use Rattle.area.specs.Area.{zeros}
-use Rattle.names.specs.Bytes.{bytes}
-use Rattle.names.specs.Keys as key
-use Rattle.calendar.specs.Calendar.{month_length, is_leap}
+use Rattle.timestamp.specs.of_area.Area.{zeros}
+use Rattle.timestamp.specs.of_names.Bytes.{bytes}
+use Rattle.timestamp.specs.of_names.Keys as key
+use Rattle.timestamp.specs.of_calendar.Calendar.{month_length, is_leap}
 use Rattle.timestamp.specs.Timestamp.{in_range}
 use Rattle.timestamp.specs.declared.Moment.{Moment}
 use Rattle.tree_record.specs.Kinds as kind

@@ -12,7 +12,7 @@ use lib.Dec.{leb, eqb}
 use lib.Pow.{pow-add}
 use lib.ListN.{length, get_or, take, drop, length-append}
 use lib.Seq.{take_at, drop-drop, drop-append_seam, get_or-drop, get_or-append-add, get_or-append_seam}
-use Rattle.area.specs.Area.{zeros}
+use Rattle.timestamp.specs.of_area.Area.{zeros}
 use Rattle.schema.specs.Records.{zero_at, all_zero}
 use Rattle.schema.specs.Records.{flags_of}
 use Rattle.schema.proofs.Tests.{bit-flag}

@@ -10,9 +10,9 @@ use borrow.Author.Tests.{leb-true}
 use lib.Dec.{leb, lit≤}
 use lib.ListN.{length, take, drop, length-append, length-drop}
 use lib.Seq.{take-append-le, drop-append-le}
-use Rattle.area.specs.Area.{zeros}
-use Rattle.utf8.specs.Characters.{boundary}
-use Rattle.utf8.specs.Utf8.{utf8}
+use Rattle.timestamp.specs.of_area.Area.{zeros}
+use Rattle.text_filter.specs.of_utf8.Characters.{boundary}
+use Rattle.text_filter.specs.of_utf8.Utf8.{utf8}
 use Rattle.text_filter.specs.Filter.{dropped, unfiltered}
 use Rattle.schema.specs.Report.{Text}
 use Rattle.schema.specs.Schema.{Form, text, number, time, timestamp, uuid, flag, Presence, always, must, may, unkept, Row, width, width_if, behind, bit_of, after, fine_bit, fine_from, fine}

@@ -10,7 +10,7 @@ use borrow.Author.Tests.{leb-true}
 use lib.Dec.{leb, eqb}
 use lib.ListN.{length, get_or, set, take, drop, length-append}
 use lib.Seq.{take_at, take-append-add, drop-append-add, drop-append_seam}
-use Rattle.area.specs.Area.{zeros}
+use Rattle.timestamp.specs.of_area.Area.{zeros}
 use Rattle.schema.specs.Records.{flags_of}
 use Rattle.schema.proofs.Tests.{bit-flag}
 use Rattle.schema.proofs.Tests.{and_left, and_right}

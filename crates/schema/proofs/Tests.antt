@@ -7,7 +7,7 @@ use native.Mathlib.Nat.{div-div-eq-div-mul, zero-div, pow-succ'}
 use native.Mathlib.Omega.{arith}
 use lib.Dec.{eqb}
 use lib.ListN.{get_or}
-use Rattle.area.specs.Area.{zeros}
+use Rattle.timestamp.specs.of_area.Area.{zeros}
 use Rattle.schema.specs.Records.{all_zero, flags_of}
 
 -- ---- two tests that hold, as one; each of two that hold

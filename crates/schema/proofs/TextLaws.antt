@@ -9,10 +9,10 @@ use borrow.Author.Tests.{le-leb}
 use lib.Dec.{leb}
 use lib.ListN.{length, take, drop, length-append}
 use lib.Seq.{take_at, drop-append_seam}
-use Rattle.utf8.proofs.Boundaries.{boundary-append}
-use Rattle.utf8.proofs.Rules.{utf8_append}
-use Rattle.utf8.specs.Characters.{boundary}
-use Rattle.utf8.specs.Utf8.{utf8}
+use Rattle.text_filter.proofs.of_utf8.Boundaries.{boundary-append}
+use Rattle.text_filter.proofs.of_utf8.Rules.{utf8_append}
+use Rattle.text_filter.specs.of_utf8.Characters.{boundary}
+use Rattle.text_filter.specs.of_utf8.Utf8.{utf8}
 use Rattle.text_filter.specs.Filter.{unfiltered}
 use Rattle.schema.specs.Report.{Text}
 use Rattle.schema.specs.Records.{given}

@@ -1,6 +1,6 @@
 -- Rows of a table by what asks for them: words, bits, names of keys, the order of writing. Definitions only.
 use Rattle.std.specs.Prelude.{ℕ, zero, suc, ◌+◌, List, [], ◌∷◌, ◌++◌, map, Bool, true, false, cond, ◌&&◌, ◌||◌, eqb}
-use Rattle.names.specs.Keys as key
+use Rattle.timestamp.specs.of_names.Keys as key
 use Rattle.schema.specs.Schema.{Form, text, number, time, timestamp, uuid, flag, Presence, always, must, may, unkept, Row}
 
 -- the name of the key with a code

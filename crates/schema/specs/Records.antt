@@ -1,8 +1,8 @@
 -- A record by a table: the fields that it shows, whether it is a layout's, and the words of given fields. Definitions only.
 use Rattle.std.specs.Prelude.{ℕ, zero, suc, ◌+◌, ◌-◌, ◌*◌, ◌/◌, ◌%◌, ◌^◌, List, [], ◌∷◌, ◌++◌, Bool, true, false, cond, ◌&&◌, length, get_or, take, drop, leb, eqb}
 use Rattle.std.proofs.Math.Option.{Option, none, some}
-use Rattle.area.specs.Area.{zeros}
-use Rattle.utf8.specs.Characters.{boundary}
+use Rattle.timestamp.specs.of_area.Area.{zeros}
+use Rattle.text_filter.specs.of_utf8.Characters.{boundary}
 use Rattle.timestamp.specs.Timestamp.{in_range}
 use Rattle.timestamp.specs.declared.Moment.{Moment}
 use Rattle.uuids.specs.declared.Words.{Words}

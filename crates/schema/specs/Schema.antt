@@ -1,7 +1,7 @@
 -- What stands where in a record, docs/TREE.md, "Records": one row for each field of an element. Definitions only.
 use Rattle.std.specs.Prelude.{ℕ, ◌+◌, List, [], ◌∷◌, Bool, true, cond, ◌&&◌, leb, eqb}
 use Rattle.std.proofs.Math.Option.{Option, none, some}
-use Rattle.names.specs.Keys as key
+use Rattle.timestamp.specs.of_names.Keys as key
 use Rattle.tree_record.specs.Kinds as kind
 
 -- a text, a count, a time, a timestamp, a UUID; a bit alone

@@ -1,7 +1,7 @@
 -- Fields with texts against fields with places in the text area. Definitions only.
 use Rattle.std.specs.Prelude.{ℕ, ◌+◌, List, [], ◌∷◌, ◌++◌, Bool, true, ◌&&◌, ◌≡◌, length, take, drop, leb}
 use Rattle.std.proofs.Math.Option.{none, some}
-use Rattle.utf8.specs.Utf8.{utf8}
+use Rattle.text_filter.specs.of_utf8.Utf8.{utf8}
 use Rattle.text_filter.specs.Filter.{unfiltered}
 use Rattle.timestamp.specs.Timestamp.{in_range}
 use Rattle.schema.specs.Report.{Text}

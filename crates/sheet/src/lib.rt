@@ -5,8 +5,8 @@
 ghost use Rattle.std.specs.Prelude.{◌≡◌};
 ghost use Rattle.sheet_sums.specs.Sheet.{release_sheet, released_from};
 
+use sheet_sums::the_tree_counts::Counts;
 use sheet_sums::{Released, add, begin, finish, taken};
-use tree_counts::Counts;
 
 // By rules C4 to C6.
 pub fn release_sheet(records: &[Counts]) -> Released

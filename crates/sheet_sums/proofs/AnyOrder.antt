@@ -6,8 +6,8 @@ use mathlib.Core.List.{List, [], ◌∷◌, ◌++◌}
 use native.Mathlib.Omega.{arith}
 use lib.Dec.{leb}
 use lib.ListN.{length}
-use Rattle.refusal.specs.Refusal.{refused, late}
-use Rattle.refusal.specs.declared.Cause.TheVariants as cause
+use Rattle.tree_counts.specs.of_refusal.Refusal.{refused, late}
+use Rattle.tree_counts.specs.of_refusal.declared.Cause.TheVariants as cause
 use Rattle.tree_counts.specs.Counts.{disabled_of, added}
 use Rattle.tree_counts.specs.declared.Counts.{Counts}
 use Rattle.tree_counts.proofs.Order.{disabled-added}

@@ -4,9 +4,9 @@ use mathlib.Core.Path.{◌≡◌, refl}
 use mathlib.Core.Bool.{true, false}
 use mathlib.Core.List.{List, [], ◌∷◌}
 use lib.ListN.{replicate}
-use Rattle.refusal.specs.Refusal.{Outcome, accepted, refused, late, empty_path}
-use Rattle.refusal.specs.declared.Cause.TheVariants as cause
-use Rattle.refusal.specs.declared.Verdict.TheVariants.{Refused}
+use Rattle.tree_counts.specs.of_refusal.Refusal.{Outcome, accepted, refused, late, empty_path}
+use Rattle.tree_counts.specs.of_refusal.declared.Cause.TheVariants as cause
+use Rattle.tree_counts.specs.of_refusal.declared.Verdict.TheVariants.{Refused}
 use Rattle.tree_counts.specs.declared.Counts.{Counts}
 use Rattle.sheet_sums.specs.declared.Sheet.{Sheet}
 use Rattle.sheet_sums.specs.Sheet.{no_counts, no_sheet, release_sheet, released_from}

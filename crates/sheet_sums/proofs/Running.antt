@@ -7,12 +7,12 @@ use native.Mathlib.Nat.{not-suc-le-zero, le_of_suc-le-suc}
 use native.Mathlib.Omega.{arith}
 use lib.Dec.{leb}
 use lib.ListN.{length, get_or, take}
-use Rattle.refusal.specs.Refusal.{Outcome, accepted, refused, late, no_refusal, refusal_from}
-use Rattle.refusal.specs.declared.Cause.{Cause}
-use Rattle.refusal.specs.declared.Cause.TheVariants as cause
-use Rattle.refusal.specs.declared.Refusal.{Refusal}
-use Rattle.refusal.specs.declared.Verdict.{Verdict}
-use Rattle.refusal.specs.declared.Verdict.TheVariants.{Accepted, Refused}
+use Rattle.tree_counts.specs.of_refusal.Refusal.{Outcome, accepted, refused, late, no_refusal, refusal_from}
+use Rattle.tree_counts.specs.of_refusal.declared.Cause.{Cause}
+use Rattle.tree_counts.specs.of_refusal.declared.Cause.TheVariants as cause
+use Rattle.tree_counts.specs.of_refusal.declared.Refusal.{Refusal}
+use Rattle.tree_counts.specs.of_refusal.declared.Verdict.{Verdict}
+use Rattle.tree_counts.specs.of_refusal.declared.Verdict.TheVariants.{Accepted, Refused}
 use Rattle.tree_counts.specs.Counts.{are_counts, disabled_of, added, with_suite, counted_from}
 use Rattle.tree_counts.specs.declared.Counts.{Counts}
 use Rattle.tree_counts.specs.declared.Counted.{Counted}

@@ -1,7 +1,7 @@
 -- The release sheet: what a list of counts, one a report, comes to (rules C4 to C6 and C9). Definitions only.
 use Rattle.std.specs.Prelude.{ℕ, ◌+◌, ◌-◌, false, cond, List, [], ◌∷◌, length, leb}
-use Rattle.refusal.specs.Refusal.{Outcome, accepted, refused, late, verdict_of, refusal_of}
-use Rattle.refusal.specs.declared.Cause.TheVariants as cause
+use Rattle.tree_counts.specs.of_refusal.Refusal.{Outcome, accepted, refused, late, verdict_of, refusal_of}
+use Rattle.tree_counts.specs.of_refusal.declared.Cause.TheVariants as cause
 use Rattle.tree_counts.specs.Counts.{are_counts, added}
 use Rattle.tree_counts.specs.declared.Counts.{Counts}
 use Rattle.sheet_sums.specs.declared.Sheet.{Sheet}

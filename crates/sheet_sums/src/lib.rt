@@ -2,12 +2,13 @@
 #![tactic(auto)]
 
 ghost use Rattle.std.specs.Prelude.{◌≡◌};
-ghost use Rattle.refusal.specs.Refusal.{refused, late};
+ghost use Rattle.tree_counts.specs.of_refusal.Refusal.{refused, late};
 ghost use Rattle.sheet_sums.specs.Sheet.{passed_of, released_from};
 ghost use Rattle.sheet_sums.specs.inside.Running.{taken_of, begun, totalled, finished};
 
-use refusal::{Cause, Refusal, Verdict, no_refusal, refuse_late};
+pub use tree_counts as the_tree_counts;
 use tree_counts::Counts;
+use tree_counts::the_refusal::{Cause, Refusal, Verdict, no_refusal, refuse_late};
 
 // At most so many are summed (rule C4).
 pub const MOST_REPORTS: usize = 4096;

@@ -5,24 +5,24 @@ use mathlib.Core.Bool.{Bool, true, false, cond}
 use mathlib.Core.List.{List, ◌∷◌, ◌++◌, append_assoc}
 use lib.Dec.{leb}
 use lib.ListN.{length, length-replicate}
-use Rattle.refusal.specs.Refusal.{Outcome, accepted, refused, late, no_refusal}
-use Rattle.refusal.specs.declared.Refusal.{Refusal}
-use Rattle.refusal.specs.declared.Verdict.{Verdict}
-use Rattle.refusal.specs.declared.Verdict.TheVariants.{Accepted, Refused}
-use Rattle.refusal.specs.declared.Cause.TheVariants as cause
-use Rattle.area.specs.Answer.{Answer, gives, refuses}
-use Rattle.area.specs.Area.{zeros, placing, laid}
-use Rattle.area.specs.declared.Stored.TheVariants.{Put, Full}
-use Rattle.names.specs.Bytes.{bytes}
-use Rattle.digits.specs.Digits.{decimal}
+use Rattle.list_text.specs.of_refusal.Refusal.{Outcome, accepted, refused, late, no_refusal}
+use Rattle.list_text.specs.of_refusal.declared.Refusal.{Refusal}
+use Rattle.list_text.specs.of_refusal.declared.Verdict.{Verdict}
+use Rattle.list_text.specs.of_refusal.declared.Verdict.TheVariants.{Accepted, Refused}
+use Rattle.list_text.specs.of_refusal.declared.Cause.TheVariants as cause
+use Rattle.list_text.specs.of_area.Answer.{Answer, gives, refuses}
+use Rattle.list_text.specs.of_area.Area.{zeros, placing, laid}
+use Rattle.list_text.specs.of_area.declared.Stored.TheVariants.{Put, Full}
+use Rattle.list_text.specs.of_names.Bytes.{bytes}
+use Rattle.list_text.specs.of_digits.Digits.{decimal}
 use Rattle.list_text.specs.Listing.{outcome_of, output_for}
 use Rattle.list_text.specs.inside.Behind.{Filled, filled, behind, Puts}
 use Rattle.list_text.proofs.Answering.{from_start}
 use Rattle.sheet_sums.specs.declared.Sheet.{Sheet}
 use Rattle.sheet_sums.specs.declared.Released.{Released}
 use Rattle.sheet_sums.specs.Sheet.{sum_of, sheet_of, release_sheet, released_from}
-use Rattle.tree_counts.specs.declared.Counts.{Counts}
-use Rattle.tree_counts.specs.Counts.{are_counts}
+use Rattle.sheet_sums.specs.of_tree_counts.declared.Counts.{Counts}
+use Rattle.sheet_sums.specs.of_tree_counts.Counts.{are_counts}
 use Rattle.sheet_text.specs.declared.Printed.{Printed}
 use Rattle.sheet_text.specs.Printed.{line, or_missing, share, sheet_text, printing, sheet_area, said_by, outcome_in, printed_from}
 

@@ -4,12 +4,12 @@ use mathlib.Core.Path.{◌≡◌, refl}
 use mathlib.Core.Bool.{Bool, true, false}
 use mathlib.Core.List.{List, [], ◌++◌}
 use lib.ListN.{length}
-use Rattle.refusal.specs.Refusal.{accepted, refused, late, empty_path, no_refusal}
-use Rattle.refusal.specs.declared.Cause.TheVariants as cause
-use Rattle.refusal.specs.declared.Verdict.TheVariants.{Accepted, Refused}
-use Rattle.area.specs.Area.{zeros}
-use Rattle.names.specs.Bytes.{bytes}
-use Rattle.digits.specs.Digits.{digit, places, decimal}
+use Rattle.list_text.specs.of_refusal.Refusal.{accepted, refused, late, empty_path, no_refusal}
+use Rattle.list_text.specs.of_refusal.declared.Cause.TheVariants as cause
+use Rattle.list_text.specs.of_refusal.declared.Verdict.TheVariants.{Accepted, Refused}
+use Rattle.list_text.specs.of_area.Area.{zeros}
+use Rattle.list_text.specs.of_names.Bytes.{bytes}
+use Rattle.list_text.specs.of_digits.Digits.{digit, places, decimal}
 use Rattle.sheet_sums.specs.declared.Sheet.{Sheet}
 use Rattle.sheet_sums.specs.Sheet.{release_sheet}
 use Rattle.sheet_text.specs.Printed.{sheet_text, printing, sheet_area, printed_from}

@@ -1,13 +1,13 @@
 -- The release sheet as text, and what printing it answers and leaves (rules C8 and C9). Definitions only.
 use Rattle.std.specs.Prelude.{ℕ, Bool, cond, List, ◌∷◌, ◌++◌}
-use Rattle.refusal.specs.Refusal.{Outcome, accepted, refused, late, verdict_of, refusal_of}
-use Rattle.refusal.specs.declared.Cause.{Cause}
-use Rattle.refusal.specs.declared.Cause.TheVariants as cause
-use Rattle.refusal.specs.declared.Verdict.{Verdict}
-use Rattle.refusal.specs.declared.Verdict.TheVariants.{Accepted, Refused}
-use Rattle.area.specs.Area.{zeros, placing}
-use Rattle.names.specs.Bytes.{bytes}
-use Rattle.digits.specs.Digits.{decimal}
+use Rattle.list_text.specs.of_refusal.Refusal.{Outcome, accepted, refused, late, verdict_of, refusal_of}
+use Rattle.list_text.specs.of_refusal.declared.Cause.{Cause}
+use Rattle.list_text.specs.of_refusal.declared.Cause.TheVariants as cause
+use Rattle.list_text.specs.of_refusal.declared.Verdict.{Verdict}
+use Rattle.list_text.specs.of_refusal.declared.Verdict.TheVariants.{Accepted, Refused}
+use Rattle.list_text.specs.of_area.Area.{zeros, placing}
+use Rattle.list_text.specs.of_names.Bytes.{bytes}
+use Rattle.list_text.specs.of_digits.Digits.{decimal}
 use Rattle.list_text.specs.Listing.{outcome_of, output_for}
 use Rattle.sheet_sums.specs.declared.Sheet.{Sheet}
 use Rattle.sheet_sums.specs.declared.Released.{Released}

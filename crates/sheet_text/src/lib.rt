@@ -2,16 +2,19 @@
 #![tactic(auto)]
 
 ghost use Rattle.std.specs.Prelude.{◌≡◌, length};
-ghost use Rattle.refusal.specs.Refusal.{refused, late};
-ghost use Rattle.area.specs.declared.Stored.TheVariants.{Put};
-ghost use Rattle.names.specs.Bytes.{bytes};
-ghost use Rattle.digits.specs.Digits.{decimal};
+ghost use Rattle.list_text.specs.of_refusal.Refusal.{refused, late};
+ghost use Rattle.list_text.specs.of_area.declared.Stored.TheVariants.{Put};
+ghost use Rattle.list_text.specs.of_names.Bytes.{bytes};
+ghost use Rattle.list_text.specs.of_digits.Digits.{decimal};
 ghost use Rattle.list_text.specs.inside.Behind.{filled, Puts};
 ghost use Rattle.sheet_text.specs.Printed.{line, or_missing, share, sheet_text, outcome_in, printing, sheet_area, printed_from};
 
-use area::Stored;
+use list_text::the_area::Stored;
+pub use list_text::the_refusal;
+use list_text::the_refusal::{Cause, Refusal, Verdict, no_refusal, refuse_late};
 use list_text::{put, put_decimal};
-use refusal::{Cause, Refusal, Verdict, no_refusal, refuse_late};
+pub use sheet_sums as the_sheet_sums;
+pub use sheet_sums::the_tree_counts;
 use sheet_sums::{Released, Sheet};
 
 // How many bytes the sheet has, or why there is none.
@@ -75,7 +78,7 @@ pub fn print_sheet(released: Released, out: &mut [u8]) -> Printed
     ensures value { result ≡ printed_from (printing (outcome_in released) (length out.old)) }
     ensures out_after { out.new ≡ sheet_area (outcome_in released) (length out.old) }
 {
-    area::clear(out);
+    list_text::the_area::clear(out);
     let verdict = released.verdict;
     let sheet = released.sheet;
     let why = released.refusal;
@@ -85,7 +88,7 @@ pub fn print_sheet(released: Released, out: &mut [u8]) -> Printed
     };
     let put = put_sheet(out, sheet);
     let Stored::Put(length) = put else {
-        area::clear(out);
+        list_text::the_area::clear(out);
         return refuse(Cause::OutputFull);
     };
     Printed {

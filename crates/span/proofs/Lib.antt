@@ -1,1 +1,2 @@
 pub mod Numbers
+pub use Rattle.instant.proofs as of_instant

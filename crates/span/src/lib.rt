@@ -4,6 +4,8 @@
 ghost use Rattle.std.specs.Prelude.{◌≡◌, ◌-◌};
 ghost use Rattle.span.specs.inside.Span as span;
 
+pub use instant as the_instant;
+pub use instant::the_timestamp;
 use instant::{Instant, less};
 
 pub fn sooner(a: Instant, b: Instant) -> bool

@@ -1,5 +1,5 @@
 -- What stands where there is no moment. Definitions only.
-use Rattle.timestamp.specs.declared.Moment.{Moment}
+use Rattle.span.specs.of_timestamp.declared.Moment.{Moment}
 
 -- of no day: months and days begin at 1
 abbrev pub no_moment : Moment

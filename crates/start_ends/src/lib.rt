@@ -2,15 +2,19 @@
 #![tactic(auto)]
 
 ghost use Rattle.std.specs.Prelude.{◌≡◌, eqb};
-ghost use Rattle.tree_record.specs.Kinds as kinds;
+ghost use Rattle.tree_stamp.specs.of_tree_record.Kinds as kinds;
 ghost use Rattle.start_ends.specs.Nothing.{no_moment};
 ghost use Rattle.start_ends.specs.inside.Ends as ends;
 
-use instant::{Instant, instant_by};
+pub use span as the_span;
 use span::sooner;
-use timestamp::Moment;
-use tree_record::{bit, field, has_bit, kind, word};
+pub use span::the_instant;
+use span::the_instant::{Instant, instant_by};
+use span::the_timestamp::Moment;
+pub use tree_stamp as the_tree_stamp;
 use tree_stamp::moment_of;
+pub use tree_stamp::the_days;
+use tree_stamp::the_tree_record::{bit, field, has_bit, kind, word};
 
 #[derive(Clone, Copy)]
 pub struct Start {

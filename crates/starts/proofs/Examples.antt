@@ -4,12 +4,12 @@ use mathlib.Core.Path.{◌≡◌, refl}
 use mathlib.Core.Bool.{true}
 use mathlib.Core.List.{List, [], ◌∷◌}
 use mathlib.Core.Option.{Option, none, some}
-use Rattle.calendar.specs.Calendar.{is_leap, month_length}
-use Rattle.days.specs.Days.{days_before}
-use Rattle.days.specs.Dates.{days_before_month, day_number}
-use Rattle.timestamp.specs.declared.Moment.{Moment}
-use Rattle.instant.specs.Instant.{instant_of}
-use Rattle.tree_report.specs.Report.{Counts, failure, success, TestCase, TestSuite, Report}
+use Rattle.tree_layout.specs.of_calendar.Calendar.{is_leap, month_length}
+use Rattle.start_ends.specs.of_days.Days.{days_before}
+use Rattle.start_ends.specs.of_days.Dates.{days_before_month, day_number}
+use Rattle.tree_layout.specs.of_timestamp.declared.Moment.{Moment}
+use Rattle.start_ends.specs.of_instant.Instant.{instant_of}
+use Rattle.tree_layout.specs.of_tree_report.Report.{Counts, failure, success, TestCase, TestSuite, Report}
 use Rattle.starts.specs.Starts.{nanos_to, not_found_of, starts_in, report_moments}
 
 -- on the 2nd of January 0001

@@ -4,11 +4,11 @@ use mathlib.Core.Path.{◌≡◌, refl}
 use mathlib.Core.Bool.{true, false}
 use mathlib.Core.List.{List, [], ◌∷◌}
 use native.Mathlib.Omega.{arith}
-use Rattle.refusal.specs.Refusal.{accepted, refused, late}
-use Rattle.refusal.specs.declared.Cause.TheVariants as cause
-use Rattle.timestamp.specs.declared.Moment.{Moment}
-use Rattle.tree_report.specs.Layout.{layout}
-use Rattle.tree_report.specs.ReportOf.{report_of}
+use Rattle.tree_layout.specs.of_refusal.Refusal.{accepted, refused, late}
+use Rattle.tree_layout.specs.of_refusal.declared.Cause.TheVariants as cause
+use Rattle.tree_layout.specs.of_timestamp.declared.Moment.{Moment}
+use Rattle.tree_layout.specs.of_tree_report.Layout.{layout}
+use Rattle.tree_layout.specs.of_tree_report.ReportOf.{report_of}
 use Rattle.starts.specs.Starts.{nanos_to, earliest, latest, not_found_of, between, starts_in, report_moments, starts_of}
 use Rattle.starts.specs.FirstLast.{Spans, FirstLast}
 use Rattle.starts.proofs.Winning.{first-wins, earlier-order, later-order, in_order}

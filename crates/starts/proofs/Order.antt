@@ -6,11 +6,11 @@ use mathlib.Core.Bool.{Bool, true, false, cond, and-eq-true_iff, true≢false}
 use mathlib.Core.Option.{Option, none, some}
 use native.Mathlib.Omega.{arith}
 use borrow.Author.Tests.{eqb-true, lt-ltb, ne_eqb}
-use Rattle.timestamp.specs.declared.Moment.{Moment}
-use Rattle.tree_report.specs.Report.{TestCase}
-use Rattle.tree_report.specs.Fields.{kind_of, live, is_report, is_suite, is_case, is_suite_extra, is_case_extra, is_suite_property, is_case_property, timestamp}
-use Rattle.tree_report.specs.Layout.{Open, nothing, opened, may_end, may_follow, following, good_order}
-use Rattle.tree_report.specs.ReportOf.{only, until, branches, case_of, suite_of, report_from}
+use Rattle.tree_layout.specs.of_timestamp.declared.Moment.{Moment}
+use Rattle.tree_layout.specs.of_tree_report.Report.{TestCase}
+use Rattle.tree_layout.specs.of_tree_report.Fields.{kind_of, live, is_report, is_suite, is_case, is_suite_extra, is_case_extra, is_suite_property, is_case_property, timestamp}
+use Rattle.tree_layout.specs.of_tree_report.Layout.{Open, nothing, opened, may_end, may_follow, following, good_order}
+use Rattle.tree_layout.specs.of_tree_report.ReportOf.{only, until, branches, case_of, suite_of, report_from}
 use Rattle.starts.specs.Starts.{cases_of, behind, moments_of, report_moments}
 
 -- the timestamps of the case records

@@ -6,20 +6,20 @@ use mathlib.Core.Bool.{Bool, true, false, cond, ◌&&◌, and-eq-true_iff}
 use borrow.Author.Tests.{eqb-true}
 use lib.Dec.{ltb}
 use lib.ListN.{get_or}
-use Rattle.timestamp.specs.declared.Moment.{Moment}
-use Rattle.timestamp.specs.Timestamp.{in_range}
-use Rattle.timestamp.proofs.Ranges.{range-facts}
-use Rattle.instant.specs.Instant.{instant_of}
-use Rattle.tree_record.specs.Bits as bit
-use Rattle.tree_record.specs.Words as word
-use Rattle.tree_report.specs.Fields.{kind_of, is_case, has_bit, timestamp, moment_of}
-use Rattle.tree_report.specs.Layout.{zero_at, good_record, all_good}
-use Rattle.tree_report.specs.inside.Parts.{slot, text_slot, moment_slot, time_slot, only_bits, case_bits, good_common, good_outputs, good_case}
-use Rattle.tree_report.proofs.ByTable as table
-use Rattle.tree_stamp.specs.Stamp.{cut_moment}
-use Rattle.tree_stamp.proofs.Layouts.{moment-own}
-use Rattle.span.specs.inside.Span.{sooner}
-use Rattle.span.proofs.Numbers.{as_number, as-seconds, as_nanos}
+use Rattle.tree_layout.specs.of_timestamp.declared.Moment.{Moment}
+use Rattle.tree_layout.specs.of_timestamp.Timestamp.{in_range}
+use Rattle.tree_layout.proofs.of_timestamp.Ranges.{range-facts}
+use Rattle.start_ends.specs.of_instant.Instant.{instant_of}
+use Rattle.tree_layout.specs.of_tree_record.Bits as bit
+use Rattle.tree_layout.specs.of_tree_record.Words as word
+use Rattle.tree_layout.specs.of_tree_report.Fields.{kind_of, is_case, has_bit, timestamp, moment_of}
+use Rattle.tree_layout.specs.of_tree_report.Layout.{zero_at, good_record, all_good}
+use Rattle.tree_layout.specs.of_tree_report.inside.Parts.{slot, text_slot, moment_slot, time_slot, only_bits, case_bits, good_common, good_outputs, good_case}
+use Rattle.tree_layout.proofs.of_tree_report.ByTable as table
+use Rattle.start_ends.specs.of_tree_stamp.Stamp.{cut_moment}
+use Rattle.start_ends.proofs.of_tree_stamp.Layouts.{moment-own}
+use Rattle.start_ends.specs.of_span.inside.Span.{sooner}
+use Rattle.start_ends.proofs.of_span.Numbers.{as_number, as-seconds, as_nanos}
 use Rattle.start_ends.specs.declared.Ends.{Ends}
 use Rattle.start_ends.specs.inside.Ends.{start_of, no_ends, with_start, with_record, ends_from}
 use Rattle.starts.specs.Starts.{nanos_to, is_earlier, is_later, first_by, earliest, latest, behind, between, starts_in}

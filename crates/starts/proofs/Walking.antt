@@ -7,11 +7,11 @@ use native.Mathlib.Omega.{arith}
 use lib.ListN.{length, take, drop}
 use Rattle.list_sums.specs.inside.Rows.{stands, records_in}
 use Rattle.list_sums.proofs.Records.{stands-room, records-here, records-over}
-use Rattle.timestamp.specs.declared.Moment.{Moment}
-use Rattle.days.proofs.Cycle.{table}
-use Rattle.instant.specs.declared.Instant.{Instant}
-use Rattle.instant.proofs.Lent.{by-lent}
-use Rattle.tree_stamp.specs.Stamp.{cut_moment}
+use Rattle.tree_layout.specs.of_timestamp.declared.Moment.{Moment}
+use Rattle.start_ends.proofs.of_days.Cycle.{table}
+use Rattle.start_ends.specs.of_instant.declared.Instant.{Instant}
+use Rattle.start_ends.proofs.of_instant.Lent.{by-lent}
+use Rattle.start_ends.specs.of_tree_stamp.Stamp.{cut_moment}
 use Rattle.start_ends.specs.declared.Ends.{Ends}
 use Rattle.start_ends.specs.declared.Start.{Start}
 use Rattle.start_ends.specs.inside.Ends.{start_of, start_by, no_ends, with_record, ends_from}

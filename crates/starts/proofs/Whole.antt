@@ -4,13 +4,13 @@ use mathlib.Core.Path.{◌≡◌, refl, sym, ap, ◌∙◌}
 use mathlib.Core.List.{List}
 use mathlib.Core.Bool.{true, false, ◌&&◌, and-eq-true_iff}
 use lib.ListN.{length, take, drop}
-use Rattle.area.specs.Limits.{most_words}
-use Rattle.refusal.specs.Refusal.{refused, late, no_refusal}
-use Rattle.refusal.specs.declared.Refusal.{Refusal}
-use Rattle.refusal.specs.declared.Cause.TheVariants as cause
-use Rattle.refusal.specs.declared.Verdict.TheVariants.{Accepted}
-use Rattle.tree_report.specs.Layout.{used_words, used_text, filled, good_text, all_good, good_order, nothing, all_zero, records_of, layout}
-use Rattle.tree_report.specs.ReportOf.{report_of}
+use Rattle.tree_layout.specs.of_area.Limits.{most_words}
+use Rattle.tree_layout.specs.of_refusal.Refusal.{refused, late, no_refusal}
+use Rattle.tree_layout.specs.of_refusal.declared.Refusal.{Refusal}
+use Rattle.tree_layout.specs.of_refusal.declared.Cause.TheVariants as cause
+use Rattle.tree_layout.specs.of_refusal.declared.Verdict.TheVariants.{Accepted}
+use Rattle.tree_layout.specs.of_tree_report.Layout.{used_words, used_text, filled, good_text, all_good, good_order, nothing, all_zero, records_of, layout}
+use Rattle.tree_layout.specs.of_tree_report.ReportOf.{report_of}
 use Rattle.list_values.proofs.Cutting.{take-least}
 use Rattle.list_sums.specs.inside.Rows.{records_in}
 use Rattle.list_sums.proofs.Used.{records-used}

@@ -5,7 +5,7 @@ use mathlib.Core.List.{List, [], ◌∷◌, ◌++◌}
 use mathlib.Core.Bool.{Bool, true, false, cond, true≢false}
 use native.Mathlib.Omega.{arith}
 use borrow.Author.Tests.{lt-ltb, le-ltb, ltb-true, ltb-false}
-use Rattle.timestamp.specs.declared.Moment.{Moment}
+use Rattle.tree_layout.specs.of_timestamp.declared.Moment.{Moment}
 use Rattle.starts.specs.Starts.{nanos_to, is_earlier, is_later, first_by, earliest, latest}
 use Rattle.starts.specs.FirstLast.{All, First}
 

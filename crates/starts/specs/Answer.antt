@@ -1,5 +1,5 @@
 -- What the call answers. Definitions only.
-use Rattle.refusal.specs.Refusal.{Outcome, accepted, refused, verdict_of, refusal_of}
+use Rattle.tree_layout.specs.of_refusal.Refusal.{Outcome, accepted, refused, verdict_of, refusal_of}
 use Rattle.starts.specs.declared.Extent.{Extent}
 use Rattle.starts.specs.declared.Started.{Started}
 use Rattle.starts.specs.Starts.{not_found_of}

@@ -4,11 +4,11 @@
 -- It rests on nanos_to (Starts): the nanoseconds up to a moment by its instant, of which `Counted` (crate instant: Instant) claims that dates are
 -- counted day by day and offsets taken off.
 use Rattle.std.specs.Prelude.{ℕ, ◌+◌, ◌*◌, ◌<◌, ◌≡◌, Bool, true, false, List, [], ◌∷◌, ◌++◌}
-use Rattle.refusal.specs.Refusal.{accepted, refused, late}
-use Rattle.refusal.specs.declared.Cause.TheVariants as cause
-use Rattle.timestamp.specs.declared.Moment.{Moment}
-use Rattle.tree_report.specs.Layout.{layout}
-use Rattle.tree_report.specs.ReportOf.{report_of}
+use Rattle.tree_layout.specs.of_refusal.Refusal.{accepted, refused, late}
+use Rattle.tree_layout.specs.of_refusal.declared.Cause.TheVariants as cause
+use Rattle.tree_layout.specs.of_timestamp.declared.Moment.{Moment}
+use Rattle.tree_layout.specs.of_tree_report.Layout.{layout}
+use Rattle.tree_layout.specs.of_tree_report.ReportOf.{report_of}
 use Rattle.starts.specs.declared.Extent.{Extent}
 use Rattle.starts.specs.Starts.{nanos_to, is_earlier, is_later, not_found_of, report_moments, starts_of}
 

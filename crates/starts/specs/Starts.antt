@@ -1,13 +1,13 @@
 -- The first and the last start of a run. Definitions only.
 use Rattle.std.specs.Prelude.{ℕ, ◌+◌, ◌-◌, ◌*◌, ◌/◌, ◌%◌, List, [], ◌∷◌, ◌++◌, Bool, true, false, cond, ltb}
 use Rattle.std.proofs.Math.Option.{Option, none, some}
-use Rattle.refusal.specs.Refusal.{Outcome, accepted, refused, late}
-use Rattle.refusal.specs.declared.Cause.TheVariants as cause
-use Rattle.timestamp.specs.declared.Moment.{Moment}
-use Rattle.instant.specs.Instant.{instant_of}
-use Rattle.tree_report.specs.Report.{TestCase, TestSuite, Report}
-use Rattle.tree_report.specs.Layout.{layout}
-use Rattle.tree_report.specs.ReportOf.{report_of}
+use Rattle.tree_layout.specs.of_refusal.Refusal.{Outcome, accepted, refused, late}
+use Rattle.tree_layout.specs.of_refusal.declared.Cause.TheVariants as cause
+use Rattle.tree_layout.specs.of_timestamp.declared.Moment.{Moment}
+use Rattle.start_ends.specs.of_instant.Instant.{instant_of}
+use Rattle.tree_layout.specs.of_tree_report.Report.{TestCase, TestSuite, Report}
+use Rattle.tree_layout.specs.of_tree_report.Layout.{layout}
+use Rattle.tree_layout.specs.of_tree_report.ReportOf.{report_of}
 use Rattle.start_ends.specs.Nothing.{no_moment}
 use Rattle.starts.specs.declared.Extent.{Extent}
 

@@ -2,21 +2,25 @@
 #![tactic(auto)]
 
 ghost use Rattle.std.specs.Prelude.{◌≡◌};
-ghost use Rattle.refusal.specs.Refusal.{refused, late};
-ghost use Rattle.refusal.specs.declared.Cause.TheVariants as cause;
+ghost use Rattle.tree_layout.specs.of_refusal.Refusal.{refused, late};
+ghost use Rattle.tree_layout.specs.of_refusal.declared.Cause.TheVariants as cause;
 ghost use Rattle.list_sums.specs.inside.Rows.{records_in};
 ghost use Rattle.start_ends.specs.inside.Ends as ends;
 ghost use Rattle.starts.specs.Starts.{not_found_of, starts_of};
 ghost use Rattle.starts.specs.Answer.{started_from};
 ghost use Rattle.starts.specs.inside.Extents.{extent_of, starts_by};
 
-use area::{least, limit};
-use days::DAYS_BEFORE;
+pub use list_sums as the_list_sums;
 use list_sums::rows::stands_here;
-use refusal::{Cause, Refusal, Verdict, no_refusal, refuse_late};
-use span::{nanos_between, seconds_between};
+pub use list_values as the_list_values;
+use start_ends::the_days::DAYS_BEFORE;
+use start_ends::the_span::{nanos_between, seconds_between};
+pub use start_ends::{the_instant, the_span, the_tree_stamp};
 use start_ends::{Ends, Start, no_ends, no_moment, with_record};
-use timestamp::Moment;
+pub use tree_layout as the_tree_layout;
+use tree_layout::the_area::{least, limit};
+use tree_layout::the_refusal::{Cause, Refusal, Verdict, no_refusal, refuse_late};
+use tree_layout::the_timestamp::Moment;
 
 // Without a start all else is zero.
 #[derive(Clone, Copy)]

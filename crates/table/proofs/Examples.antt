@@ -3,7 +3,7 @@ use Prim.Native.Nat.{ℕ}
 use mathlib.Core.Path.{◌≡◌, refl}
 use mathlib.Core.List.{List, [], ◌∷◌}
 use mathlib.Core.Bool.{true, false}
-use Rattle.refusal.specs.Refusal.{nowhere}
+use Rattle.table_parts.specs.of_refusal.Refusal.{nowhere}
 use Rattle.table.specs.Table.{good_attribute, good_shape, bad_from, check_event, check_from, good_sizes, check_of}
 use Rattle.table.specs.declared.Checked.TheVariants.{Good, Bad}
 use Rattle.table.specs.Event.{Start, Indent, Tag, Piece, attributes_from, event_of, event_at, resolve_from, resolve}

@@ -4,3 +4,4 @@ pub mod ValidTables
 pub mod Walking
 pub mod Resolving
 pub mod Examples
+pub use Rattle.table_parts.proofs.of_area as of_area

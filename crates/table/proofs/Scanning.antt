@@ -7,7 +7,7 @@ use mathlib.Core.Logic.{⊎_elim}
 use native.Mathlib.Nat.{eq-or-lt_of_le}
 use native.Mathlib.Omega.{arith}
 use lib.ListN.{length, take, drop}
-use Rattle.area.proofs.Parts.{rest_part}
+use Rattle.table_parts.proofs.of_area.Parts.{rest_part}
 use Rattle.table.specs.Table.{good_attribute, bad_from}
 
 module _ (attributes : List ℕ) (size : ℕ) where

@@ -9,14 +9,14 @@ use native.Mathlib.Omega.{arith}
 use borrow.Author.Tests.{leb-true, eqb-true}
 use lib.ListN.{length, get_or, drop}
 use lib.Dec.{leb, eqb}
-use Rattle.refusal.specs.Refusal.{nowhere, Refused}
+use Rattle.table_parts.specs.of_refusal.Refusal.{nowhere, Refused}
 use Rattle.table_parts.specs.Parts.{within}
 use Rattle.table.specs.Table.{word, count_of, good_attribute, good_shape, good_sizes, bad_from, check_event, and_then, check_from, check_of, checked_answer}
 use Rattle.table.specs.declared.Checked.{Checked}
 use Rattle.table.specs.declared.Checked.TheVariants.{Good, Bad}
 use Rattle.table.proofs.Words.{word_at}
 use Rattle.table.proofs.Scanning.{bad-none}
-use Rattle.refusal.specs.declared.Cause.TheVariants as cause
+use Rattle.table_parts.specs.of_refusal.declared.Cause.TheVariants as cause
 
 -- whole entries, within the limits (rules T7 and T8), for so many words and bytes
 pub record ValidSizes (events attributes size : ℕ) : Type 0 where

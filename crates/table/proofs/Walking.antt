@@ -7,7 +7,7 @@ use native.Mathlib.Omega.{arith}
 use borrow.Author.Tests.{leb-true, eqb-true, eq-eqb, ne_eqb}
 use lib.ListN.{length, get_or, drop}
 use lib.Dec.{leb, eqb}
-use Rattle.refusal.specs.Refusal.{nowhere}
+use Rattle.table_parts.specs.of_refusal.Refusal.{nowhere}
 use Rattle.table.specs.Table.{word, count_of, good_shape, good_sizes, bad_from, check_event, and_then, check_from, check_of, checked_answer, table_of}
 use Rattle.table.specs.declared.Checked.{Checked}
 use Rattle.table.specs.declared.Checked.TheVariants.{Good, Bad}

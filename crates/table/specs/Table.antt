@@ -1,12 +1,12 @@
 -- What refusal 11 looks at, in its order (rules T6 to T12). Definitions only.
 use Rattle.std.specs.Prelude.{ℕ, zero, suc, ◌+◌, ◌*◌, ◌/◌, ◌%◌, List, [], Bool, cond, ◌&&◌, ◌||◌, length, get_or, drop, leb, eqb}
-use Rattle.area.specs.Limits.{most_entries, most_bytes}
+use Rattle.table_parts.specs.of_area.Limits.{most_entries, most_bytes}
 use Rattle.table_parts.specs.Parts.{within}
 use Rattle.table.specs.Kinds as kind
-use Rattle.refusal.specs.Refusal.{nowhere, Outcome, accepted, refused}
+use Rattle.table_parts.specs.of_refusal.Refusal.{nowhere, Outcome, accepted, refused}
 use Rattle.table.specs.declared.Checked.{Checked}
 use Rattle.table.specs.declared.Checked.TheVariants.{Good, Bad}
-use Rattle.refusal.specs.declared.Cause.TheVariants as cause
+use Rattle.table_parts.specs.of_refusal.declared.Cause.TheVariants as cause
 
 -- word k of entry i, an event (rule T1) or an attribute (rule T2)
 abbrev pub word : List ℕ → ℕ → ℕ → ℕ

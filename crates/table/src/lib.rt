@@ -4,11 +4,14 @@
 ghost use Rattle.std.specs.Prelude.{◌≡◌, ◌-◌, ◌*◌, ◌/◌, ◌≤◌, ◌<◌, length};
 ghost use Rattle.table.specs.Table.{good_attribute, good_shape, good_sizes, bad_from, check_event, checked_answer, table_of};
 
+pub use table_parts as the_table_parts;
+pub use table_parts::{the_area, the_refusal};
+
 pub mod kind;
 
-use area::{limit, wide};
-use refusal::NOWHERE;
 use table_parts::is_within;
+use table_parts::the_area::{limit, wide};
+use table_parts::the_refusal::NOWHERE;
 
 // Whether a table is good, or where it is not: the event and the attribute, 4294967295 where none is concerned.
 #[derive(Clone, Copy)]

@@ -6,7 +6,7 @@ use Rattle.names.specs.Names.{same_bytes}
 use Rattle.table.specs.Event.{TagKind, Start, Empty, End, Event, Tag, Piece, Text, Eof, Fault}
 use Rattle.table_events.specs.inside.Ranges.{first_at, end_at}
 use Rattle.table_events.specs.Skip.{next, broken_at, skip_of}
-use Rattle.refusal.specs.declared.Cause.TheVariants as cause
+use Rattle.names.specs.of_refusal.declared.Cause.TheVariants as cause
 
 abbrev a : List ℕ
 a = 97 ∷ []

@@ -7,7 +7,7 @@ use borrow.Author.Tests.{le-leb, lt-leb, leb-false, eq-eqb, ne_eqb}
 use lib.Dec.{leb, eqb}
 use lib.ListN.{length, get_or, take, drop}
 use lib.Seq.{drop-length}
-use Rattle.area.proofs.Parts.{rest_part}
+use Rattle.names.proofs.of_area.Parts.{rest_part}
 use Rattle.table.specs.Table.{word, count_of}
 use Rattle.table.specs.Event.{part, kind_at, bytes_at}
 use Rattle.table.proofs.Words.{word_at}

@@ -14,7 +14,7 @@ use Rattle.table.specs.Event.{Attribute, Event, Tag, Start, Empty, End, Piece, T
 use Rattle.table.proofs.Resolving.{event-of-kind, resolve-end, resolve-next}
 use Rattle.table_events.specs.Skip.{Skip, next, broken_at, up_from, skip_of, depth_after}
 use Rattle.table_events.proofs.Numbered.{kind-within, kind-is, bytes-in}
-use Rattle.refusal.specs.declared.Cause.TheVariants as cause
+use Rattle.names.specs.of_refusal.declared.Cause.TheVariants as cause
 
 -- ---- one event
 end-breaks : (name : List ℕ) (depth i : ℕ) → skip_of name depth i [] ≡ broken_at cause.EofInSkip i

@@ -5,8 +5,8 @@ use Rattle.table.specs.Kinds as kind
 use Rattle.table.specs.Event.{Event, Tag, Start, Empty, End, Piece, Eof, Fault}
 use Rattle.table_events.specs.declared.Skipped.{Skipped}
 use Rattle.table_events.specs.declared.Skipped.TheVariants.{Next, Refused}
-use Rattle.refusal.specs.declared.Cause.TheVariants as cause
-use Rattle.refusal.specs.declared.Cause.{Cause}
+use Rattle.names.specs.of_refusal.declared.Cause.TheVariants as cause
+use Rattle.names.specs.of_refusal.declared.Cause.{Cause}
 
 -- the number of the event behind the skip, or of the one that refusal 1 names, with its cause
 pub data Skip : Type 0 where

@@ -9,11 +9,15 @@ ghost use Rattle.table_events.specs.inside.Pieces.{is_piece};
 ghost use Rattle.table_events.specs.inside.Ranges.{first_at, end_at};
 ghost use Rattle.table_events.specs.Skip.{depth_after, skip_of, skip_answer};
 
-use area::wide;
+pub use names as the_names;
 use names::same;
-use refusal::Cause;
+use names::the_area::wide;
+use names::the_refusal::Cause;
+pub use names::{the_area, the_refusal};
+pub use table as the_table;
 use table::kind;
-use table_parts::{bytes_of, word_of};
+pub use table::the_table_parts;
+use table::the_table_parts::{bytes_of, word_of};
 
 // The words from event i on, none behind the table.
 fn words_at(events: &[u32], i: usize) -> &[u32]

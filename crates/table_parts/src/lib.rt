@@ -4,6 +4,8 @@
 ghost use Rattle.std.specs.Prelude.{◌≡◌, get_or};
 ghost use Rattle.table_parts.specs.Parts.{part, within};
 
+pub use area as the_area;
+pub use area::the_refusal;
 use area::wide;
 
 // Word k of the entry that `words` begins with, 0 behind its end (rule T1).

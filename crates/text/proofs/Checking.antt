@@ -5,18 +5,18 @@ use mathlib.Core.List.{List}
 use mathlib.Core.Bool.{Bool, true, false, cond}
 use native.Mathlib.Omega.{arith}
 use lib.ListN.{length}
-use Rattle.area.specs.Answer.{Answer, gives, refuses}
-use Rattle.area.specs.Area.{stored_answer, placing, laid}
-use Rattle.area.specs.declared.Stored.{Stored}
-use Rattle.utf8.specs.Utf8.{utf8}
+use Rattle.utf8_chars.specs.of_area.Answer.{Answer, gives, refuses}
+use Rattle.utf8_chars.specs.of_area.Area.{stored_answer, placing, laid}
+use Rattle.utf8_chars.specs.of_area.declared.Stored.{Stored}
+use Rattle.utf8_chars.specs.of_utf8.Utf8.{utf8}
 use Rattle.reference.specs.Reference.{refs_ok, decoded}
 use Rattle.text.specs.Decode.{cleaned, decoded_of, decoded_laid}
 use Rattle.text.specs.Value.{checked_of}
 use Rattle.text.specs.Kept.{kept_answer}
 use Rattle.text.specs.declared.kept.Kept.{Kept}
 use Rattle.text.proofs.Putting.{first-fails, second-fails, kept-both}
-use Rattle.refusal.specs.declared.Cause.TheVariants as cause
-use Rattle.refusal.specs.declared.Cause.{Cause}
+use Rattle.utf8_chars.specs.of_refusal.declared.Cause.TheVariants as cause
+use Rattle.utf8_chars.specs.of_refusal.declared.Cause.{Cause}
 
 abbrev two : Bool → Bool → Answer (Unit {0})
 two t u = cond t (cond u (gives tt) (refuses cause.BadReference)) (refuses cause.NotUtf8)

@@ -7,8 +7,8 @@ use native.Mathlib.Omega.{arith}
 use native.Mathlib.Decide.{dec_lt}
 use borrow.Author.Tests.{lt-leb, eqb-true}
 use lib.Dec.{eqb}
-use Rattle.utf8.specs.Characters.{is_scalar, encode}
-use Rattle.utf8.proofs.Forms.{form-0, form-1, form-2, form-3, form-4}
+use Rattle.utf8_chars.specs.of_utf8.Characters.{is_scalar, encode}
+use Rattle.utf8_chars.proofs.of_utf8.Forms.{form-0, form-1, form-2, form-3, form-4}
 use Rattle.reference.specs.Reference.{xml_char}
 use Rattle.text_filter.specs.Filter.{dropped, filtered}
 use Rattle.text.specs.Decode.{cleaned}

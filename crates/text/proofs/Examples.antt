@@ -1,13 +1,13 @@
 -- Values, computed. Assumes nothing.
 use mathlib.Core.Path.{◌≡◌, refl}
 use mathlib.Core.List.{[], ◌∷◌}
-use Rattle.area.specs.Answer.{gives, refuses}
-use Rattle.utf8.specs.Utf8.{need, low, high}
-use Rattle.utf8.specs.Characters.{encode}
-use Rattle.names.specs.Names.{same_bytes, code_from}
+use Rattle.utf8_chars.specs.of_area.Answer.{gives, refuses}
+use Rattle.utf8_chars.specs.of_utf8.Utf8.{need, low, high}
+use Rattle.utf8_chars.specs.of_utf8.Characters.{encode}
+use Rattle.reference.specs.of_names.Names.{same_bytes, code_from}
 use Rattle.reference.specs.Reference.{entities, entity_chars, is_entity, entity_char, is_char_ref, ref_at}
 use Rattle.text.specs.Value.{value_text, checked_of, value_of, value_laid}
-use Rattle.refusal.specs.declared.Cause.TheVariants as cause
+use Rattle.utf8_chars.specs.of_refusal.declared.Cause.TheVariants as cause
 
 -- U+0001 is dropped, and &lt; decoded
 decoded-filtered : value_text (0x01 ∷ 0x26 ∷ 0x6C ∷ 0x74 ∷ 0x3B ∷ []) ≡ 0x3C ∷ []

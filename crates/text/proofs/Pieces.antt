@@ -9,8 +9,8 @@ use borrow.Author.Tests.{eq-eqb, ne_eqb}
 use lib.Dec.{eqb}
 use lib.ListN.{length, get_or, take, drop, length-drop, drop_of_length-le}
 use lib.Seq.{drop-drop, length-take-le}
-use Rattle.area.proofs.Parts.{rest_part}
-use Rattle.utf8.specs.Characters.{encode}
+use Rattle.utf8_chars.proofs.of_area.Parts.{rest_part}
+use Rattle.utf8_chars.specs.of_utf8.Characters.{encode}
 use Rattle.reference.specs.Reference.{ref_at, code_of, bytes_of, decoded}
 use Rattle.reference.specs.declared.Ref.TheVariants.{Is, Not}
 use Rattle.reference.proofs.Behind.{ref-fits}

@@ -5,13 +5,13 @@ use mathlib.Core.List.{List}
 use mathlib.Core.Bool.{Bool, true, false, cond, ◌&&◌}
 use native.Mathlib.Omega.{arith}
 use lib.ListN.{length}
-use Rattle.area.specs.Answer.{Answer, gives, refuses}
-use Rattle.area.specs.Area.{stored_answer, placing, laid}
-use Rattle.area.specs.declared.Stored.{Stored}
-use Rattle.area.proofs.Laying.{other-area, put-fits}
+use Rattle.utf8_chars.specs.of_area.Answer.{Answer, gives, refuses}
+use Rattle.utf8_chars.specs.of_area.Area.{stored_answer, placing, laid}
+use Rattle.utf8_chars.specs.of_area.declared.Stored.{Stored}
+use Rattle.utf8_chars.proofs.of_area.Laying.{other-area, put-fits}
 use Rattle.text.specs.Kept.{kept_answer}
 use Rattle.text.specs.declared.kept.Kept.{Kept}
-use Rattle.refusal.specs.declared.Cause.{Cause}
+use Rattle.utf8_chars.specs.of_refusal.declared.Cause.{Cause}
 
 -- a choice by one test, and by two, from their outcomes
 module _ {A : Type 0} (t : Bool) (x y : A) where

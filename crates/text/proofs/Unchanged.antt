@@ -7,12 +7,12 @@ use native.Mathlib.Omega.{arith}
 use borrow.Author.Tests.{not-true, lt-ltb, ltb-false}
 use lib.Dec.{ltb, eqb}
 use lib.ListN.{length}
-use Rattle.area.specs.Answer.{refuses}
-use Rattle.area.specs.Area.{stored_answer, placing, laid}
-use Rattle.area.specs.declared.Stored.{Stored}
-use Rattle.utf8.specs.Utf8.{utf8}
-use Rattle.utf8.specs.inside.Ascii.{ascii}
-use Rattle.utf8.proofs.Rules.{ascii-utf8}
+use Rattle.utf8_chars.specs.of_area.Answer.{refuses}
+use Rattle.utf8_chars.specs.of_area.Area.{stored_answer, placing, laid}
+use Rattle.utf8_chars.specs.of_area.declared.Stored.{Stored}
+use Rattle.utf8_chars.specs.of_utf8.Utf8.{utf8}
+use Rattle.utf8_chars.specs.of_utf8.inside.Ascii.{ascii}
+use Rattle.utf8_chars.proofs.of_utf8.Rules.{ascii-utf8}
 use Rattle.reference.specs.Reference.{refs_ok, decoded, no_ampersand}
 use Rattle.reference.proofs.Decoding.{plain-refs, plain-decoded}
 use Rattle.text_filter.specs.Filter.{filtered, unfiltered}
@@ -22,8 +22,8 @@ use Rattle.text.specs.declared.kept.Kept.{Kept}
 use Rattle.text.specs.inside.Plain.{odd, plain}
 use Rattle.text_filter.proofs.Filtering.{kept_high, filtered-same}
 use Rattle.text.proofs.Putting.{kept-both}
-use Rattle.refusal.specs.declared.Cause.TheVariants as cause
-use Rattle.refusal.specs.declared.Cause.{Cause}
+use Rattle.utf8_chars.specs.of_refusal.declared.Cause.TheVariants as cause
+use Rattle.utf8_chars.specs.of_refusal.declared.Cause.{Cause}
 
 pub or-none : (t u : Bool) → (t || u) ≡ false → (t ≡ false) × (u ≡ false)
 or-none true u e = absurd (false≢true (sym e))

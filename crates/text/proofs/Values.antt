@@ -5,9 +5,9 @@ use mathlib.Core.List.{List}
 use mathlib.Core.Bool.{true}
 use native.Mathlib.Nat.{le_trans}
 use lib.ListN.{length}
-use Rattle.area.specs.Answer.{gives, refuses}
-use Rattle.area.specs.Area.{placing}
-use Rattle.utf8.specs.Utf8.{utf8}
+use Rattle.utf8_chars.specs.of_area.Answer.{gives, refuses}
+use Rattle.utf8_chars.specs.of_area.Area.{placing}
+use Rattle.utf8_chars.specs.of_utf8.Utf8.{utf8}
 use Rattle.reference.specs.Reference.{refs_ok, decoded, no_ampersand}
 use Rattle.reference.proofs.Decoding.{plain-refs, plain-decoded, decoded-length}
 use Rattle.reference.proofs.Keeping.{utf8-decoded}
@@ -15,7 +15,7 @@ use Rattle.text_filter.specs.Filter.{filtered, unfiltered}
 use Rattle.text.specs.Value.{value_text, checked_of, value_of}
 use Rattle.text_filter.proofs.Filtering.{utf8-filtered, unfiltered-filtered, filtered-same, length-filtered}
 use Rattle.text.proofs.Putting.{both_yes}
-use Rattle.refusal.specs.declared.Cause.TheVariants as cause
+use Rattle.utf8_chars.specs.of_refusal.declared.Cause.TheVariants as cause
 
 module _ (s : List ℕ) where
   -- the stored text of a UTF-8 value is UTF-8

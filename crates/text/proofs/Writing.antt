@@ -8,12 +8,12 @@ use native.Mathlib.Decide.{dec_lt}
 use lib.Dec.{eqb}
 use lib.ListN.{length, take, drop, get_or, length-drop, drop_of_length-le}
 use lib.Seq.{drop-drop, length-take-le}
-use Rattle.area.proofs.Lists.{drop-next}
-use Rattle.area.proofs.Parts.{rest_part}
-use Rattle.area.specs.Answer.{gives, refuses}
-use Rattle.area.specs.Area.{placing, laid}
-use Rattle.area.proofs.Laying.{Laying, laying_on, laying_chunk, laying-over, put-fits, full-over}
-use Rattle.utf8.specs.Characters.{encode}
+use Rattle.utf8_chars.proofs.of_area.Lists.{drop-next}
+use Rattle.utf8_chars.proofs.of_area.Parts.{rest_part}
+use Rattle.utf8_chars.specs.of_area.Answer.{gives, refuses}
+use Rattle.utf8_chars.specs.of_area.Area.{placing, laid}
+use Rattle.utf8_chars.proofs.of_area.Laying.{Laying, laying_on, laying_chunk, laying-over, put-fits, full-over}
+use Rattle.utf8_chars.specs.of_utf8.Characters.{encode}
 use Rattle.reference.specs.Reference.{ref_at, code_of, bytes_of, decoded}
 use Rattle.text.specs.Decode.{cleaned, piece_of, piece_width, Pieced}
 use Rattle.text_filter.specs.Filter.{dropped}
@@ -22,7 +22,7 @@ use Rattle.text.specs.declared.decode.Piece.{Piece}
 use Rattle.text_filter.proofs.Filtering.{filter-keep}
 use Rattle.text.proofs.Unchanged.{or-none}
 use Rattle.text.proofs.Pieces.{piece_moves, fits-at, next-at}
-use Rattle.refusal.specs.declared.Cause.TheVariants as cause
+use Rattle.utf8_chars.specs.of_refusal.declared.Cause.TheVariants as cause
 
 -- k bytes are put, and s is read up to i
 pub record Writing (clean : Bool) (out₀ s out : List ℕ) (i k : ℕ) : Type 0 where

@@ -1,14 +1,14 @@
 -- A value with references: what it stands for, piece by piece, and what putting it into an area does. Definitions only.
 use Rattle.std.specs.Prelude.{ℕ, suc, ◌≤◌, ◌≡◌, List, [], ◌∷◌, Bool, cond, ◌&&◌, length, take, eqb}
-use Rattle.area.specs.Answer.{Answer, refuses}
-use Rattle.area.specs.Area.{placing, laid}
-use Rattle.utf8.specs.Utf8.{utf8}
-use Rattle.utf8.specs.Characters.{encode}
+use Rattle.utf8_chars.specs.of_area.Answer.{Answer, refuses}
+use Rattle.utf8_chars.specs.of_area.Area.{placing, laid}
+use Rattle.utf8_chars.specs.of_utf8.Utf8.{utf8}
+use Rattle.utf8_chars.specs.of_utf8.Characters.{encode}
 use Rattle.reference.specs.Reference.{ref_at, code_of, bytes_of, refs_ok, decoded}
 use Rattle.text_filter.specs.Filter.{filtered}
 use Rattle.text.specs.declared.decode.Piece.{Piece}
-use Rattle.refusal.specs.declared.Cause.TheVariants as cause
-use Rattle.refusal.specs.declared.Cause.{Cause}
+use Rattle.utf8_chars.specs.of_refusal.declared.Cause.TheVariants as cause
+use Rattle.utf8_chars.specs.of_refusal.declared.Cause.{Cause}
 
 -- filtered where clean asks for it
 abbrev pub cleaned : Bool → List ℕ → List ℕ

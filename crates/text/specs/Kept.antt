@@ -1,10 +1,10 @@
 -- The answers to putting a text into a lent area. Definitions only.
 use Rattle.std.specs.Prelude.{ℕ}
-use Rattle.area.specs.Answer.{Answer, gives, refuses}
+use Rattle.utf8_chars.specs.of_area.Answer.{Answer, gives, refuses}
 use Rattle.text.specs.declared.kept.Kept.{Kept}
 use Rattle.text.specs.declared.kept.Kept.TheVariants.{Put, Full, NotUtf8, BadReference, UnknownName}
-use Rattle.refusal.specs.declared.Cause.TheVariants as cause
-use Rattle.refusal.specs.declared.Cause.{Cause}
+use Rattle.utf8_chars.specs.of_refusal.declared.Cause.TheVariants as cause
+use Rattle.utf8_chars.specs.of_refusal.declared.Cause.{Cause}
 
 -- the bytes it took, or the refusal; short is the cause where that area is too short, TextFull or ScratchFull
 abbrev pub kept_answer : Cause → Kept → Answer ℕ

@@ -1,13 +1,13 @@
 -- Attribute text (rule X1). Definitions only.
 use Rattle.std.specs.Prelude.{ℕ, List, true, cond}
-use Rattle.area.specs.Answer.{Answer, gives, refuses}
-use Rattle.utf8.specs.Utf8.{utf8}
+use Rattle.utf8_chars.specs.of_area.Answer.{Answer, gives, refuses}
+use Rattle.utf8_chars.specs.of_utf8.Utf8.{utf8}
 use Rattle.reference.specs.Reference.{refs_ok, decoded}
 use Rattle.text_filter.specs.Filter.{filtered}
 use Rattle.text.specs.Decode.{decoded_of, decoded_laid}
 use Rattle.text.specs.declared.value.Checked.{Checked}
 use Rattle.text.specs.declared.value.Checked.TheVariants.{Good, NotUtf8, BadReference}
-use Rattle.refusal.specs.declared.Cause.TheVariants as cause
+use Rattle.utf8_chars.specs.of_refusal.declared.Cause.TheVariants as cause
 
 -- the text that is stored for a value (rule X1)
 abbrev pub value_text : List ℕ → List ℕ

@@ -1,20 +1,20 @@
 // What a value with references stands for, one piece after the other: a byte, or the character of a reference.
 ghost use Rattle.std.specs.Prelude.{◌≡◌, [], ◌∷◌, ◌++◌, ◌-◌, ◌≤◌, length, take, drop};
-ghost use Rattle.area.specs.Area.{stored_answer, placing, laid};
+ghost use Rattle.utf8_chars.specs.of_area.Area.{stored_answer, placing, laid};
 ghost use Rattle.reference.specs.Reference.{decoded};
 ghost use Rattle.text.specs.Kept.{kept_answer};
 ghost use Rattle.text.specs.Decode.{cleaned, piece_of, piece_width, Pieced, decoded_of, decoded_laid};
 ghost use Rattle.text.specs.inside.Plain.{plain, run};
-ghost use Rattle.refusal.specs.declared.Cause.TheVariants as cause;
-ghost use Rattle.refusal.specs.declared.Cause.{Cause};
+ghost use Rattle.utf8_chars.specs.of_refusal.declared.Cause.TheVariants as cause;
+ghost use Rattle.utf8_chars.specs.of_refusal.declared.Cause.{Cause};
 
 use crate::kept::{Kept, kept_of};
 use crate::value::{Checked, check_value};
-use area::Stored;
-use copying::copy_into;
 use reference::{Ref, ref_at};
 use text_filter::is_dropped;
+use text_filter::the_copying::copy_into;
 use utf8_chars::encode_of;
+use utf8_chars::the_area::Stored;
 
 // The bytes of a piece, the first n of the four, and how many bytes of the value it takes.
 #[derive(Clone, Copy)]

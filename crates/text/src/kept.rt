@@ -1,10 +1,10 @@
 // What becomes of a text that is put into a lent area.
 ghost use Rattle.std.specs.Prelude.{◌≡◌};
-ghost use Rattle.area.specs.Area.{stored_answer};
+ghost use Rattle.utf8_chars.specs.of_area.Area.{stored_answer};
 ghost use Rattle.text.specs.Kept.{kept_answer};
-ghost use Rattle.refusal.specs.declared.Cause.{Cause};
+ghost use Rattle.utf8_chars.specs.of_refusal.declared.Cause.{Cause};
 
-use area::Stored;
+use utf8_chars::the_area::Stored;
 
 // How many bytes it took, or why it isn't there.
 #[derive(Clone, Copy)]

@@ -2,12 +2,12 @@
 ghost use Rattle.std.specs.Prelude.{◌≡◌, length};
 ghost use Rattle.text.specs.Kept.{kept_answer};
 ghost use Rattle.text.specs.Value.{checked_answer, checked_of, value_of, value_laid};
-ghost use Rattle.refusal.specs.declared.Cause.TheVariants as cause;
+ghost use Rattle.utf8_chars.specs.of_refusal.declared.Cause.TheVariants as cause;
 
 use crate::decode::put_decoded;
 use crate::kept::Kept;
 use reference::refs_ok;
-use utf8::is_utf8;
+use utf8_chars::the_utf8::is_utf8;
 
 #[derive(Clone, Copy)]
 pub enum Checked {

@@ -8,7 +8,7 @@ use native.Mathlib.Decide.{dec_lt}
 use borrow.Author.Tests.{le-leb, lt-leb, ne_eqb, leb-true}
 use lib.Dec.{leb, lit≤}
 use lib.ListN.{length, get_or, drop, drop_of_length-le}
-use Rattle.area.proofs.Lists.{drop-next}
+use Rattle.copying.proofs.of_area.Lists.{drop-next}
 use Rattle.utf8.specs.Utf8.{need, low, high, within, ok, utf8}
 use Rattle.utf8.proofs.Runs.{low-least, need-ascii, ok-zero}
 use Rattle.text_filter.specs.Filter.{dropped, filtered, unfiltered}

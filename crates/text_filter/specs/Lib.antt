@@ -1,1 +1,2 @@
 pub mod Filter
+pub use Rattle.utf8.specs as of_utf8

@@ -2,12 +2,14 @@
 #![tactic(auto)]
 
 ghost use Rattle.std.specs.Prelude.{◌≡◌, length};
-ghost use Rattle.area.specs.Area.{stored_answer, placing, laid};
+ghost use Rattle.copying.specs.of_area.Area.{stored_answer, placing, laid};
 ghost use Rattle.text_filter.specs.Filter.{dropped, filtered, unfiltered};
-ghost use Rattle.refusal.specs.declared.Cause.TheVariants as cause;
+ghost use Rattle.copying.specs.of_refusal.declared.Cause.TheVariants as cause;
 
-use area::Stored;
+pub use copying as the_copying;
 use copying::copy_into;
+use copying::the_area::Stored;
+pub use utf8 as the_utf8;
 
 // By rule X8.
 pub fn is_dropped(b: u8) -> bool

@@ -9,9 +9,9 @@ use borrow.Author.Tests.{eq-eqb, ne_eqb}
 use lib.Dec.{eqb}
 use lib.ListN.{length, take, drop, length-take, length-drop, drop_of_length-le, length-append}
 use lib.Seq.{drop-drop, length-take-le}
-use Rattle.area.proofs.Lists.{drop-next}
-use Rattle.names.specs.Names.{same_bytes}
-use Rattle.names.proofs.NameLaws.{same_true}
+use Rattle.text.proofs.of_area.Lists.{drop-next}
+use Rattle.text.specs.of_names.Names.{same_bytes}
+use Rattle.text.proofs.of_names.NameLaws.{same_true}
 use Rattle.text.specs.Decode.{cleaned, piece_of, piece_width, Pieced}
 use Rattle.text.specs.Value.{value_text}
 use Rattle.text.specs.declared.decode.Piece.{Piece}

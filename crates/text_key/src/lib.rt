@@ -2,11 +2,13 @@
 #![tactic(auto)]
 
 ghost use Rattle.std.specs.Prelude.{◌≡◌, ◌≤◌, length, take, drop};
-ghost use Rattle.names.specs.Names.{same_bytes};
+ghost use Rattle.text.specs.of_names.Names.{same_bytes};
 ghost use Rattle.text.specs.Value.{value_text};
 
-use names::same;
+pub use text as the_text;
 use text::decode::{Piece, piece_of};
+use text::the_names::same;
+pub use text::{the_area, the_names, the_refusal};
 
 // Whether the piece stands in s from k on.
 fn stands_at(s: &[u8], k: usize, p: Piece) -> bool

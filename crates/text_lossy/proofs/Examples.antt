@@ -1,7 +1,7 @@
 -- Texts that go in lossily, computed. Assumes nothing.
 use mathlib.Core.List.{[], ◌∷◌, ◌++◌}
 use mathlib.Core.Path.{◌≡◌, refl}
-use Rattle.utf8.specs.Utf8.{need, low, high}
+use Rattle.utf8_lossy.specs.of_utf8.Utf8.{need, low, high}
 use Rattle.utf8_lossy.specs.Lossy.{replacement}
 use Rattle.text_lossy.specs.LossyText.{lossy_text}
 

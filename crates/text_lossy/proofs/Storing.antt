@@ -5,7 +5,7 @@ use mathlib.Core.List.{List}
 use mathlib.Core.Path.{◌≡◌, sym, ap, ◌∙◌}
 use native.Mathlib.Omega.{arith}
 use lib.ListN.{length, take}
-use Rattle.utf8.specs.Utf8.{utf8}
+use Rattle.utf8_lossy.specs.of_utf8.Utf8.{utf8}
 use Rattle.utf8_lossy.specs.Lossy.{part_text, lossy, Parted}
 use Rattle.utf8_lossy.specs.declared.Part.{Part}
 use Rattle.utf8_lossy.proofs.Parts.{parted-whole, parted-bad}

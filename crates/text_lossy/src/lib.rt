@@ -2,14 +2,16 @@
 #![tactic(auto)]
 
 ghost use Rattle.std.specs.Prelude.{◌≡◌, length};
-ghost use Rattle.area.specs.Area.{stored_answer, placing, laid};
+ghost use Rattle.utf8_lossy.specs.of_area.Area.{stored_answer, placing, laid};
 ghost use Rattle.text_filter.specs.Filter.{filtered};
 ghost use Rattle.utf8_lossy.specs.Lossy.{part_text, Parted};
 ghost use Rattle.text_lossy.specs.LossyText.{lossy_text};
-ghost use Rattle.refusal.specs.declared.Cause.TheVariants as cause;
+ghost use Rattle.utf8_lossy.specs.of_refusal.declared.Cause.TheVariants as cause;
 
-use area::Stored;
+pub use text_filter as the_text_filter;
 use text_filter::store;
+use utf8_lossy::the_area::Stored;
+pub use utf8_lossy::{the_area, the_utf8};
 use utf8_lossy::{Part, part_of, put_part};
 
 // Puts what the filter leaves of p, the part that s begins with, at the front of out.

@@ -1,15 +1,15 @@
 -- Pieces of gathered text, computed. Assumes nothing.
 use mathlib.Core.Path.{◌≡◌, refl}
 use mathlib.Core.List.{[], ◌∷◌}
-use Rattle.area.specs.Answer.{gives, refuses}
-use Rattle.utf8.specs.Utf8.{need, low, high}
-use Rattle.utf8.specs.Characters.{encode}
-use Rattle.digits.specs.Digits.{digit, is_number}
-use Rattle.names.specs.Bytes.{bytes}
-use Rattle.names.specs.Names.{same_bytes, code_from}
-use Rattle.reference.specs.Reference.{xml_char, entities, entity_chars, is_entity, entity_char, base, digits_in, number, is_char_ref}
+use Rattle.text.specs.of_area.Answer.{gives, refuses}
+use Rattle.text.specs.of_utf8.Utf8.{need, low, high}
+use Rattle.text.specs.of_utf8.Characters.{encode}
+use Rattle.text.specs.of_digits.Digits.{digit, is_number}
+use Rattle.text.specs.of_names.Bytes.{bytes}
+use Rattle.text.specs.of_names.Names.{same_bytes, code_from}
+use Rattle.text.specs.of_reference.Reference.{xml_char, entities, entity_chars, is_entity, entity_char, base, digits_in, number, is_char_ref}
 use Rattle.text_pieces.specs.Gather.{text_of, text_laid, cdata_of, cdata_laid, reference_of, reference_laid, indent_of, indent_laid}
-use Rattle.refusal.specs.declared.Cause.TheVariants as cause
+use Rattle.text.specs.of_refusal.declared.Cause.TheVariants as cause
 
 -- 14 (rule M6), `ab` in 1 byte
 short-scratch : text_of 1 (0x61 ∷ 0x62 ∷ []) ≡ refuses cause.ScratchFull

@@ -3,10 +3,10 @@ use Prim.Native.Nat.{ℕ}
 use mathlib.Core.Path.{◌≡◌, refl, sym, ap, ◌∙◌}
 use mathlib.Core.List.{List, [], append-nil}
 use mathlib.Core.Bool.{true}
-use Rattle.utf8.specs.Utf8.{need, utf8}
-use Rattle.utf8.specs.Characters.{encode}
-use Rattle.utf8.proofs.Encoding.{utf8_encode}
-use Rattle.reference.specs.Reference.{char_of}
+use Rattle.text.specs.of_utf8.Utf8.{need, utf8}
+use Rattle.text.specs.of_utf8.Characters.{encode}
+use Rattle.text.proofs.of_utf8.Encoding.{utf8_encode}
+use Rattle.text.specs.of_reference.Reference.{char_of}
 use Rattle.text_pieces.specs.Gather.{reference_text, newline}
 
 -- the newline that is gathered for an Indent is UTF-8

@@ -5,9 +5,9 @@ use mathlib.Core.List.{List, [], ◌∷◌}
 use native.Mathlib.Omega.{arith}
 use borrow.Author.Tests.{eq-eqb, ne_eqb}
 use lib.ListN.{length, get_or}
-use Rattle.area.specs.Answer.{Answer, refuses}
-use Rattle.reference.specs.Reference.{unnamed}
-use Rattle.refusal.specs.declared.Cause.TheVariants as cause
+use Rattle.text.specs.of_area.Answer.{Answer, refuses}
+use Rattle.text.specs.of_reference.Reference.{unnamed}
+use Rattle.text.specs.of_refusal.declared.Cause.TheVariants as cause
 
 abbrev Refused : List ℕ → Answer ℕ
 Refused name = refuses (unnamed name)

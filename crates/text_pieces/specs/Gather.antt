@@ -1,12 +1,12 @@
 -- Gathered text: a piece of it put into scratch from its mark on (rules X9 and M6). Definitions only.
 use Rattle.std.specs.Prelude.{ℕ, List, [], ◌∷◌, false, cond, ◌&&◌}
-use Rattle.area.specs.Answer.{Answer, refuses}
-use Rattle.area.specs.Area.{placing, laid}
-use Rattle.utf8.specs.Utf8.{utf8}
-use Rattle.utf8.specs.Characters.{encode}
-use Rattle.reference.specs.Reference.{is_named, char_of, unnamed}
+use Rattle.text.specs.of_area.Answer.{Answer, refuses}
+use Rattle.text.specs.of_area.Area.{placing, laid}
+use Rattle.text.specs.of_utf8.Utf8.{utf8}
+use Rattle.text.specs.of_utf8.Characters.{encode}
+use Rattle.text.specs.of_reference.Reference.{is_named, char_of, unnamed}
 use Rattle.text.specs.Decode.{decoded_of, decoded_laid}
-use Rattle.refusal.specs.declared.Cause.TheVariants as cause
+use Rattle.text.specs.of_refusal.declared.Cause.TheVariants as cause
 
 -- a Text; n bytes are left
 abbrev pub text_of : ℕ → List ℕ → Answer ℕ

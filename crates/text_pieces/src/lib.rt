@@ -2,18 +2,20 @@
 #![tactic(auto)]
 
 ghost use Rattle.std.specs.Prelude.{◌≡◌, length};
-ghost use Rattle.area.specs.Answer.{refuses};
-ghost use Rattle.reference.specs.Reference.{unnamed};
+ghost use Rattle.text.specs.of_area.Answer.{refuses};
+ghost use Rattle.text.specs.of_reference.Reference.{unnamed};
 ghost use Rattle.text.specs.Kept.{kept_answer};
 ghost use Rattle.text_pieces.specs.Gather.{text_of, text_laid, cdata_of, cdata_laid, reference_of, reference_laid, indent_of, indent_laid};
-ghost use Rattle.refusal.specs.declared.Cause.TheVariants as cause;
+ghost use Rattle.text.specs.of_refusal.declared.Cause.TheVariants as cause;
 
-use area::copy_into;
-use reference::{Named, named_by};
+pub use text as the_text;
 use text::decode::put_decoded;
 use text::kept::{Kept, kept_of};
-use utf8::is_utf8;
-use utf8_chars::encode_of;
+use text::the_area::copy_into;
+use text::the_reference::{Named, named_by};
+use text::the_utf8::is_utf8;
+use text::the_utf8_chars::encode_of;
+pub use text::{the_names, the_reference, the_text_filter};
 
 // By rule X9.
 pub fn gather_text(out: &mut [u8], s: &[u8]) -> Kept

@@ -1,11 +1,11 @@
 -- Times read, computed. Assumes nothing.
 use mathlib.Core.Path.{◌≡◌, refl}
 use mathlib.Core.List.{[], ◌∷◌}
-use Rattle.area.specs.Answer.{gives, refuses}
-use Rattle.utf8.specs.Utf8.{need, low, high}
-use Rattle.digits.specs.Digits.{digit}
+use Rattle.fraction.specs.of_area.Answer.{gives, refuses}
+use Rattle.fraction.specs.of_utf8.Utf8.{need, low, high}
+use Rattle.fraction.specs.of_digits.Digits.{digit}
 use Rattle.time.specs.Time.{make_time, time_of}
-use Rattle.refusal.specs.declared.Cause.TheVariants as cause
+use Rattle.fraction.specs.of_refusal.declared.Cause.TheVariants as cause
 
 -- `5.`
 no_fraction : time_of (0x35 ∷ 0x2E ∷ []) ≡ gives (5, 0)

@@ -9,12 +9,12 @@ use borrow.Author.Tests.{ne_eqb, eqb-true}
 use lib.Dec.{eqb}
 use lib.ListN.{length, take, drop, drop_of_length-le}
 use lib.Seq.{take_all, take_at, drop_at}
-use Rattle.area.proofs.Lists.{drop_more}
-use Rattle.utf8.specs.Utf8.{utf8}
-use Rattle.utf8.proofs.Rules.{ascii-on}
-use Rattle.digits.specs.Digits.{is_digit, all_digits}
-use Rattle.digits.proofs.Ascii.{digit-decimal, digit-ascii}
-use Rattle.digits.proofs.Texts.{digits_utf8}
+use Rattle.fraction.proofs.of_area.Lists.{drop_more}
+use Rattle.fraction.specs.of_utf8.Utf8.{utf8}
+use Rattle.fraction.proofs.of_utf8.Rules.{ascii-on}
+use Rattle.fraction.specs.of_digits.Digits.{is_digit, all_digits}
+use Rattle.fraction.proofs.of_digits.Ascii.{digit-decimal, digit-ascii}
+use Rattle.fraction.proofs.of_digits.Texts.{digits_utf8}
 use Rattle.time.specs.Time.{point, whole, fraction}
 
 -- the parts, as code has them that found the point at p

@@ -7,16 +7,16 @@ use native.Mathlib.Omega.{arith}
 use borrow.Author.Tests.{le-leb, lt-ltb, le-ltb, leb-true, leb-false, ltb-true, eqb-true, eqb-false}
 use lib.Dec.{leb, ltb, eqb}
 use lib.ListN.{length}
-use Rattle.area.specs.Answer.{Answer, gives, refuses}
-use Rattle.utf8.specs.Utf8.{utf8}
-use Rattle.digits.specs.Digits.{all_digits, value, is_number, number_in}
-use Rattle.digits.specs.declared.Number.TheVariants as number
+use Rattle.fraction.specs.of_area.Answer.{Answer, gives, refuses}
+use Rattle.fraction.specs.of_utf8.Utf8.{utf8}
+use Rattle.fraction.specs.of_digits.Digits.{all_digits, value, is_number, number_in}
+use Rattle.fraction.specs.of_digits.declared.Number.TheVariants as number
 use Rattle.time.specs.declared.read.Formed.TheVariants as formed
 use Rattle.fraction.specs.Fraction.{is_fraction, billionths, billionths_of}
 use Rattle.fraction.proofs.Fractions.{is-fraction, nine-below}
 use Rattle.time.specs.Time.{make_time, is_time, seconds_of, nanos_of, time_of, whole, fraction, up_to, formed_time}
 use Rattle.time.proofs.Points.{parts-utf8}
-use Rattle.refusal.specs.declared.Cause.TheVariants as cause
+use Rattle.fraction.specs.of_refusal.declared.Cause.TheVariants as cause
 
 -- ---- a number that may have no digit
 module _ (most : ℕ) (s : List ℕ) where

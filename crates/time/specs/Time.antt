@@ -1,17 +1,17 @@
 -- A time as it is read (rules V1, V3 and V4). Definitions only.
 use Rattle.std.specs.Prelude.{ℕ, suc, ◌+◌, List, Bool, cond, ◌&&◌, length, take, drop, ltb, leb}
-use Rattle.area.specs.Answer.{Answer, gives, refuses}
-use Rattle.area.specs.Area.{first_at}
-use Rattle.utf8.specs.Utf8.{utf8}
-use Rattle.digits.specs.Digits.{all_digits, value}
-use Rattle.digits.specs.declared.Number.{Number}
-use Rattle.digits.specs.declared.Number.TheVariants as number
+use Rattle.fraction.specs.of_area.Answer.{Answer, gives, refuses}
+use Rattle.fraction.specs.of_area.Area.{first_at}
+use Rattle.fraction.specs.of_utf8.Utf8.{utf8}
+use Rattle.fraction.specs.of_digits.Digits.{all_digits, value}
+use Rattle.fraction.specs.of_digits.declared.Number.{Number}
+use Rattle.fraction.specs.of_digits.declared.Number.TheVariants as number
 use Rattle.fraction.specs.Fraction.{billionths}
 use Rattle.time.specs.declared.read.Formed.{Formed}
 use Rattle.time.specs.declared.read.Formed.TheVariants as formed
 use Rattle.time.specs.declared.read.Time.{Time}
 use Rattle.time.specs.declared.read.Time.TheVariants.{Is, NotUtf8, Bad}
-use Rattle.refusal.specs.declared.Cause.TheVariants as cause
+use Rattle.fraction.specs.of_refusal.declared.Cause.TheVariants as cause
 
 -- seconds and nanoseconds, or 2 for what isn't UTF-8, 5 for what is no time
 abbrev pub time_answer : Time → Answer (ℕ × ℕ)

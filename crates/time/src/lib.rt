@@ -1,4 +1,6 @@
 // Times as attribute values.
 #![tactic(auto)]
 
+pub use fraction::{the_area, the_digits, the_refusal};
+
 pub mod read;

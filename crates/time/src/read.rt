@@ -2,7 +2,7 @@
 ghost use Rattle.std.specs.Prelude.{◌≡◌};
 ghost use Rattle.time.specs.Time.{time_answer, time_of, whole, fraction, up_to, formed_time};
 
-use digits::Number;
+use fraction::the_digits::Number;
 
 // Seconds and nanoseconds, or what is wrong with the text.
 #[derive(Clone, Copy)]
@@ -26,7 +26,7 @@ fn up_to(s: &[u8], most: u64) -> Number
     if s.len() == 0 {
         return Number::Is(0);
     }
-    digits::decimal(s, most)
+    fraction::the_digits::decimal(s, most)
 }
 
 // The time that a whole part and the digits behind the point make (rule V4).
@@ -51,7 +51,7 @@ fn time_in(whole: &[u8], digits: &[u8]) -> Formed
 fn formed_time(s: &[u8]) -> Formed
     ensures { result ≡ formed_time (whole s.now) (fraction s.now) }
 {
-    let p = area::first_at(s, 0x2e);
+    let p = fraction::the_area::first_at(s, 0x2e);
     if p < s.len() {
         let from = p + 1;
         return time_in(&s[..p], &s[from..]);
@@ -65,7 +65,7 @@ pub fn read_time(s: &[u8]) -> Time
 {
     let formed = formed_time(s);
     let Formed::Is(secs, nanos) = formed else {
-        if utf8::is_utf8(s) {
+        if fraction::the_utf8::is_utf8(s) {
             return Time::Bad;
         }
         return Time::NotUtf8;

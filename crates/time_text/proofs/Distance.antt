@@ -4,9 +4,9 @@ use mathlib.Core.Path.{◌≡◌, sym, ap, ◌∙◌, subst}
 use mathlib.Core.List.{List, [], ◌∷◌, ◌++◌}
 use native.Mathlib.Omega.{arith}
 use lib.ListN.{length}
-use Rattle.digits.specs.Digits.{decimal, last_digits_of, all_digits, value}
-use Rattle.digits.proofs.Values.{append-value, value-from}
-use Rattle.digits.proofs.Printing.{length_last, last_digits, last-value, decimal-digits, decimal-value}
+use Rattle.time.specs.of_digits.Digits.{decimal, last_digits_of, all_digits, value}
+use Rattle.time.proofs.of_digits.Values.{append-value, value-from}
+use Rattle.time.proofs.of_digits.Printing.{length_last, last_digits, last-value, decimal-digits, decimal-value}
 use Rattle.time.specs.Time.{whole, fraction, time_of}
 use Rattle.time.proofs.Points.{whole-between, fraction-between}
 use Rattle.time_text.specs.Written.{float_sum, thousandths_of, time_text, written_time}

@@ -6,7 +6,7 @@ use Prim.Native.Nat.{◌+◌, ◌*◌}
 use lib.Ieee.{add, sum, div, of_int, round, units, odd, size, span, climb}
 use lib.Ieee.Nearest.{closest}
 use lib.Count.{count_trailing_zeros}
-use Rattle.digits.specs.Digits.{digit, places, decimal}
+use Rattle.time.specs.of_digits.Digits.{digit, places, decimal}
 use Rattle.time.specs.Time.{make_time, is_time}
 use Rattle.time_text.specs.Written.{float_sum, thousandths_of, time_text, written_time}
 use Rattle.time_text.specs.Distance.{stored_nanoseconds, thousandths_in, written_nanoseconds}

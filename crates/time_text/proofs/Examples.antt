@@ -3,7 +3,7 @@ use mathlib.Core.Path.{◌≡◌, refl}
 use mathlib.Core.List.{[], ◌∷◌}
 use lib.Ieee.{add, sum, div, of_int, round, units, odd, size, span, climb}
 use lib.Count.{count_trailing_zeros}
-use Rattle.digits.specs.Digits.{places, decimal}
+use Rattle.time.specs.of_digits.Digits.{places, decimal}
 use Rattle.time_text.specs.Written.{float_sum, thousandths_of, time_text, written_time, whole}
 
 -- half a second is `0.500`

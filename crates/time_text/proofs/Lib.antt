@@ -6,3 +6,5 @@ pub mod ReadBack
 pub mod Distance
 pub mod Examples
 pub mod DistanceExamples
+pub use Rattle.time.proofs.of_area as of_area
+pub use Rattle.time.proofs.of_digits as of_digits

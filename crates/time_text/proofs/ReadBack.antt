@@ -5,11 +5,11 @@ use mathlib.Core.List.{List, ◌∷◌, ◌++◌}
 use mathlib.Core.Bool.{true}
 use native.Mathlib.Omega.{arith}
 use lib.ListN.{length}
-use Rattle.area.specs.Answer.{gives}
-use Rattle.digits.specs.Digits.{decimal, last_digits_of, value}
-use Rattle.digits.proofs.Printing.{length_last, last_digits, last-value, decimal-digits, decimal-value}
+use Rattle.time.specs.of_area.Answer.{gives}
+use Rattle.time.specs.of_digits.Digits.{decimal, last_digits_of, value}
+use Rattle.time.proofs.of_digits.Printing.{length_last, last_digits, last-value, decimal-digits, decimal-value}
 use Rattle.time_text.specs.Written.{time_text, written_time}
-use Rattle.fraction.specs.Fraction.{billionths}
+use Rattle.time.specs.of_fraction.Fraction.{billionths}
 use Rattle.time.specs.Time.{fraction, make_time, is_time, time_of}
 use Rattle.time_text.proofs.Sum.{whole-milliseconds}
 use Rattle.time.proofs.Points.{whole-between, fraction-between}

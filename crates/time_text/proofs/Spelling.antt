@@ -6,13 +6,13 @@ use native.Mathlib.Omega.{arith}
 use borrow.Author.Tests.{le-leb, lt-leb}
 use lib.ListN.{length, take, drop, length-drop}
 use borrow.Rule.Slice.PartMut.{put_mid}
-use Rattle.area.specs.Answer.{gives, refuses}
-use Rattle.area.specs.Area.{zeros, placing, laid}
-use Rattle.area.proofs.Parts.{rest_part, rest_back}
-use Rattle.area.proofs.Laying.{Laying, laying-start, laying_on, laying_chunk, laying-over, laying-done, length-laid, put-fits, full-over}
-use Rattle.digits.specs.Digits.{decimal, last_digits_of}
+use Rattle.time.specs.of_area.Answer.{gives, refuses}
+use Rattle.time.specs.of_area.Area.{zeros, placing, laid}
+use Rattle.time.proofs.of_area.Parts.{rest_part, rest_back}
+use Rattle.time.proofs.of_area.Laying.{Laying, laying-start, laying_on, laying_chunk, laying-over, laying-done, length-laid, put-fits, full-over}
+use Rattle.time.specs.of_digits.Digits.{decimal, last_digits_of}
 use Rattle.time_text.specs.Written.{time_text, whole}
-use Rattle.refusal.specs.declared.Cause.TheVariants as cause
+use Rattle.time.specs.of_refusal.declared.Cause.TheVariants as cause
 
 -- the seconds at the front of an area; n is ms, as the contract has it
 module _ (out : List ℕ) (ms n : ℕ) (e : ms ≡ n) where

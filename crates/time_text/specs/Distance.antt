@@ -10,8 +10,8 @@
 --   all_digits, value (crate digits: Digits)       whether bytes are digits; the number that digits stand for
 --   time_of (crate time: Time)                     the seconds and nanoseconds that a time's text is read as
 use Rattle.std.specs.Prelude.{ℕ, ◌+◌, ◌*◌, ◌%◌, ◌≤◌, ◌<◌, ◌≡◌, List, [], ◌∷◌, ◌++◌, true, length}
-use Rattle.area.specs.Answer.{gives}
-use Rattle.digits.specs.Digits.{all_digits, value}
+use Rattle.time.specs.of_area.Answer.{gives}
+use Rattle.time.specs.of_digits.Digits.{all_digits, value}
 use Rattle.time.specs.Time.{whole, fraction, time_of}
 use Rattle.time_text.specs.Written.{float_sum, thousandths_of, written_time}
 

@@ -3,9 +3,9 @@ use Rattle.std.specs.Prelude.{ℕ, ◌*◌, ◌/◌, ◌^◌, List, ◌∷◌, �
 use Rattle.std.specs.Float.{nan, inf, fin, binary64}
 use Rattle.std.specs.Float.Ieee.{up, down, of_int, add, div}
 use Rattle.std.specs.Float.Ieee.Nearest.{closest}
-use Rattle.area.specs.Answer.{Answer, gives, refuses}
-use Rattle.area.specs.Area.{zeros, laid}
-use Rattle.digits.specs.Digits.{decimal, last_digits_of}
+use Rattle.time.specs.of_area.Answer.{Answer, gives, refuses}
+use Rattle.time.specs.of_area.Area.{zeros, laid}
+use Rattle.time.specs.of_digits.Digits.{decimal, last_digits_of}
 
 -- 1,000,000,000 is 5 ^ 9 * 2 ^ 9
 abbrev pub billion : Float

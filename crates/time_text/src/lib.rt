@@ -2,11 +2,13 @@
 #![tactic(auto)]
 
 ghost use Rattle.std.specs.Prelude.{◌≡◌, T, length};
-ghost use Rattle.area.specs.Area.{stored_answer, placing, laid};
+ghost use Rattle.time.specs.of_area.Area.{stored_answer, placing, laid};
 ghost use Rattle.time_text.specs.Written.{float_sum, small, thousandths_of, written_time, count, whole};
-ghost use Rattle.refusal.specs.declared.Cause.TheVariants as cause;
+ghost use Rattle.time.specs.of_refusal.declared.Cause.TheVariants as cause;
 
-use area::Stored;
+pub use time as the_time;
+use time::the_area::Stored;
+pub use time::{the_area, the_digits, the_refusal};
 
 // Seconds as a float plus nanoseconds divided by a billion (rule W10).
 pub fn float_sum(secs: u32, nanos: u32) -> f64
@@ -54,7 +56,7 @@ pub fn write_time(out: &mut [u8], secs: u32, nanos: u32) -> Stored
     ensures out_after { out.new ≡ laid out.old (written_time secs nanos) }
 {
     let ms = thousandths(secs, nanos);
-    let whole = digits::write_decimal(out, ms / 1000);
+    let whole = time::the_digits::write_decimal(out, ms / 1000);
     let Stored::Put(point) = whole else {
         return Stored::Full;
     };
@@ -63,7 +65,7 @@ pub fn write_time(out: &mut [u8], secs: u32, nanos: u32) -> Stored
     }
     out[point] = 0x2e;
     let from = point + 1;
-    let fraction = digits::write_digits(&mut out[from..], 3, ms);
+    let fraction = time::the_digits::write_digits(&mut out[from..], 3, ms);
     let Stored::Put(n) = fraction else {
         return Stored::Full;
     };

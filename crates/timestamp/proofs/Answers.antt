@@ -7,19 +7,19 @@ use native.Mathlib.Omega.{arith}
 use borrow.Author.Tests.{eqb-true}
 use lib.Dec.{eqb, lit<}
 use lib.ListN.{length, get_or, drop, drop_of_length-le}
-use Rattle.area.specs.Answer.{gives, refuses}
-use Rattle.utf8.specs.Utf8.{utf8}
-use Rattle.digits.specs.Digits.{all_digits, is_number}
-use Rattle.digits.proofs.Numbers.{number-parts}
-use Rattle.fixed.specs.Fields.{part, all}
-use Rattle.fixed.proofs.Tests.{passes}
-use Rattle.fixed.proofs.Texts.{digits-on, byte-on}
+use Rattle.names.specs.of_area.Answer.{gives, refuses}
+use Rattle.fraction.specs.of_utf8.Utf8.{utf8}
+use Rattle.fraction.specs.of_digits.Digits.{all_digits, is_number}
+use Rattle.fraction.proofs.of_digits.Numbers.{number-parts}
+use Rattle.clock.specs.of_fixed.Fields.{part, all}
+use Rattle.clock.proofs.of_fixed.Tests.{passes}
+use Rattle.clock.proofs.of_fixed.Texts.{digits-on, byte-on}
 use Rattle.timestamp.specs.Timestamp.{date_tests, clock_tests, has_point, places, fraction_width, is_utc, offset_tests, tail, zone, timestamp_tests, is_timestamp, moment_of, timestamp_of}
 use Rattle.timestamp.specs.inside.Leaves.{form_of}
 use Rattle.timestamp.specs.declared.Moment.{Moment}
 use Rattle.timestamp.specs.declared.Form.TheVariants.{Right, Wrong}
 use Rattle.timestamp.proofs.Fractions.{run-part}
-use Rattle.refusal.specs.declared.Cause.TheVariants as cause
+use Rattle.names.specs.of_refusal.declared.Cause.TheVariants as cause
 
 -- ---- a timestamp is ASCII
 either : (b x y : ℕ) → x < 0x80 → y < 0x80 → (eqb b x || eqb b y) ≡ true → b < 0x80

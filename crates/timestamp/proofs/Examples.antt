@@ -2,13 +2,13 @@
 use mathlib.Core.Path.{◌≡◌, refl}
 use mathlib.Core.List.{[], ◌∷◌, ◌++◌}
 use mathlib.Core.Bool.{true, false}
-use Rattle.area.specs.Answer.{gives, refuses}
-use Rattle.utf8.specs.Utf8.{need, low, high}
+use Rattle.names.specs.of_area.Answer.{gives, refuses}
+use Rattle.fraction.specs.of_utf8.Utf8.{need, low, high}
 use Rattle.names.specs.Bytes.{bytes}
-use Rattle.digits.specs.Digits.{digit, is_number}
+use Rattle.fraction.specs.of_digits.Digits.{digit, is_number}
 use Rattle.calendar.specs.Calendar.{is_leap, month_length}
 use Rattle.timestamp.specs.Timestamp.{places, is_utc, is_timestamp, timestamp_of, in_range}
-use Rattle.refusal.specs.declared.Cause.TheVariants as cause
+use Rattle.names.specs.of_refusal.declared.Cause.TheVariants as cause
 
 -- RFC 3339, section 5.8
 fraction : timestamp_of (bytes "1985-04-12T23:20:50.52Z") ≡ gives (record { year = 1985; month = 4; day = 12; hour = 23; minute = 20; second = 50; nanos = 520000000; offset = 1439 })

@@ -7,8 +7,8 @@ use native.Mathlib.Omega.{arith}
 use borrow.Author.Tests.{lt-leb, le-leb, eqb-true}
 use lib.ListN.{length, get_or, drop, length-drop}
 use lib.Seq.{drop-drop}
-use Rattle.fixed.specs.Fields.{all}
-use Rattle.fixed.proofs.Tests.{fails}
+use Rattle.clock.specs.of_fixed.Fields.{all}
+use Rattle.clock.proofs.of_fixed.Tests.{fails}
 use Rattle.timestamp.specs.Timestamp.{year_of, month_of, day_of, date_tests, hour_of, minute_of, second_of, clock_tests, has_point, places, fraction_tests}
 use Rattle.timestamp.specs.Timestamp.{nanos_of, fraction_width, is_utc, offset_tests, offset_of, tail, zone, timestamp_tests, is_timestamp}
 use Rattle.clock.specs.inside.Leaves.{clock_of}

@@ -8,13 +8,13 @@ use borrow.Author.Tests.{eq-eqb, ne_eqb, lt-leb, le-leb, leb-true, lt-ltb}
 use lib.Dec.{leb, ltb, eqb}
 use lib.ListN.{length, get_or, take, drop, length-drop, drop_of_length-le}
 use lib.Seq.{length-take-le}
-use Rattle.area.proofs.Lists.{drop-next}
-use Rattle.digits.specs.Digits.{digit, is_digit, all_digits}
-use Rattle.digits.specs.declared.Number.TheVariants.{Is, Not}
+use Rattle.names.proofs.of_area.Lists.{drop-next}
+use Rattle.fraction.specs.of_digits.Digits.{digit, is_digit, all_digits}
+use Rattle.fraction.specs.of_digits.declared.Number.TheVariants.{Is, Not}
 use Rattle.fraction.specs.Fraction.{is_fraction, billionths_of}
 use Rattle.fraction.proofs.Fractions.{is-fraction, not-fraction, nine-below}
-use Rattle.fixed.specs.Fields.{part}
-use Rattle.fixed.proofs.Tests.{fails}
+use Rattle.clock.specs.of_fixed.Fields.{part}
+use Rattle.clock.proofs.of_fixed.Tests.{fails}
 use Rattle.timestamp.specs.Timestamp.{digit_run, places, fraction_tests, nanos_of}
 use Rattle.timestamp.specs.inside.Leaves.{fraction_of}
 use Rattle.timestamp.specs.declared.parts.Fraction.TheVariants.{Of, NoFraction}

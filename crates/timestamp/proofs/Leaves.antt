@@ -6,10 +6,10 @@ use mathlib.Core.List.{List, [], ◌∷◌}
 use borrow.Author.Tests.{eq-eqb, ne_eqb, eqb-false}
 use lib.Dec.{leb, eqb}
 use lib.ListN.{length, get_or}
-use Rattle.fixed.specs.Fields.{part, all, field_of}
-use Rattle.fixed.specs.declared.Field.{Field}
-use Rattle.fixed.proofs.Tests.{passes, fails}
-use Rattle.fixed.proofs.Numerals.{field-good, field-number}
+use Rattle.clock.specs.of_fixed.Fields.{part, all, field_of}
+use Rattle.clock.specs.of_fixed.declared.Field.{Field}
+use Rattle.clock.proofs.of_fixed.Tests.{passes, fails}
+use Rattle.clock.proofs.of_fixed.Numerals.{field-good, field-number}
 use Rattle.calendar.specs.Calendar.{month_length}
 use Rattle.timestamp.specs.Timestamp.{year_of, month_of, day_of, date_tests, is_utc, offset_tests, away_of}
 use Rattle.timestamp.specs.inside.Leaves.{date_of, zone_of}

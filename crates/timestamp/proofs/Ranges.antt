@@ -7,11 +7,11 @@ use native.Mathlib.Omega.{arith}
 use borrow.Author.Tests.{le-leb, leb-true, lt-ltb, ltb-true, eqb-true}
 use lib.Dec.{eqb, lit<}
 use lib.ListN.{get_or}
-use Rattle.area.specs.Answer.{gives}
-use Rattle.digits.specs.Digits.{value, is_number}
-use Rattle.digits.proofs.Numbers.{number-parts}
-use Rattle.fixed.specs.Fields.{part, all}
-use Rattle.fixed.proofs.Tests.{passes}
+use Rattle.names.specs.of_area.Answer.{gives}
+use Rattle.fraction.specs.of_digits.Digits.{value, is_number}
+use Rattle.fraction.proofs.of_digits.Numbers.{number-parts}
+use Rattle.clock.specs.of_fixed.Fields.{part, all}
+use Rattle.clock.proofs.of_fixed.Tests.{passes}
 use Rattle.calendar.specs.Calendar.{month_length}
 use Rattle.timestamp.specs.Timestamp.{date_tests, clock_tests, has_point, places, fraction_tests, nanos_of, is_utc, offset_tests, away_of}
 use Rattle.timestamp.specs.Timestamp.{offset_of, tail, zone, timestamp_tests, is_timestamp, moment_of, timestamp_of, range_tests, in_range}

@@ -1,15 +1,15 @@
 -- Timestamps by RFC 3339, section 5.6, each rule by its name there. Definitions only.
 use Rattle.std.specs.Prelude.{ℕ, suc, ◌+◌, ◌-◌, ◌*◌, Bool, not, ◌&&◌, ◌||◌, cond, List, [], ◌∷◌, length, get_or, drop, leb, ltb, eqb}
-use Rattle.area.specs.Answer.{Answer, gives, refuses}
-use Rattle.utf8.specs.Utf8.{utf8}
-use Rattle.digits.specs.Digits.{is_digit, is_number, value}
-use Rattle.fixed.specs.Fields.{part, all}
+use Rattle.names.specs.of_area.Answer.{Answer, gives, refuses}
+use Rattle.fraction.specs.of_utf8.Utf8.{utf8}
+use Rattle.fraction.specs.of_digits.Digits.{is_digit, is_number, value}
+use Rattle.clock.specs.of_fixed.Fields.{part, all}
 use Rattle.calendar.specs.Calendar.{month_length}
 use Rattle.fraction.specs.Fraction.{billionths}
 use Rattle.timestamp.specs.declared.Moment.{Moment}
 use Rattle.timestamp.specs.declared.Timestamp.{Timestamp}
 use Rattle.timestamp.specs.declared.Timestamp.TheVariants.{Is, NotUtf8, Bad}
-use Rattle.refusal.specs.declared.Cause.TheVariants as cause
+use Rattle.names.specs.of_refusal.declared.Cause.TheVariants as cause
 -- "T" time-hour ":" time-minute ":" time-second, the bytes 10 to 18
 pub use Rattle.clock.specs.Clock.{hour_of, minute_of, second_of, clock_tests}
 

@@ -1,6 +1,9 @@
 // Timestamps by RFC 3339, read from their text.
 #![tactic(auto)]
 
+pub use names as the_names;
+pub use names::{the_area, the_refusal};
+
 mod parts;
 
 ghost use Rattle.std.specs.Prelude.{◌≡◌};
@@ -75,7 +78,7 @@ pub fn timestamp_of(s: &[u8]) -> Timestamp
 {
     let form = form_of(s);
     let Form::Right(m) = form else {
-        if utf8::is_utf8(s) {
+        if fraction::the_utf8::is_utf8(s) {
             return Timestamp::Bad;
         }
         return Timestamp::NotUtf8;

@@ -4,9 +4,9 @@ ghost use Rattle.timestamp.specs.Timestamp.{digit_run};
 ghost use Rattle.timestamp.specs.inside.Leaves.{date_of, fraction_of, zone_of};
 
 use calendar::month_length;
-use digits::Number;
-use fixed::decimal_at;
+use clock::the_fixed::decimal_at;
 use fraction::billionths_of;
+use fraction::the_digits::Number;
 
 // Year, month and day.
 #[derive(Clone, Copy)]

@@ -6,11 +6,11 @@ use mathlib.Core.Path.{◌≡◌, refl, ap, ◌∙◌}
 use native.Mathlib.Omega.{arith}
 use lib.Dec.{eqb}
 use lib.ListN.{length, take, drop}
-use Rattle.area.specs.Area.{first_at}
-use Rattle.area.proofs.Parts.{rest_part}
-use Rattle.utf8.specs.Utf8.{utf8}
-use Rattle.text_filter.specs.Filter.{unfiltered}
-use Rattle.tree_report.specs.Layout.{filled, all_zero, good_text}
+use Rattle.tree_shape.specs.of_area.Area.{first_at}
+use Rattle.tree_shape.proofs.of_area.Parts.{rest_part}
+use Rattle.tree_shape.specs.of_utf8.Utf8.{utf8}
+use Rattle.tree_shape.specs.of_text_filter.Filter.{unfiltered}
+use Rattle.tree_order.specs.of_tree_report.Layout.{filled, all_zero, good_text}
 
 -- the texts up to the first zero byte are the area's front
 pub filled-front : (s : List ℕ) → take (length (filled s)) s ≡ filled s

@@ -8,12 +8,12 @@ use borrow.Author.Tests.{eq-eqb, ne_eqb, leb-true, leb-false, eqb-true, eqb-fals
 use lib.Dec.{leb, eqb}
 use lib.ListN.{length, get_or, take, drop}
 use lib.Seq.{drop-drop, get_or-drop, take-nil}
-use Rattle.area.proofs.Parts.{length_part}
-use Rattle.tree_record.specs.Record.{kind_of, live}
-use Rattle.tree_status.specs.Status.{no_status, Few}
-use Rattle.tree_status.proofs.Tallies.{few-more, few-none, few-tallied}
-use Rattle.tree_report.specs.Fields.{is_report, is_suite, is_case, is_suite_property, is_case_property, is_suite_extra, is_case_extra}
-use Rattle.tree_report.specs.Layout.{Open, all_zero, good_record, all_good, nothing, may_end, may_follow, following, good_order, records_from}
+use Rattle.tree_shape.proofs.of_area.Parts.{length_part}
+use Rattle.tree_shape.specs.of_tree_record.Record.{kind_of, live}
+use Rattle.tree_shape.specs.of_tree_status.Status.{no_status, Few}
+use Rattle.tree_shape.proofs.of_tree_status.Tallies.{few-more, few-none, few-tallied}
+use Rattle.tree_order.specs.of_tree_report.Fields.{is_report, is_suite, is_case, is_suite_property, is_case_property, is_suite_extra, is_case_extra}
+use Rattle.tree_order.specs.of_tree_report.Layout.{Open, all_zero, good_record, all_good, nothing, may_end, may_follow, following, good_order, records_from}
 use Rattle.tree_layout.specs.inside.Walk.{admits, behind, stands_at, layout_from, walked}
 
 -- ---- no count of status elements is above the number of words passed

@@ -6,8 +6,8 @@ use mathlib.Core.Path.{◌≡◌, refl, sym, ap, ◌∙◌}
 use native.Mathlib.Nat.{min-zero, suc-min-suc, min_comm}
 use lib.ListN.{length, take, length-take}
 use lib.Seq.{take-nil}
-use Rattle.area.specs.Limits.{most_words, most_bytes}
-use Rattle.tree_report.specs.Layout.{used_words, used_text, filled, good_text, nothing, records_of, layout}
+use Rattle.tree_shape.specs.of_area.Limits.{most_words, most_bytes}
+use Rattle.tree_order.specs.of_tree_report.Layout.{used_words, used_text, filled, good_text, nothing, records_of, layout}
 use Rattle.tree_layout.specs.inside.Walk.{layout_from, walked}
 use Rattle.tree_layout.proofs.Filling.{filled-front}
 

@@ -1,18 +1,22 @@
 // Whether two lent areas hold a report: docs/TREE.md.
 #![tactic(auto)]
 
+pub use tree_shape::{
+    the_area, the_fixed, the_names, the_refusal, the_timestamp, the_tree_record, the_uuids,
+};
+
 mod texts;
 
 ghost use Rattle.std.specs.Prelude.{◌≡◌, ◌≤◌, length};
-ghost use Rattle.tree_report.specs.Layout.{layout};
-ghost use Rattle.area.specs.Limits.{most_words};
-ghost use Rattle.tree_status.specs.Status.{Few};
+ghost use Rattle.tree_order.specs.of_tree_report.Layout.{layout};
+ghost use Rattle.tree_shape.specs.of_area.Limits.{most_words};
+ghost use Rattle.tree_shape.specs.of_tree_status.Status.{Few};
 ghost use Rattle.tree_order.specs.inside.Open.{state_of};
 ghost use Rattle.tree_layout.specs.inside.Walk.{admits, behind, stands_at, walked};
 
-use area::{least, limit};
 use tree_order::State;
-use tree_record::{kind, word};
+use tree_shape::the_area::{least, limit};
+use tree_shape::the_tree_record::{kind, word};
 
 // Whether a record stands at the word `at`: 32 words are left, and its kind isn't 0.
 fn stands_at(words: &[u32], at: usize, limit: usize) -> bool
@@ -60,7 +64,7 @@ fn good_records(texts: &[u8], words: &[u32], limit: usize) -> bool
             return false;
         }
     }
-    tree_order::may_stop(state) & tree_slots::is_zero(&words[at..limit])
+    tree_order::may_stop(state) & tree_shape::the_tree_slots::is_zero(&words[at..limit])
 }
 
 // By rules M8 and M9.
@@ -69,7 +73,7 @@ pub fn is_layout(records: &[u32], text: &[u8]) -> bool
 {
     let bytes = least(text.len(), limit::BYTES);
     let used = &text[..bytes];
-    let fill = area::first_at(used, 0);
+    let fill = tree_shape::the_area::first_at(used, 0);
     let limit = least(records.len(), limit::WORDS);
     texts::is_good(used, fill) & good_records(&used[..fill], records, limit)
 }

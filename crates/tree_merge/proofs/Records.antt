@@ -4,10 +4,10 @@ use mathlib.Core.Bool.{cond, ◌&&◌}
 use mathlib.Core.List.{List}
 use mathlib.Core.Path.{◌≡◌, refl}
 use lib.Dec.{leb}
-use Rattle.schema.specs.Schema.{table_of}
-use Rattle.schema.specs.Records.{good}
-use Rattle.tree_report.specs.Fields.{kind_of, live}
-use Rattle.tree_report.specs.Layout.{good_record}
+use Rattle.starts.specs.of_schema.Schema.{table_of}
+use Rattle.starts.specs.of_schema.Records.{good}
+use Rattle.starts.specs.of_tree_report.Fields.{kind_of, live}
+use Rattle.starts.specs.of_tree_report.Layout.{good_record}
 
 pub table-good : (texts r : List ℕ)
     → good_record texts r ≡ cond (live r) (leb (kind_of r) 14 && good (table_of (kind_of r)) texts r) (leb 17 (kind_of r) && leb (kind_of r) 30)

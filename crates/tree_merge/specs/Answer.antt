@@ -1,22 +1,22 @@
 -- What merging two trees answers and leaves in the two areas (rules J1, J7 to J10 and F13). Definitions only.
 use Rattle.std.specs.Prelude.{ℕ, ◌+◌, ◌/◌, min, List, [], ◌∷◌, ◌++◌, Bool, true, cond, not, ◌&&◌, length, leb, ltb}
 use Rattle.std.proofs.Math.Option.{Option, none, some}
-use Rattle.area.specs.Answer.{Answer, gives, refuses}
-use Rattle.area.specs.Area.{zeros, laid}
-use Rattle.area.specs.Limits.{most_records, most_bytes}
-use Rattle.refusal.specs.Refusal.{Outcome, accepted, refused, late}
-use Rattle.refusal.specs.declared.Cause.TheVariants as cause
-use Rattle.utf8.specs.Characters.{joined}
-use Rattle.schema.specs.Elements.{report_fields}
-use Rattle.schema.specs.Schema.{report}
-use Rattle.schema.specs.Texts.{stored_in, record_at}
+use Rattle.starts.specs.of_area.Answer.{Answer, gives, refuses}
+use Rattle.starts.specs.of_area.Area.{zeros, laid}
+use Rattle.starts.specs.of_area.Limits.{most_records, most_bytes}
+use Rattle.tree_counts.specs.of_refusal.Refusal.{Outcome, accepted, refused, late}
+use Rattle.tree_counts.specs.of_refusal.declared.Cause.TheVariants as cause
+use Rattle.starts.specs.of_utf8.Characters.{joined}
+use Rattle.starts.specs.of_schema.Elements.{report_fields}
+use Rattle.starts.specs.of_schema.Schema.{report}
+use Rattle.starts.specs.of_schema.Texts.{stored_in, record_at}
 use Rattle.tree_counts.specs.Counts.{is_count}
-use Rattle.tree_record.specs.Kinds as kind
-use Rattle.tree_report.specs.Encode.{Encoding}
-use Rattle.tree_report.specs.Fields.{live, is_report}
-use Rattle.tree_report.specs.Layout.{layout, records_of, used_text}
-use Rattle.tree_report.specs.Report.{Duration, Counts, Report}
-use Rattle.tree_report.specs.ReportOf.{only, report_of}
+use Rattle.starts.specs.of_tree_record.Kinds as kind
+use Rattle.starts.specs.of_tree_report.Encode.{Encoding}
+use Rattle.starts.specs.of_tree_report.Fields.{live, is_report}
+use Rattle.starts.specs.of_tree_report.Layout.{layout, records_of, used_text}
+use Rattle.starts.specs.of_tree_report.Report.{Duration, Counts, Report}
+use Rattle.starts.specs.of_tree_report.ReportOf.{only, report_of}
 use Rattle.tree_merge.specs.Merged.{merged_report}
 use Rattle.tree_merge.specs.Moved.{texts_in, moved_from}
 

@@ -1,9 +1,9 @@
 -- Two reports as one (rules J2 to J6). Definitions only.
 use Rattle.std.specs.Prelude.{ℕ, ◌+◌, ◌*◌, ◌/◌, ◌%◌, [], ◌∷◌, ◌++◌}
 use Rattle.std.proofs.Math.Option.{Option, none, some}
-use Rattle.timestamp.specs.declared.Moment.{Moment}
+use Rattle.starts.specs.of_timestamp.declared.Moment.{Moment}
 use Rattle.starts.specs.Starts.{earliest}
-use Rattle.tree_report.specs.Report.{Duration, Counts, Report}
+use Rattle.starts.specs.of_tree_report.Report.{Duration, Counts, Report}
 
 -- of two that may be missing: missing exactly if both are, the only one, or what f makes of the two
 abbrev pub either_by : {A : Type 0} → (A → A → A) → Option A → Option A → Option A

@@ -1,9 +1,9 @@
 -- Records whose texts are copied behind others: which words are a text is what the rows of a record's kind say (crate schema). Definitions only.
 use Rattle.std.specs.Prelude.{ℕ, ◌+◌, List, [], ◌∷◌, ◌++◌, Bool, true, false, cond, ◌&&◌, length, set}
-use Rattle.schema.specs.Schema.{Form, text, number, time, timestamp, uuid, flag, Presence, always, must, may, unkept, Row, table_of}
-use Rattle.schema.specs.Records.{is_set}
-use Rattle.schema.specs.Texts.{shown_slot, fields_of, stored, stored_in}
-use Rattle.tree_record.specs.Record.{kind_of}
+use Rattle.starts.specs.of_schema.Schema.{Form, text, number, time, timestamp, uuid, flag, Presence, always, must, may, unkept, Row, table_of}
+use Rattle.starts.specs.of_schema.Records.{is_set}
+use Rattle.starts.specs.of_schema.Texts.{shown_slot, fields_of, stored, stored_in}
+use Rattle.starts.specs.of_tree_record.Record.{kind_of}
 
 -- ---- a row
 abbrev pub is_text : Form → Bool

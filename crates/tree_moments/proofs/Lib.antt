@@ -1,1 +1,10 @@
 pub mod Moments
+pub use Rattle.tree_slots.proofs.of_area as of_area
+pub use Rattle.tree_slots.proofs.of_schema as of_schema
+pub use Rattle.tree_slots.proofs.of_text_filter as of_text_filter
+pub use Rattle.tree_slots.proofs.of_timestamp as of_timestamp
+pub use Rattle.tree_slots.proofs.of_tree_record as of_tree_record
+pub use Rattle.tree_slots.proofs.of_tree_report as of_tree_report
+pub use Rattle.tree_slots.proofs as of_tree_slots
+pub use Rattle.tree_slots.proofs.of_tree_status as of_tree_status
+pub use Rattle.tree_slots.proofs.of_utf8 as of_utf8

@@ -7,10 +7,10 @@ use native.Mathlib.Omega.{arith}
 use borrow.Author.Tests.{le-leb, leb-true}
 use lib.Dec.{leb, eqb, lit≤}
 use lib.ListN.{get_or}
-use Rattle.calendar.specs.Calendar.{is_leap, lengths, month_length}
-use Rattle.timestamp.specs.Timestamp.{in_range}
-use Rattle.timestamp.proofs.Ranges.{InRange, range-facts}
-use Rattle.tree_report.specs.Fields.{moment_of}
+use Rattle.tree_slots.specs.of_calendar.Calendar.{is_leap, lengths, month_length}
+use Rattle.tree_slots.specs.of_timestamp.Timestamp.{in_range}
+use Rattle.tree_slots.proofs.of_timestamp.Ranges.{InRange, range-facts}
+use Rattle.tree_slots.specs.of_tree_report.Fields.{moment_of}
 use Rattle.tree_moments.specs.inside.Fitting.{moment_fits}
 
 pub record Fitting (r : List ℕ) : Type 0 where

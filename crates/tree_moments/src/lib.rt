@@ -2,14 +2,19 @@
 #![tactic(auto)]
 
 ghost use Rattle.std.specs.Prelude.{◌≡◌, ◌≤◌, length};
-ghost use Rattle.timestamp.specs.Timestamp.{in_range};
-ghost use Rattle.tree_report.specs.Fields.{moment_of};
-ghost use Rattle.tree_report.specs.inside.Parts.{moment_slot, time_slot};
+ghost use Rattle.tree_slots.specs.of_timestamp.Timestamp.{in_range};
+ghost use Rattle.tree_slots.specs.of_tree_report.Fields.{moment_of};
+ghost use Rattle.tree_slots.specs.of_tree_report.inside.Parts.{moment_slot, time_slot};
 ghost use Rattle.tree_moments.specs.inside.Fitting.{moment_fits};
 
-use timestamp::Moment;
-use tree_record::{bit, has_bit, word};
+pub use tree_slots as the_tree_slots;
 use tree_slots::is_zero;
+use tree_slots::the_timestamp::Moment;
+use tree_slots::the_tree_record::{bit, has_bit, word};
+pub use tree_slots::{
+    the_area, the_fixed, the_names, the_refusal, the_text_filter, the_timestamp, the_tree_record,
+    the_utf8, the_uuids,
+};
 
 // The words of a timestamp fit the fields of a moment.
 fn moment_fits(r: &[u32]) -> bool
@@ -28,7 +33,7 @@ fn in_range(r: &[u32]) -> bool
     if !moment_fits(r) {
         return false;
     }
-    timestamp::in_range(Moment {
+    tree_slots::the_timestamp::in_range(Moment {
         year: r[word::YEAR] as u16,
         month: r[word::MONTH] as u8,
         day: r[word::DAY] as u8,

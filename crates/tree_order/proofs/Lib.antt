@@ -1,1 +1,2 @@
 pub mod Opening
+pub use Rattle.tree_report.proofs as of_tree_report

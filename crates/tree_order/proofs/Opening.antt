@@ -9,7 +9,7 @@ use borrow.Author.Tests.{ne_eqb}
 use lib.Dec.{eqb}
 use lib.ListN.{get_or}
 use Rattle.tree_report.specs.Layout.{Open, may_follow, following}
-use Rattle.tree_status.specs.declared.Tally.{Tally}
+use Rattle.tree_report.specs.of_tree_status.declared.Tally.{Tally}
 use Rattle.tree_order.specs.inside.Open.{status_behind}
 
 abbrev state_with : ℕ → Bool → ℕ → ℕ → Bool → Tally → Open

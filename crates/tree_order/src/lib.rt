@@ -2,12 +2,12 @@
 #![tactic(auto)]
 
 ghost use Rattle.std.specs.Prelude.{◌≡◌, ◌≤◌, ◌&&◌, length, leb};
-ghost use Rattle.tree_status.specs.Status.{Few};
+ghost use Rattle.tree_report.specs.of_tree_status.Status.{Few};
 ghost use Rattle.tree_report.specs.Layout as tree;
 ghost use Rattle.tree_order.specs.inside.Open.{state_of, fresh_of, status_behind};
 
-use tree_record::{bit, has_bit, kind, word};
-use tree_status::{Tally, is_ruled, no_status, tallied};
+use tree_report::the_tree_record::{bit, has_bit, kind, word};
+use tree_report::the_tree_status::{Tally, is_ruled, no_status, tallied};
 
 // What is open behind a record.
 #[derive(Clone, Copy)]

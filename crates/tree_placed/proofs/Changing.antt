@@ -3,8 +3,8 @@ use Prim.Native.Nat.{ℕ}
 use mathlib.Core.Bool.{Bool}
 use mathlib.Core.List.{List}
 use mathlib.Core.Option.{Option, some}
-use Rattle.timestamp.specs.declared.Moment.{Moment}
-use Rattle.uuids.specs.declared.Words.{Words}
+use Rattle.tree_put.specs.of_timestamp.declared.Moment.{Moment}
+use Rattle.tree_put.specs.of_uuids.declared.Words.{Words}
 use Rattle.tree_report.specs.Report.{Text, Duration}
 use Rattle.tree_report.specs.inside.Cells.{Cell, written, of_number, of_count, uuid_front, uuid_back}
 use Rattle.tree_placed.specs.inside.Placed.{Placed, StandsAt, InTexts}

@@ -5,15 +5,15 @@ use mathlib.Core.List.{List, [], ◌∷◌, ◌++◌}
 use mathlib.Core.Option.{none, some}
 use mathlib.Core.Path.{◌≡◌, refl}
 use lib.Dec.{lit≤}
-use Rattle.area.specs.Area.{zeros, laid}
-use Rattle.utf8.specs.Characters.{joined}
-use Rattle.utf8.specs.Utf8.{need, low, high}
+use Rattle.tree_put.specs.of_area.Area.{zeros, laid}
+use Rattle.tree_put.specs.of_utf8.Characters.{joined}
+use Rattle.tree_put.specs.of_utf8.Utf8.{need, low, high}
 use Rattle.tree_report.specs.inside.Cells.{fits_row, report_row, suite_row}
 use Rattle.tree_report.specs.Layout.{layout}
 use Rattle.tree_report.specs.Report.{Counts, TestSuite, Report}
 use Rattle.tree_report.specs.ReportOf.{report_of}
 use Rattle.tree_report.proofs.EncodeLists.{Each, done, more}
-use Rattle.tree_record.specs.Record.{unmarked}
+use Rattle.tree_put.specs.of_tree_record.Record.{unmarked}
 use Rattle.tree_placed.specs.inside.Placed.{Placed, record_of_it, records_in, good_at, InTexts}
 use Rattle.tree_placed.specs.inside.Changed.{blank_places, at_first_of}
 use Rattle.tree_placed.proofs.Whole.{placed-layout, placed-report}

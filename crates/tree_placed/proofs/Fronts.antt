@@ -7,10 +7,10 @@ use native.Mathlib.Omega.{arith}
 use lib.Dec.{eqb}
 use lib.ListN.{length, get_or, set, length-set, get_or-append}
 use lib.Seq.{set-append_left}
-use Rattle.timestamp.specs.declared.Moment.{Moment}
-use Rattle.uuids.specs.declared.Words.{Words}
-use Rattle.tree_record.specs.Record.{mask_of, has_bit, marked, unmarked}
-use Rattle.tree_record.proofs.Marks.{marked-already, marked-anew}
+use Rattle.tree_put.specs.of_timestamp.declared.Moment.{Moment}
+use Rattle.tree_put.specs.of_uuids.declared.Words.{Words}
+use Rattle.tree_put.specs.of_tree_record.Record.{mask_of, has_bit, marked, unmarked}
+use Rattle.tree_put.proofs.of_tree_record.Marks.{marked-already, marked-anew}
 use Rattle.tree_put.specs.Put.{put_pair, put_text, put_count_of, put_words, uuid_words, put_uuid, moment_words, put_moment, put_time}
 use Rattle.tree_put.proofs.Puts.{pair-length, words-length}
 use Rattle.tree_placed.proofs.Flags.{unmarked-already, unmarked-anew}

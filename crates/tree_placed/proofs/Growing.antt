@@ -8,10 +8,10 @@ use borrow.Author.Tests.{eqb-true, eq-eqb, ne_eqb, leb-true, le-leb, ltb-true, l
 use lib.Dec.{eqb, leb, ltb}
 use lib.ListN.{length, get_or, take, drop, length-append, get_or-append}
 use lib.Seq.{take-length, drop-append_seam}
-use Rattle.utf8.specs.Utf8.{utf8, within}
-use Rattle.utf8.specs.Characters.{boundary}
-use Rattle.utf8.proofs.Boundaries.{boundary-append, boundary-in}
-use Rattle.schema.proofs.RecordLaws.{text-read}
+use Rattle.tree_put.specs.of_utf8.Utf8.{utf8, within}
+use Rattle.tree_put.specs.of_utf8.Characters.{boundary}
+use Rattle.tree_put.proofs.of_utf8.Boundaries.{boundary-append, boundary-in}
+use Rattle.tree_report.proofs.of_schema.RecordLaws.{text-read}
 use Rattle.tree_report.specs.inside.Cells.{Cell, absent, written, valued, constant}
 use Rattle.tree_report.specs.Report.{Text}
 use Rattle.tree_report.proofs.EncodeLists.{both, and_left, and_right, Each, each_on}

@@ -6,9 +6,9 @@ use mathlib.Core.Option.{some}
 use mathlib.Core.Path.{◌≡◌, refl, ap, ◌∙◌}
 use lib.Dec.{lit≤}
 use lib.ListN.{length, set}
-use Rattle.timestamp.specs.declared.Moment.{Moment}
-use Rattle.uuids.specs.declared.Words.{Words}
-use Rattle.tree_record.specs.Record.{marked, unmarked}
+use Rattle.tree_put.specs.of_timestamp.declared.Moment.{Moment}
+use Rattle.tree_put.specs.of_uuids.declared.Words.{Words}
+use Rattle.tree_put.specs.of_tree_record.Record.{marked, unmarked}
 use Rattle.tree_report.specs.Report.{Text}
 use Rattle.tree_report.specs.inside.Cells.{is_given, is_some, first_word, second_word, of_number, of_count, uuid_front, uuid_back, moment_or_zero, time_or_zero, flags_of, presence}
 use Rattle.tree_put.specs.Put.{blank, put_text, put_count_of, put_uuid, put_moment, put_time}

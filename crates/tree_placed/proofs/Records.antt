@@ -6,16 +6,16 @@ use mathlib.Core.Option.{Option, none, some}
 use mathlib.Core.Path.{◌≡◌, refl, sym, ap, ◌∙◌}
 use lib.Dec.{eqb}
 use lib.ListN.{length, get_or}
-use Rattle.area.specs.Area.{zeros}
-use Rattle.timestamp.specs.declared.Moment.{Moment}
-use Rattle.uuids.specs.declared.Words.{Words}
-use Rattle.tree_record.specs.Kinds as kind
-use Rattle.schema.specs.Schema.{text, number, time, timestamp, uuid, may, fine}
-use Rattle.schema.specs.Schema as table
-use Rattle.schema.specs.Records.{Fields, Span, is_some, flags_of, slot_words, marks_from, encode, good}
-use Rattle.schema.specs.Texts.{place_slot, fields_of}
-use Rattle.schema.specs.Elements as named
-use Rattle.schema.proofs.RecordLaws.{placed_by, marks-by, GivenStands, StandBy, anywhere-back, anywhere-good}
+use Rattle.tree_put.specs.of_area.Area.{zeros}
+use Rattle.tree_put.specs.of_timestamp.declared.Moment.{Moment}
+use Rattle.tree_put.specs.of_uuids.declared.Words.{Words}
+use Rattle.tree_put.specs.of_tree_record.Kinds as kind
+use Rattle.tree_report.specs.of_schema.Schema.{text, number, time, timestamp, uuid, may, fine}
+use Rattle.tree_report.specs.of_schema.Schema as table
+use Rattle.tree_report.specs.of_schema.Records.{Fields, Span, is_some, flags_of, slot_words, marks_from, encode, good}
+use Rattle.tree_report.specs.of_schema.Texts.{place_slot, fields_of}
+use Rattle.tree_report.specs.of_schema.Elements as named
+use Rattle.tree_report.proofs.of_schema.RecordLaws.{placed_by, marks-by, GivenStands, StandBy, anywhere-back, anywhere-good}
 use Rattle.tree_report.specs.Report.{Text, Duration, Pair, FlakyOrRerun, TestRerun, Reason, TestCase, TestSuite, Report}
 use Rattle.tree_report.specs.Fields.{kind_of, given}
 use Rattle.tree_report.specs.Layout.{good_record}

@@ -6,11 +6,11 @@ use mathlib.Core.Option.{some}
 use mathlib.Core.Path.{◌≡◌, refl, sym, ap, ap₂, subst, ◌∙◌}
 use lib.Dec.{eqb}
 use lib.ListN.{length, drop, length-map}
-use Rattle.area.proofs.Laying.{laid-zeros}
-use Rattle.area.specs.Area.{zeros, laid}
-use Rattle.utf8.specs.Characters.{joined}
-use Rattle.utf8.specs.Utf8.{utf8}
-use Rattle.text_filter.specs.Filter.{unfiltered}
+use Rattle.tree_put.proofs.of_area.Laying.{laid-zeros}
+use Rattle.tree_put.specs.of_area.Area.{zeros, laid}
+use Rattle.tree_put.specs.of_utf8.Characters.{joined}
+use Rattle.tree_put.specs.of_utf8.Utf8.{utf8}
+use Rattle.tree_report.specs.of_text_filter.Filter.{unfiltered}
 use Rattle.tree_report.specs.Encode as row
 use Rattle.tree_report.specs.inside.Cells.{Row, every, fits_row, rows_of}
 use Rattle.tree_report.specs.Fields.{kind_of, live}

@@ -1,7 +1,7 @@
 -- Fields put into blank records, by computing. Assumes nothing.
 use mathlib.Core.List.{[], ◌∷◌, ◌++◌}
 use mathlib.Core.Path.{◌≡◌, refl}
-use Rattle.area.specs.Area.{zeros}
+use Rattle.timestamp.specs.of_area.Area.{zeros}
 use Rattle.tree_record.specs.Record.{marked}
 use Rattle.tree_put.specs.Put.{blank, put_text, put_count_of, put_uuid, put_moment, put_time}
 

@@ -1,6 +1,6 @@
 -- Words put into a record, docs/TREE.md. Definitions only.
 use Rattle.std.specs.Prelude.{ℕ, ◌+◌, ◌/◌, ◌%◌, ◌^◌, List, [], ◌∷◌, set}
-use Rattle.area.specs.Area.{zeros}
+use Rattle.timestamp.specs.of_area.Area.{zeros}
 use Rattle.timestamp.specs.declared.Moment.{Moment}
 use Rattle.uuids.specs.declared.Words.{Words}
 use Rattle.tree_record.specs.Words as word

@@ -4,7 +4,11 @@
 ghost use Rattle.std.specs.Prelude.{◌≡◌};
 ghost use Rattle.tree_put.specs.Put.{put_pair, put_text, put_count_of};
 
+pub use timestamp as the_timestamp;
+pub use timestamp::{the_area, the_names, the_refusal};
+pub use tree_record as the_tree_record;
 use tree_record::{put_bit, put_field};
+pub use uuids as the_uuids;
 
 // Two words from word o on. Where the part lacks the first, it lacks the second too.
 pub fn put_pair(words: &mut [u32], o: usize, a: u32, b: u32)

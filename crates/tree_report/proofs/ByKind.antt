@@ -6,7 +6,7 @@ use mathlib.Core.Path.{◌≡◌, refl, sym, ap, ◌∙◌}
 use native.Mathlib.Omega.{arith}
 use borrow.Author.Tests.{eqb-true, leb-true, leb-false, le-leb, lt-leb, lt-ltb, ne_eqb}
 use lib.Dec.{leb, eqb}
-use Rattle.tree_record.specs.Kinds as kind
+use Rattle.tree_status.specs.of_tree_record.Kinds as kind
 use Rattle.tree_report.specs.Fields.{kind_of, live, is_report, is_suite, is_case}
 use Rattle.tree_report.specs.inside.Parts.{bits_for, good_report, good_suite, good_case, good_other}
 use Rattle.tree_report.specs.Layout.{good_record}

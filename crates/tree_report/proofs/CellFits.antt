@@ -8,9 +8,9 @@ use native.Mathlib.Omega.{arith}
 use borrow.Author.Tests.{leb-true, leb-false, le-leb, lt-leb}
 use lib.Dec.{leb}
 use lib.ListN.{length}
-use Rattle.timestamp.specs.declared.Moment.{Moment}
-use Rattle.uuids.specs.declared.Words.{Words}
-use Rattle.tree_record.specs.Kinds as kind
+use Rattle.schema.specs.of_timestamp.declared.Moment.{Moment}
+use Rattle.schema.specs.of_uuids.declared.Words.{Words}
+use Rattle.tree_status.specs.of_tree_record.Kinds as kind
 use Rattle.tree_report.specs.Report.{Text, Duration, Pair, NonSuccessKind, FlakyOrRerun, flaky, TestRerun, Reason}
 use Rattle.tree_report.specs.Report.{TestCaseStatus, success, non_success, TestCase, TestSuite, Report}
 use Rattle.tree_report.specs.Report.{skipped as is_skipped}

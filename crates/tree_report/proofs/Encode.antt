@@ -7,11 +7,11 @@ use mathlib.Core.Path.{◌≡◌, refl, sym, ap, ap₂, ◌∙◌}
 use borrow.Author.Tests.{leb-true}
 use lib.Dec.{leb, eqb}
 use lib.ListN.{length, drop, length-append}
-use Rattle.area.proofs.Laying.{laid-zeros}
-use Rattle.area.specs.Area.{zeros}
-use Rattle.utf8.proofs.Rules.{utf8_append}
-use Rattle.utf8.specs.Utf8.{utf8}
-use Rattle.text_filter.specs.Filter.{unfiltered}
+use Rattle.schema.proofs.of_area.Laying.{laid-zeros}
+use Rattle.schema.specs.of_area.Area.{zeros}
+use Rattle.schema.proofs.of_utf8.Rules.{utf8_append}
+use Rattle.schema.specs.of_utf8.Utf8.{utf8}
+use Rattle.schema.specs.of_text_filter.Filter.{unfiltered}
 use Rattle.schema.specs.Records as records
 use Rattle.schema.specs.Texts as texts
 use Rattle.schema.proofs.TextLaws.{utf8-all, record-back, record-good}

@@ -7,9 +7,9 @@ use native.Mathlib.Omega.{arith}
 use lib.Dec.{eqb}
 use lib.ListN.{length, get_or, take, drop, length-append, length-take, length-replicate, get_or-append}
 use lib.Seq.{take_at, drop_at}
-use Rattle.area.proofs.Laying.{laid-zeros}
-use Rattle.area.specs.Area.{zeros, laid}
-use Rattle.utf8.specs.Characters.{joined}
+use Rattle.schema.proofs.of_area.Laying.{laid-zeros}
+use Rattle.schema.specs.of_area.Area.{zeros, laid}
+use Rattle.schema.specs.of_utf8.Characters.{joined}
 use Rattle.tree_report.specs.Fields.{kind_of}
 use Rattle.tree_report.specs.Layout.{used_words, all_zero, records_from, records_of}
 use Rattle.tree_report.proofs.EncodeLists.{Each, done, more}

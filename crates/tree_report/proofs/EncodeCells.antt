@@ -9,13 +9,13 @@ use native.Mathlib.Omega.{arith}
 use borrow.Author.Tests.{eq-eqb}
 use lib.Dec.{eqb}
 use lib.ListN.{get_or, take, drop}
-use Rattle.tree_record.specs.Record.{mask_of}
+use Rattle.tree_status.specs.of_tree_record.Record.{mask_of}
 use Rattle.tree_report.specs.inside.Cells.{is_given, first_word, second_word, of_number, uuid_back, is_some, moment_or_zero, time_or_zero, fits_moment, fits_time, flags_of}
 use Rattle.tree_report.specs.Fields.{has_bit, given, number_at, moment_of, timestamp, time}
 use Rattle.tree_report.specs.Layout.{zero_at}
 use Rattle.tree_report.specs.inside.Parts.{slot, moment_slot, time_slot, bits_of, only_bits}
-use Rattle.timestamp.specs.declared.Moment.{Moment}
-use Rattle.uuids.specs.declared.Words.{Words}
+use Rattle.schema.specs.of_timestamp.declared.Moment.{Moment}
+use Rattle.schema.specs.of_uuids.declared.Words.{Words}
 use Rattle.tree_report.specs.Report.{Duration}
 pub use Rattle.schema.proofs.Tests.{bit-flag}
 

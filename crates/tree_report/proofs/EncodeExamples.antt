@@ -3,7 +3,7 @@ use mathlib.Core.Bool.{true, false}
 use mathlib.Core.List.{[], ◌∷◌, ◌++◌}
 use mathlib.Core.Option.{none, some}
 use mathlib.Core.Path.{◌≡◌, refl}
-use Rattle.area.specs.Area.{zeros}
+use Rattle.schema.specs.of_area.Area.{zeros}
 use Rattle.schema.specs.Records as records
 use Rattle.schema.specs.Records.{good}
 use Rattle.schema.specs.Texts as texts
@@ -12,7 +12,7 @@ use Rattle.tree_report.specs.Layout.{good_text, good_record, may_end, may_follow
 use Rattle.tree_report.specs.Report.{Counts, failure, flaky, non_success, Report}
 use Rattle.tree_report.specs.ReportOf.{report_of}
 use Rattle.tree_status.specs.Status.{tallied, ruled}
-use Rattle.utf8.specs.Utf8.{need, low, high}
+use Rattle.schema.specs.of_utf8.Utf8.{need, low, high}
 
 abbrev no_counts : Counts
 no_counts = record { tests = 0; failures = 0; errors = 0; skipped = 0; disabled = none }

@@ -8,9 +8,9 @@ use borrow.Author.Tests.{eqb-true, not-true}
 use lib.Dec.{eqb}
 use lib.ListN.{length, take}
 use lib.Seq.{take-append-add, drop-append_seam}
-use Rattle.area.specs.Area.{zeros}
-use Rattle.utf8.specs.Utf8.{utf8}
-use Rattle.text_filter.specs.Filter.{dropped, unfiltered}
+use Rattle.schema.specs.of_area.Area.{zeros}
+use Rattle.schema.specs.of_utf8.Utf8.{utf8}
+use Rattle.schema.specs.of_text_filter.Filter.{dropped, unfiltered}
 use Rattle.tree_report.specs.Layout.{filled, good_text}
 pub use Rattle.schema.proofs.Tests.{zero-zeros}
 use Rattle.tree_report.proofs.EncodeLists.{both, and_left, and_right}

@@ -4,9 +4,9 @@ use mathlib.Core.Bool.{true, false}
 use mathlib.Core.List.{List, [], ◌∷◌}
 use mathlib.Core.Option.{some}
 use mathlib.Core.Path.{◌≡◌, refl}
-use Rattle.area.specs.Area.{zeros}
-use Rattle.area.specs.Limits.{most_records, most_words}
-use Rattle.tree_record.specs.Kinds as kind
+use Rattle.schema.specs.of_area.Area.{zeros}
+use Rattle.schema.specs.of_area.Limits.{most_records, most_words}
+use Rattle.tree_status.specs.of_tree_record.Kinds as kind
 use Rattle.tree_status.specs.Status.{tallied, ruled}
 use Rattle.schema.specs.Schema.{text}
 use Rattle.schema.specs.Records.{good_value, value_at, good}

@@ -1,9 +1,9 @@
 -- The areas that hold a report, and when it fits them. Definitions only.
 use Rattle.std.specs.Prelude.{ℕ, ◌+◌, ◌*◌, List, [], ◌∷◌, ◌++◌, map, Bool, true, false, ◌&&◌, length, leb}
-use Rattle.area.specs.Area.{zeros, laid}
-use Rattle.area.specs.Limits.{most_records, most_bytes}
-use Rattle.utf8.specs.Characters.{joined}
-use Rattle.tree_record.specs.Kinds as kind
+use Rattle.schema.specs.of_area.Area.{zeros, laid}
+use Rattle.schema.specs.of_area.Limits.{most_records, most_bytes}
+use Rattle.schema.specs.of_utf8.Characters.{joined}
+use Rattle.tree_status.specs.of_tree_record.Kinds as kind
 use Rattle.schema.specs.Schema as schema
 use Rattle.schema.specs.Records.{Fields}
 use Rattle.schema.specs.Texts as texts

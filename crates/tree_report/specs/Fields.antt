@@ -1,12 +1,12 @@
 -- The fields of a record, docs/TREE.md. A record is the list of its words. Definitions only.
 use Rattle.std.specs.Prelude.{ℕ, ◌+◌, List, Bool, ◌&&◌, get_or, leb, eqb}
 use Rattle.std.proofs.Math.Option.{Option}
-use Rattle.timestamp.specs.declared.Moment.{Moment}
-use Rattle.uuids.specs.declared.Words.{Words}
-use Rattle.tree_record.specs.Words as word
-use Rattle.tree_record.specs.Bits as bit
-use Rattle.tree_record.specs.Kinds as kind
-pub use Rattle.tree_record.specs.Record.{kind_of, live, has_bit, text_at, number_at}
+use Rattle.schema.specs.of_timestamp.declared.Moment.{Moment}
+use Rattle.schema.specs.of_uuids.declared.Words.{Words}
+use Rattle.tree_status.specs.of_tree_record.Words as word
+use Rattle.tree_status.specs.of_tree_record.Bits as bit
+use Rattle.tree_status.specs.of_tree_record.Kinds as kind
+pub use Rattle.tree_status.specs.of_tree_record.Record.{kind_of, live, has_bit, text_at, number_at}
 pub use Rattle.schema.specs.Records.{given}
 use Rattle.tree_report.specs.Report.{Text, Duration, Counts}
 

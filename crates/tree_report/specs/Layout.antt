@@ -1,10 +1,10 @@
 -- What a layout is, docs/TREE.md. Definitions only.
 use Rattle.std.specs.Prelude.{ℕ, zero, suc, ◌+◌, ◌*◌, ◌/◌, List, [], ◌∷◌, Bool, true, false, cond, not, ◌&&◌, ◌||◌, length, get_or, take, drop, leb, eqb}
-use Rattle.utf8.specs.Utf8.{utf8}
-use Rattle.text_filter.specs.Filter.{unfiltered}
-use Rattle.area.specs.Limits.{most_words, most_bytes}
-use Rattle.tree_record.specs.Bits as bit
-use Rattle.tree_record.specs.Kinds as kind
+use Rattle.schema.specs.of_utf8.Utf8.{utf8}
+use Rattle.schema.specs.of_text_filter.Filter.{unfiltered}
+use Rattle.schema.specs.of_area.Limits.{most_words, most_bytes}
+use Rattle.tree_status.specs.of_tree_record.Bits as bit
+use Rattle.tree_status.specs.of_tree_record.Kinds as kind
 use Rattle.tree_status.specs.declared.Tally.{Tally}
 use Rattle.tree_status.specs.Status.{no_status, tallied, ruled}
 use Rattle.schema.specs.Schema.{table_of}

@@ -1,8 +1,8 @@
 -- The report that a layout holds. Definitions only.
 use Rattle.std.specs.Prelude.{ℕ, List, [], ◌∷◌, map, Bool, cond, leb, eqb}
 use Rattle.std.proofs.Math.Option.{Option, none, some}
-use Rattle.tree_record.specs.Bits as bit
-use Rattle.tree_record.specs.Kinds as kind
+use Rattle.tree_status.specs.of_tree_record.Bits as bit
+use Rattle.tree_status.specs.of_tree_record.Kinds as kind
 use Rattle.tree_report.specs.Report.{Pair, failure, error, FlakyOrRerun, flaky, rerun, TestRerun, Reason, TestCaseStatus, success, non_success, skipped, TestCase, TestSuite, Report}
 use Rattle.tree_report.specs.Fields.{kind_of, live, is_suite, is_case, is_suite_property, is_case_property, is_main, is_run, is_suite_extra, is_case_extra, has_bit}
 use Rattle.schema.specs.Schema.{report, suite, case, run, property}

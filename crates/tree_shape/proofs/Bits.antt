@@ -11,8 +11,8 @@ use borrow.Author.Tests.{lt-ltb, le-ltb, eq-eqb, ne_eqb, eqb-true, eqb-false}
 use lib.Dec.{ltb, eqb}
 use lib.ListN.{get_or}
 use lib.Pow.{mod-pow-add, pow_pos, shr-shr}
-use Rattle.tree_record.proofs.Bits.{mask_power}
-use Rattle.tree_report.specs.inside.Parts.{bits_of, only_bits, report_bits, suite_bits, case_bits, pair_bits, main_bits, skipped_bits, run_bits}
+use Rattle.tree_moments.proofs.of_tree_record.Bits.{mask_power}
+use Rattle.tree_moments.specs.of_tree_report.inside.Parts.{bits_of, only_bits, report_bits, suite_bits, case_bits, pair_bits, main_bits, skipped_bits, run_bits}
 
 -- n bits from the bit k on
 abbrev run : ℕ → ℕ → List ℕ

@@ -8,9 +8,9 @@ use borrow.Author.Tests.{lt-ltb, le-ltb, ne_eqb}
 use lib.Dec.{leb}
 use lib.ListN.{length, get_or}
 use lib.Seq.{take_all}
-use Rattle.tree_report.specs.Layout.{good_record}
-use Rattle.tree_report.specs.inside.Parts.{good_report, good_suite, good_case, good_other}
-use Rattle.tree_report.proofs.ByKind.{record-parts}
+use Rattle.tree_moments.specs.of_tree_report.Layout.{good_record}
+use Rattle.tree_moments.specs.of_tree_report.inside.Parts.{good_report, good_suite, good_case, good_other}
+use Rattle.tree_moments.proofs.of_tree_report.ByKind.{record-parts}
 use Rattle.tree_shape.specs.inside.Records.{is_record}
 
 -- a record by its kind

@@ -2,14 +2,18 @@
 #![tactic(auto)]
 
 ghost use Rattle.std.specs.Prelude.{◌≡◌, ◌≤◌, length};
-ghost use Rattle.tree_report.specs.Fields.{kind_of};
-ghost use Rattle.tree_report.specs.Layout.{good_record};
-ghost use Rattle.tree_report.specs.inside.Parts.{only_bits, bits_for, good_common, good_outputs, good_counts, good_host, good_report, good_suite, good_case, good_other};
+ghost use Rattle.tree_moments.specs.of_tree_report.Fields.{kind_of};
+ghost use Rattle.tree_moments.specs.of_tree_report.Layout.{good_record};
+ghost use Rattle.tree_moments.specs.of_tree_report.inside.Parts.{only_bits, bits_for, good_common, good_outputs, good_counts, good_host, good_report, good_suite, good_case, good_other};
 ghost use Rattle.tree_shape.specs.inside.Records.{is_record};
 
+use tree_moments::the_tree_record::{bit, has_bit, kind, word};
+use tree_moments::the_tree_slots::{free_slot, is_zero, text_slot};
+pub use tree_moments::{
+    the_area, the_fixed, the_names, the_refusal, the_text_filter, the_timestamp, the_tree_record,
+    the_tree_slots, the_utf8, the_uuids,
+};
 use tree_moments::{moment_slot, time_slot};
-use tree_record::{bit, has_bit, kind, word};
-use tree_slots::{free_slot, is_zero, text_slot};
 
 fn good_common(texts: &[u8], r: &[u32]) -> bool
     requires { 32 ≤ length r.now }

@@ -7,8 +7,8 @@ use native.Mathlib.Omega.{arith}
 use borrow.Author.Tests.{ne_eqb, lt-ltb, le-ltb}
 use lib.Dec.{eqb}
 use lib.ListN.{length, get_or}
-use Rattle.utf8.specs.Characters.{boundary}
-use Rattle.utf8.specs.Utf8.{within}
+use Rattle.tree_report.specs.of_utf8.Characters.{boundary}
+use Rattle.tree_report.specs.of_utf8.Utf8.{within}
 
 module _ (s : List ℕ) (i : ℕ) where
   pub boundary-behind : length s ≤ i → eqb i (length s) ≡ boundary s i

@@ -2,12 +2,16 @@
 #![tactic(auto)]
 
 ghost use Rattle.std.specs.Prelude.{◌≡◌, ◌+◌, ◌≤◌, ◌<◌, true, length};
-ghost use Rattle.utf8.specs.Characters.{boundary};
-ghost use Rattle.tree_record.specs.Record.{has_bit};
+ghost use Rattle.tree_report.specs.of_utf8.Characters.{boundary};
+ghost use Rattle.tree_report.specs.of_tree_record.Record.{has_bit};
 ghost use Rattle.tree_report.specs.Layout.{all_zero, zero_at};
 ghost use Rattle.tree_report.specs.inside.Parts.{good_text_at, slot, text_slot};
 
-use tree_record::has_bit;
+use tree_report::the_tree_record::has_bit;
+pub use tree_report::{
+    the_area, the_fixed, the_names, the_refusal, the_text_filter, the_timestamp, the_tree_record,
+    the_utf8, the_uuids,
+};
 
 // No exit before the end: so the compiler takes many words at a time.
 pub fn is_zero(words: &[u32]) -> bool

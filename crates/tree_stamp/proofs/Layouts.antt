@@ -7,8 +7,8 @@ use native.Mathlib.Omega.{arith}
 use native.Mathlib.Nat.{mod-eq_of_lt}
 use borrow.Author.Tests.{lt-ltb}
 use Rattle.days.proofs.Lengths.{length_most}
-use Rattle.timestamp.specs.Timestamp.{in_range}
-use Rattle.timestamp.proofs.Ranges.{range-facts}
+use Rattle.tree_report.specs.of_timestamp.Timestamp.{in_range}
+use Rattle.tree_report.proofs.of_timestamp.Ranges.{range-facts}
 use Rattle.tree_report.specs.Fields.{moment_of}
 use Rattle.tree_stamp.specs.Stamp.{cut_offset, cut_moment}
 

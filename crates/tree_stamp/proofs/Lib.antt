@@ -1,1 +1,2 @@
 pub mod Layouts
+pub use Rattle.days.proofs as of_days

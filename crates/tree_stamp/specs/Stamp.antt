@@ -1,6 +1,6 @@
 -- The timestamp of a record, each number cut to the digits that are written of it. Definitions only.
 use Rattle.std.specs.Prelude.{ℕ, ◌+◌, ◌-◌, ◌%◌, List, cond, ltb}
-use Rattle.timestamp.specs.declared.Moment.{Moment}
+use Rattle.tree_report.specs.of_timestamp.declared.Moment.{Moment}
 use Rattle.tree_report.specs.Fields.{moment_of}
 
 -- 6000 minutes are a hundred hours; from +100:00 on they are cut

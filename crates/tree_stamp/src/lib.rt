@@ -5,8 +5,11 @@
 ghost use Rattle.std.specs.Prelude.{◌≡◌};
 ghost use Rattle.tree_stamp.specs.Stamp.{cut_offset, cut_moment};
 
-use timestamp::Moment;
-use tree_record::{field, word};
+pub use days as the_days;
+pub use days::the_area;
+use tree_report::the_timestamp::Moment;
+use tree_report::the_tree_record::{field, word};
+pub use tree_report::{the_names, the_tree_record, the_uuids};
 
 // Hours and minutes of an offset have two digits each.
 fn offset_of(w: u32) -> u16

@@ -4,6 +4,7 @@
 ghost use Rattle.std.specs.Prelude.{◌≡◌};
 ghost use Rattle.tree_status.specs.Status as rule;
 
+pub use tree_record as the_tree_record;
 use tree_record::kind::{FLAKY_ERROR, SKIPPED};
 
 // How many mains there are, the kind of the last one, and how many flaky runs and reruns.

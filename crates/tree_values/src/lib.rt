@@ -4,10 +4,12 @@
 ghost use Rattle.std.specs.Prelude.{◌≡◌};
 ghost use Rattle.tree_put.specs.Put.{put_uuid, put_moment, put_time};
 
-use timestamp::Moment;
+pub use tree_put as the_tree_put;
 use tree_put::put_pair;
-use tree_record::{bit, put_bit, word};
-use uuids::Words;
+use tree_put::the_timestamp::Moment;
+use tree_put::the_tree_record::{bit, put_bit, word};
+use tree_put::the_uuids::Words;
+pub use tree_put::{the_area, the_names, the_refusal, the_timestamp, the_tree_record, the_uuids};
 
 pub fn put_uuid(words: &mut [u32], w: Words)
     ensures { words.new ≡ put_uuid w words.old }

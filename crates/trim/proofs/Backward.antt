@@ -8,11 +8,11 @@ use borrow.Author.Tests.{lt-leb}
 use lib.Dec.{leb, lit≤}
 use lib.ListN.{length, take, get_or}
 use lib.Seq.{take_all, take-append-le, take-suc}
-use Rattle.utf8.specs.Characters.{following, split, chars, joined}
-use Rattle.utf8.specs.Utf8.{need, low, high, within, runs}
-use Rattle.utf8.proofs.Runs.{need-ascii, low-least}
-use Rattle.utf8.proofs.Rules.{ascii-on}
-use Rattle.utf8.proofs.Splitting.{step-length, joined-chars}
+use Rattle.utf8_chars.specs.of_utf8.Characters.{following, split, chars, joined}
+use Rattle.utf8_chars.specs.of_utf8.Utf8.{need, low, high, within, runs}
+use Rattle.utf8_chars.proofs.of_utf8.Runs.{need-ascii, low-least}
+use Rattle.utf8_chars.proofs.of_utf8.Rules.{ascii-on}
+use Rattle.utf8_chars.proofs.of_utf8.Splitting.{step-length, joined-chars}
 use Rattle.trim.specs.Trim.{white, blank, empty, no_end_of}
 use Rattle.trim.proofs.Ends.{end-black}
 

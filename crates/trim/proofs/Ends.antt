@@ -6,10 +6,10 @@ use mathlib.Core.Path.{◌≡◌, refl, sym, ap, ◌∙◌}
 use native.Mathlib.Omega.{arith}
 use borrow.Author.Tests.{le-leb, lt-leb, ne_eqb}
 use lib.ListN.{length, drop, length-append, take-append-drop}
-use Rattle.utf8.specs.Characters.{chars, joined}
-use Rattle.utf8.specs.Grammar.{Char, one}
-use Rattle.utf8.specs.Utf8.{utf8}
-use Rattle.utf8.proofs.Splitting.{Each, chars-each, joined-utf8, joined-chars, chars-joined, chars-append, chars-char}
+use Rattle.utf8_chars.specs.of_utf8.Characters.{chars, joined}
+use Rattle.utf8_chars.specs.of_utf8.Grammar.{Char, one}
+use Rattle.utf8_chars.specs.of_utf8.Utf8.{utf8}
+use Rattle.utf8_chars.proofs.of_utf8.Splitting.{Each, chars-each, joined-utf8, joined-chars, chars-joined, chars-append, chars-char}
 use Rattle.trim.specs.Trim.{white, blank, no_start_of, empty, no_end_of, trimmed}
 use Rattle.trim.proofs.Trimming.{size, no-end-part}
 

@@ -1,7 +1,7 @@
 -- Texts trimmed. Assumes nothing.
 use mathlib.Core.List.{[], ◌∷◌}
 use mathlib.Core.Path.{◌≡◌, refl}
-use Rattle.utf8.specs.Utf8.{need, low, high}
+use Rattle.utf8_chars.specs.of_utf8.Utf8.{need, low, high}
 use Rattle.trim.specs.Trim.{trimmed}
 
 -- U+0001, space, a

@@ -7,11 +7,11 @@ use native.Mathlib.Nat.{add-zero, add_assoc}
 use native.Mathlib.Omega.{arith}
 use lib.ListN.{length, take, drop, length-append, length-drop, drop_of_length-le}
 use lib.Seq.{drop-drop, length-take-le, take-append-add}
-use Rattle.utf8.specs.Characters.{step, chars, joined, first_scalar}
-use Rattle.utf8.specs.Utf8.{width}
-use Rattle.area.proofs.Parts.{rest_part}
-use Rattle.utf8.proofs.Rules.{char-utf8}
-use Rattle.utf8.proofs.Splitting.{chars-step, step-length, step-some, step-width, step-stray, first_char, first-stray, joined-chars}
+use Rattle.utf8_chars.specs.of_utf8.Characters.{step, chars, joined, first_scalar}
+use Rattle.utf8_chars.specs.of_utf8.Utf8.{width}
+use Rattle.utf8_chars.proofs.of_area.Parts.{rest_part}
+use Rattle.utf8_chars.proofs.of_utf8.Rules.{char-utf8}
+use Rattle.utf8_chars.proofs.of_utf8.Splitting.{chars-step, step-length, step-some, step-width, step-stray, first_char, first-stray, joined-chars}
 use Rattle.trim.specs.Trim.{white, blank, no_start_of, empty, no_end_of, trimmed}
 
 -- l begins with a character of n bytes, white or not

@@ -1,7 +1,7 @@
 -- A text without the Unicode White_Space at both its ends. Definitions only.
 use Rattle.std.specs.Prelude.{ℕ, Bool, true, false, cond, ◌&&◌, ◌||◌, List, [], ◌∷◌, leb, eqb}
-use Rattle.utf8.specs.Characters.{chars, joined, scalar}
-use Rattle.utf8.specs.Utf8.{utf8}
+use Rattle.utf8_chars.specs.of_utf8.Characters.{chars, joined, scalar}
+use Rattle.utf8_chars.specs.of_utf8.Utf8.{utf8}
 
 -- White_Space of Unicode's PropList.txt (rule X10)
 abbrev pub white : ℕ → Bool

@@ -2,8 +2,11 @@
 #![tactic(auto)]
 
 ghost use Rattle.std.specs.Prelude.{◌≡◌, ◌≤◌, ◌<◌, length, take, drop};
-ghost use Rattle.utf8.specs.Characters.{step, chars, joined};
+ghost use Rattle.utf8_chars.specs.of_utf8.Characters.{step, chars, joined};
 ghost use Rattle.trim.specs.Trim.{white, blank, no_start_of, no_end_of, trimmed};
+
+pub use utf8_chars as the_utf8_chars;
+pub use utf8_chars::{the_area, the_refusal, the_utf8};
 
 // The character that a text begins with: its width, and whether it is white.
 #[derive(Clone, Copy)]

@@ -7,3 +7,4 @@ pub mod Encoding
 pub mod Splitting
 pub mod Boundaries
 pub mod Examples
+pub use Rattle.area.proofs as of_area

@@ -5,6 +5,9 @@ ghost use Rattle.std.specs.Prelude.{◌≡◌};
 ghost use Rattle.utf8.specs.Utf8.{need, low, high, utf8};
 ghost use Rattle.utf8.specs.inside.Ascii.{ascii};
 
+pub use area as the_area;
+pub use area::the_refusal;
+
 // How many bytes follow the lead byte b.
 pub fn need_of(b: u8) -> usize
     ensures { result ≡ need b }

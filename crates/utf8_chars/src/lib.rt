@@ -2,10 +2,12 @@
 #![tactic(auto)]
 
 ghost use Rattle.std.specs.Prelude.{◌≡◌, ◌≤◌, ◌<◌, length, take};
-ghost use Rattle.area.specs.Area.{zeros, laid};
+ghost use Rattle.utf8.specs.of_area.Area.{zeros, laid};
 ghost use Rattle.utf8.specs.Utf8.{runs, width};
 ghost use Rattle.utf8.specs.Characters.{scalar, first_scalar, is_scalar, encode};
 
+pub use utf8 as the_utf8;
+pub use utf8::{the_area, the_refusal};
 use utf8::{high_of, low_of, need_of};
 
 // A character's bytes, the first n of the four.

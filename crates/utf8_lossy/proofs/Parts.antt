@@ -9,8 +9,8 @@ use borrow.Author.Tests.{eqb-true}
 use lib.Dec.{eqb, eqb-suc-suc, eqb-zero-suc, lit≤}
 use lib.ListN.{length, get_or, take, drop, drop_of_length-le}
 use lib.Seq.{length-take-le}
-use Rattle.area.proofs.Lists.{drop-next, one_less}
-use Rattle.area.proofs.Parts.{rest_part}
+use Rattle.utf8.proofs.of_area.Lists.{drop-next, one_less}
+use Rattle.utf8.proofs.of_area.Parts.{rest_part}
 use Rattle.utf8.specs.Grammar.{Char, three-ee}
 use Rattle.utf8.specs.Utf8.{need, low, high, within, runs}
 use Rattle.utf8.proofs.Rules.{run-char}

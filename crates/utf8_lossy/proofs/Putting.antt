@@ -5,17 +5,17 @@ use mathlib.Core.List.{List, ◌++◌}
 use native.Mathlib.Omega.{arith}
 use borrow.Rule.Slice.PartMut.{put_mid}
 use lib.ListN.{length, take, drop, length-drop}
-use Rattle.area.specs.Answer.{refuses}
-use Rattle.area.specs.Area.{placing, laid, stored_answer}
-use Rattle.area.specs.declared.Stored.{Stored}
-use Rattle.area.specs.declared.Stored.TheVariants.{Put, Full}
-use Rattle.area.proofs.Parts.{rest_part, rest_back}
-use Rattle.area.proofs.Laying.{Laying, laying_on, laying_chunk, laying-over, put-fits, full-over}
+use Rattle.utf8.specs.of_area.Answer.{refuses}
+use Rattle.utf8.specs.of_area.Area.{placing, laid, stored_answer}
+use Rattle.utf8.specs.of_area.declared.Stored.{Stored}
+use Rattle.utf8.specs.of_area.declared.Stored.TheVariants.{Put, Full}
+use Rattle.utf8.proofs.of_area.Parts.{rest_part, rest_back}
+use Rattle.utf8.proofs.of_area.Laying.{Laying, laying_on, laying_chunk, laying-over, put-fits, full-over}
 use Rattle.utf8_lossy.specs.Lossy.{part_width, part_text, lossy, Parted}
 use Rattle.utf8_lossy.specs.declared.Part.{Part}
 use Rattle.utf8_lossy.proofs.Parts.{part-some, part_length}
 use Rattle.utf8_lossy.proofs.Replacing.{lossy-next}
-use Rattle.refusal.specs.declared.Cause.{Cause}
+use Rattle.utf8.specs.of_refusal.declared.Cause.{Cause}
 
 -- p is the part of s that begins at i
 module _ (s : List ℕ) (i : ℕ) (h : i < length s) (p : Part) (e : Parted (take (length s - i) (drop i s)) p) where

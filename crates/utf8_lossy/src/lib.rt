@@ -2,11 +2,13 @@
 #![tactic(auto)]
 
 ghost use Rattle.std.specs.Prelude.{◌≡◌, length};
-ghost use Rattle.area.specs.Area.{stored_answer, placing, laid};
+ghost use Rattle.utf8.specs.of_area.Area.{stored_answer, placing, laid};
 ghost use Rattle.utf8_lossy.specs.Lossy.{along, part_text, Parted};
-ghost use Rattle.refusal.specs.declared.Cause.TheVariants as cause;
+ghost use Rattle.utf8.specs.of_refusal.declared.Cause.TheVariants as cause;
 
-use area::{Stored, copy_into};
+pub use utf8 as the_utf8;
+pub use utf8::the_area;
+use utf8::the_area::{Stored, copy_into};
 use utf8::{high_of, low_of, need_of};
 
 // The part that a text begins with: how many bytes it takes, and whether it is a whole character.

@@ -1,12 +1,12 @@
 -- UUIDs, computed. Assumes nothing.
 use mathlib.Core.Path.{◌≡◌, refl}
 use mathlib.Core.List.{[], ◌∷◌, ◌++◌}
-use Rattle.area.specs.Answer.{gives, refuses}
-use Rattle.utf8.specs.Utf8.{need, low, high}
+use Rattle.names.specs.of_area.Answer.{gives, refuses}
+use Rattle.fixed.specs.of_utf8.Utf8.{need, low, high}
 use Rattle.names.specs.Bytes.{bytes}
-use Rattle.digits.specs.Digits.{digit}
+use Rattle.fixed.specs.of_digits.Digits.{digit}
 use Rattle.uuids.specs.Uuid.{is_uuid, uuid_of}
-use Rattle.refusal.specs.declared.Cause.TheVariants as cause
+use Rattle.names.specs.of_refusal.declared.Cause.TheVariants as cause
 
 -- RFC 9562, section 4; letters of either case
 read : (uuid_of (bytes "f81d4fae-7dec-11d0-a765-00a0c91e6bf6") ≡ gives (record { a = 0xF81D4FAE; b = 0x7DEC11D0; c = 0xA76500A0; d = 0xC91E6BF6 }))

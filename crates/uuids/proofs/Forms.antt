@@ -8,11 +8,11 @@ use borrow.Author.Tests.{eq-eqb, ne_eqb, eqb-true}
 use lib.Dec.{eqb, lit<, lit≤}
 use lib.ListN.{length, get_or, take, drop, length-drop, drop_of_length-le}
 use lib.Seq.{length-take-le, take-add, drop-drop}
-use Rattle.area.specs.Answer.{gives, refuses}
-use Rattle.utf8.specs.Utf8.{utf8}
-use Rattle.digits.specs.Digits.{all_digits, value}
-use Rattle.digits.proofs.Values.{append-digits}
-use Rattle.digits.proofs.Numbers.{number-field}
+use Rattle.names.specs.of_area.Answer.{gives, refuses}
+use Rattle.fixed.specs.of_utf8.Utf8.{utf8}
+use Rattle.fixed.specs.of_digits.Digits.{all_digits, value}
+use Rattle.fixed.proofs.of_digits.Values.{append-digits}
+use Rattle.fixed.proofs.of_digits.Numbers.{number-field}
 use Rattle.fixed.specs.Fields.{part, all, field_of}
 use Rattle.fixed.specs.declared.Field.{Field}
 use Rattle.fixed.proofs.Tests.{passes, fails}
@@ -21,7 +21,7 @@ use Rattle.fixed.proofs.Texts.{digits-on, byte-on}
 use Rattle.uuids.specs.Uuid.{uuid_tests, is_uuid, words_of, form_of, uuid_of}
 use Rattle.uuids.specs.declared.Words.{Words}
 use Rattle.uuids.specs.declared.Form.TheVariants.{Right, Wrong}
-use Rattle.refusal.specs.declared.Cause.TheVariants as cause
+use Rattle.names.specs.of_refusal.declared.Cause.TheVariants as cause
 
 both : (a b : Bool) → (a && b) ≡ true → (a ≡ true) × (b ≡ true)
 both a b = (and-eq-true_iff a b).0

@@ -1,15 +1,15 @@
 -- UUIDs as text (RFC 9562, section 4). Definitions only.
 use Rattle.std.specs.Prelude.{ℕ, ◌+◌, ◌*◌, Bool, cond, List, [], ◌∷◌, length, get_or, eqb}
-use Rattle.area.specs.Answer.{Answer, gives, refuses}
-use Rattle.utf8.specs.Utf8.{utf8}
-use Rattle.digits.specs.Digits.{all_digits, value}
+use Rattle.names.specs.of_area.Answer.{Answer, gives, refuses}
+use Rattle.fixed.specs.of_utf8.Utf8.{utf8}
+use Rattle.fixed.specs.of_digits.Digits.{all_digits, value}
 use Rattle.fixed.specs.Fields.{part, all}
 use Rattle.uuids.specs.declared.Words.{Words}
 use Rattle.uuids.specs.declared.Uuid.{Uuid}
 use Rattle.uuids.specs.declared.Uuid.TheVariants.{Is, NotUtf8, Bad}
 use Rattle.uuids.specs.declared.Form.{Form}
 use Rattle.uuids.specs.declared.Form.TheVariants.{Right, Wrong}
-use Rattle.refusal.specs.declared.Cause.TheVariants as cause
+use Rattle.names.specs.of_refusal.declared.Cause.TheVariants as cause
 
 -- UUID = 4hexOctet "-" 2hexOctet "-" 2hexOctet "-" 2hexOctet "-" 6hexOctet, which are 36 characters (rule V9)
 abbrev pub uuid_tests : List ℕ → List Bool

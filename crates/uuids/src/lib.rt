@@ -4,6 +4,9 @@
 ghost use Rattle.std.specs.Prelude.{◌≡◌};
 ghost use Rattle.uuids.specs.Uuid.{form_of, uuid_answer, uuid_of};
 
+pub use fixed as the_fixed;
+pub use names::the_area;
+
 // The 16 octets, the most significant first.
 #[derive(Clone, Copy)]
 pub struct Words {
@@ -59,7 +62,7 @@ pub fn uuid_of(s: &[u8]) -> Uuid
 {
     let form = form_of(s);
     let Form::Right(w) = form else {
-        if utf8::is_utf8(s) {
+        if fixed::the_utf8::is_utf8(s) {
             return Uuid::Bad;
         }
         return Uuid::NotUtf8;

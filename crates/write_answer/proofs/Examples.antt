@@ -1,8 +1,8 @@
 -- What writing leaves behind its table, computed. Assumes nothing.
 use mathlib.Core.Path.{◌≡◌, refl}
 use mathlib.Core.List.{[], ◌∷◌}
-use Rattle.refusal.specs.declared.Cause.TheVariants.{OutputFull}
-use Rattle.area.specs.Answer.{gives, refuses}
+use Rattle.write_report.specs.of_refusal.declared.Cause.TheVariants.{OutputFull}
+use Rattle.write_report.specs.of_area.Answer.{gives, refuses}
 use Rattle.write_answer.specs.Answer.{left_for}
 
 -- behind the table all is zero; at a refusal everything

@@ -1,16 +1,16 @@
 -- What writing answers and leaves in the three areas (rules W13 and F13). Definitions only.
 use Rattle.std.specs.Prelude.{ℕ, ◌/◌, List, [], cond, length}
 use Rattle.std.proofs.Math.Option.{Option, none, some}
-use Rattle.area.specs.Answer.{Answer, gives, refuses}
-use Rattle.area.specs.Area.{zeros, laid}
-use Rattle.refusal.specs.Refusal.{Outcome, accepted, refused, late}
-use Rattle.table.specs.Event.{Event}
-use Rattle.tree_report.specs.Report.{Report}
-use Rattle.tree_report.specs.ReportOf.{report_of}
-use Rattle.tree_report.specs.Layout.{layout}
+use Rattle.write_report.specs.of_area.Answer.{Answer, gives, refuses}
+use Rattle.write_report.specs.of_area.Area.{zeros, laid}
+use Rattle.write_report.specs.of_refusal.Refusal.{Outcome, accepted, refused, late}
+use Rattle.write_report.specs.of_table.Event.{Event}
+use Rattle.write_report.specs.of_tree_report.Report.{Report}
+use Rattle.write_report.specs.of_tree_report.ReportOf.{report_of}
+use Rattle.write_report.specs.of_tree_report.Layout.{layout}
 use Rattle.write_report.specs.Written.{written}
 use Rattle.write_table.specs.Laid.{Table, laid_out, fits}
-use Rattle.refusal.specs.declared.Cause.TheVariants as cause
+use Rattle.write_report.specs.of_refusal.declared.Cause.TheVariants as cause
 
 -- the numbers of events, attributes and bytes
 pub record Sizes : Type 0 where

@@ -6,20 +6,20 @@ use mathlib.Core.List.{List, [], ◌∷◌, ◌++◌}
 use borrow.Author.Tests.{ne_eqb}
 use lib.Dec.{lit<}
 use lib.ListN.{length, get_or}
-use Rattle.area.specs.Answer.{gives, refuses}
-use Rattle.area.specs.Area.{placing}
-use Rattle.utf8.specs.Utf8.{utf8}
-use Rattle.utf8.specs.Characters.{encode}
-use Rattle.reference.specs.Reference.{entities, entity_chars, entity_char, is_char_ref, number, is_named, char_of, refs_ok, decoded}
-use Rattle.reference.proofs.Letters.{five-entity, five-char}
-use Rattle.reference.proofs.Decoding.{refs-name, decoded-name, decoded-length}
-use Rattle.text_filter.specs.Filter.{filtered, unfiltered}
+use Rattle.text.specs.of_area.Answer.{gives, refuses}
+use Rattle.text.specs.of_area.Area.{placing}
+use Rattle.write_escape.specs.of_utf8.Utf8.{utf8}
+use Rattle.write_escape.specs.of_utf8.Characters.{encode}
+use Rattle.text.specs.of_reference.Reference.{entities, entity_chars, entity_char, is_char_ref, number, is_named, char_of, refs_ok, decoded}
+use Rattle.text.proofs.of_reference.Letters.{five-entity, five-char}
+use Rattle.text.proofs.of_reference.Decoding.{refs-name, decoded-name, decoded-length}
+use Rattle.text.specs.of_text_filter.Filter.{filtered, unfiltered}
 use Rattle.text.specs.Value.{value_text, checked_of, value_of}
-use Rattle.text_filter.proofs.Filtering.{filtered-same}
+use Rattle.text.proofs.of_text_filter.Filtering.{filtered-same}
 use Rattle.text.proofs.Putting.{both_yes}
 use Rattle.write_escape.specs.Escape.{written, escaped}
 use Rattle.write_escape.proofs.Keeping.{by-case, utf8-escaped}
-use Rattle.refusal.specs.declared.Cause.TheVariants as cause
+use Rattle.text.specs.of_refusal.declared.Cause.TheVariants as cause
 
 -- b is read back from f, and then t
 abbrev Back : List ℕ → ℕ → List ℕ → Type 0

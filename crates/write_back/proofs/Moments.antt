@@ -8,16 +8,16 @@ use native.Mathlib.Omega.{arith}
 use borrow.Author.Tests.{le-leb, ltb-true, ltb-false, leb-true}
 use lib.Dec.{ltb, leb, eqb, lit<, lit≤}
 use lib.ListN.{length, drop, get_or}
-use Rattle.area.specs.Answer.{gives}
-use Rattle.digits.specs.Digits.{digit, is_digit, is_number, value, last_digits_of}
-use Rattle.digits.proofs.Printing.{last-value, last_digits, last-number}
-use Rattle.fixed.specs.Fields.{part, all}
-use Rattle.fraction.specs.Fraction.{billionths}
-use Rattle.timestamp.specs.declared.Moment.{Moment}
-use Rattle.calendar.specs.Calendar.{is_leap, lengths, month_length}
-use Rattle.timestamp.specs.Timestamp.{date_tests, clock_tests, fraction_tests, offset_tests, places, is_utc, nanos_of, fraction_width}
-use Rattle.timestamp.specs.Timestamp.{offset_of, away_of, tail, zone, is_timestamp, moment_of, timestamp_of, in_range}
-use Rattle.timestamp.proofs.Ranges.{InRange, range-facts}
+use Rattle.text.specs.of_area.Answer.{gives}
+use Rattle.text.specs.of_digits.Digits.{digit, is_digit, is_number, value, last_digits_of}
+use Rattle.text.proofs.of_digits.Printing.{last-value, last_digits, last-number}
+use Rattle.write_moment.specs.of_fixed.Fields.{part, all}
+use Rattle.write_moment.specs.of_fraction.Fraction.{billionths}
+use Rattle.write_moment.specs.of_timestamp.declared.Moment.{Moment}
+use Rattle.write_moment.specs.of_calendar.Calendar.{is_leap, lengths, month_length}
+use Rattle.write_moment.specs.of_timestamp.Timestamp.{date_tests, clock_tests, fraction_tests, offset_tests, places, is_utc, nanos_of, fraction_width}
+use Rattle.write_moment.specs.of_timestamp.Timestamp.{offset_of, away_of, tail, zone, is_timestamp, moment_of, timestamp_of, in_range}
+use Rattle.write_moment.proofs.of_timestamp.Ranges.{InRange, range-facts}
 use Rattle.write_moment.specs.Written.{date_text, clock_text, sign, offset_text, timestamp_text}
 use Rattle.write_moment.proofs.Texts.{utf8-timestamp}
 

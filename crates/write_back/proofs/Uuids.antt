@@ -7,11 +7,11 @@ use native.Mathlib.Nat.{mod-lt}
 use native.Mathlib.Omega.{arith}
 use borrow.Author.Tests.{lt-ltb, le-leb, lt-leb, ltb-true, ltb-false}
 use lib.Dec.{ltb, lit<}
-use Rattle.area.specs.Answer.{gives}
-use Rattle.digits.specs.Digits.{digit, is_digit, value}
-use Rattle.digits.proofs.Values.{append-value, value-from}
-use Rattle.uuids.specs.declared.Words.{Words}
-use Rattle.uuids.specs.Uuid.{is_uuid, words_of, uuid_of}
+use Rattle.text.specs.of_area.Answer.{gives}
+use Rattle.text.specs.of_digits.Digits.{digit, is_digit, value}
+use Rattle.text.proofs.of_digits.Values.{append-value, value-from}
+use Rattle.write_uuid.specs.of_uuids.declared.Words.{Words}
+use Rattle.write_uuid.specs.of_uuids.Uuid.{is_uuid, words_of, uuid_of}
 use Rattle.write_uuid.specs.Written.{hex_digit, hex_octets, uuid_text}
 use Rattle.write_uuid.proofs.Texts.{utf8-uuid}
 

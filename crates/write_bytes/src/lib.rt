@@ -2,16 +2,18 @@
 #![tactic(auto)]
 
 ghost use Rattle.std.specs.Prelude.{◌≡◌, length};
-ghost use Rattle.area.specs.Area.{stored_answer, placing, laid};
+ghost use Rattle.list_text.specs.of_area.Area.{stored_answer, placing, laid};
 ghost use Rattle.list_text.specs.inside.Behind.{filled, Puts};
 ghost use Rattle.write_escape.specs.Escape.{escaped};
 ghost use Rattle.write_moment.specs.Written.{timestamp_text};
 ghost use Rattle.write_uuid.specs.Written.{uuid_text};
-ghost use Rattle.refusal.specs.declared.Cause.TheVariants as cause;
+ghost use Rattle.list_text.specs.of_refusal.declared.Cause.TheVariants as cause;
 
-use area::{Stored, least};
-use timestamp::Moment;
-use uuids::Words;
+pub use list_text as the_list_text;
+use list_text::the_area::{Stored, least};
+pub use list_text::{the_area, the_tree_record};
+use write_moment::the_timestamp::Moment;
+use write_uuid::the_uuids::Words;
 
 // Puts t at the front of out.
 fn copy_words(out: &mut [u32], t: &[u32]) -> Stored

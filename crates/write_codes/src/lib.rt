@@ -2,13 +2,14 @@
 #![tactic(auto)]
 
 ghost use Rattle.std.specs.Prelude.{◌≡◌, ◌≤◌};
-ghost use Rattle.write_table.specs.inside.Putting.{pair_limits};
+ghost use Rattle.write_items.specs.of_write_table.inside.Putting.{pair_limits};
 ghost use Rattle.write_items.specs.inside.Values.{offset_of};
 ghost use Rattle.write_items.specs.inside.Slots.{bit_of};
 
-use area::limit;
-use names::key;
-use tree_record::{bit, word};
+use write_items::the_area::limit;
+use write_items::the_names::key;
+use write_items::the_tree_record::{bit, word};
+pub use write_items::{the_area, the_names, the_table, the_tree_record};
 
 // No presence bit: the value is always there.
 pub const ALWAYS: u32 = 32;

@@ -4,7 +4,7 @@ use mathlib.Core.Path.{◌≡◌, refl, sym, ap, ◌∙◌}
 use mathlib.Core.List.{List, [], ◌++◌, append-nil}
 use mathlib.Core.Bool.{Bool, true, false, cond}
 use lib.Dec.{eqb}
-use Rattle.write_table.specs.inside.Forms.{behind, behind_entry}
+use Rattle.write_marks.specs.of_write_table.inside.Forms.{behind, behind_entry}
 
 -- nothing stands behind it
 pub text-alone : (form : ℕ) (s : List ℕ) → s ≡ s ++ behind form 3

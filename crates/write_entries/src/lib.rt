@@ -2,22 +2,28 @@
 #![tactic(auto)]
 
 ghost use Rattle.std.specs.Prelude.{List, [], ◌∷◌, ℕ, ◌≤◌};
-ghost use Rattle.names.specs.Bytes as names;
-ghost use Rattle.table.specs.Kinds as event;
-ghost use Rattle.tree_record.specs.Words as word;
-ghost use Rattle.tree_report.specs.Fields.{text_at};
-ghost use Rattle.write_escape.specs.Escape.{escaped};
-ghost use Rattle.write_table.specs.Laid.{entry, pair};
-ghost use Rattle.write_table.specs.inside.Putting.{Wrote};
+ghost use Rattle.write_marks.specs.of_names.Bytes as names;
+ghost use Rattle.write_marks.specs.of_table.Kinds as event;
+ghost use Rattle.write_marks.specs.of_tree_record.Words as word;
+ghost use Rattle.write_marks.specs.of_tree_report.Fields.{text_at};
+ghost use Rattle.write_marks.specs.of_write_escape.Escape.{escaped};
+ghost use Rattle.write_marks.specs.of_write_table.Laid.{entry, pair};
+ghost use Rattle.write_marks.specs.of_write_table.inside.Putting.{Wrote};
 ghost use Rattle.write_marks.specs.inside.Kept.{kept};
-ghost use Rattle.write_items.specs.inside.Values.{tag_name, key_name, value_of};
+ghost use Rattle.write_marks.specs.of_write_items.inside.Values.{tag_name, key_name, value_of};
 
-use list_values::part_of;
-use table::kind;
-use tree_record::{field, word};
-use write_form::form;
+pub use write_marks as the_write_marks;
+use write_marks::the_table::kind;
+use write_marks::the_tree_record::{field, word};
+use write_marks::the_write_form::form;
+pub use write_marks::{
+    the_list_text, the_names, the_table, the_tree_record, the_write_codes, the_write_form,
+};
 use write_marks::{Marks, entry_more, store_entry, store_event, store_pair, text_more};
-use write_tags::{put_before, put_behind, put_quote, put_raw_key};
+pub use write_values as the_write_values;
+use write_values::the_list_values::part_of;
+pub use write_values::the_write_tags;
+use write_values::the_write_tags::{put_before, put_behind, put_quote, put_raw_key};
 use write_values::{put_key, put_tag_name, put_text_at, put_value};
 
 // A Start, Empty or End.
@@ -82,7 +88,11 @@ pub fn put_declaration(events: &mut [u32], bytes: &mut [u8], k: Marks) -> Marks
 {
     let mark = k.bytes;
     let from = put_before(bytes, mark, k.form, k.level, kind::OTHER);
-    let said = list_text::put(bytes, from, b"xml version=\"1.0\" encoding=\"UTF-8\"");
+    let said = write_marks::the_list_text::put(
+        bytes,
+        from,
+        b"xml version=\"1.0\" encoding=\"UTF-8\"",
+    );
     let to = put_behind(bytes, said, k.form, kind::OTHER);
     store_event(events, k, to, kind::OTHER, 0)
 }

@@ -10,17 +10,17 @@ use lib.Dec.{eqb}
 use lib.ListN.{length, take, drop, get_or, length-drop, take-append-drop}
 use lib.Seq.{drop-drop}
 use Rattle.names.specs.Bytes.{bytes}
-use Rattle.area.specs.Answer.{refuses}
-use Rattle.area.specs.Area.{placing, laid, stored_answer}
-use Rattle.area.specs.declared.Stored.{Stored}
-use Rattle.area.specs.declared.Stored.TheVariants.{Put, Full}
-use Rattle.area.proofs.Parts.{rest_part, rest_back}
-use Rattle.area.proofs.Sifting.{Sifting, sifting-more}
-use Rattle.area.proofs.Laying.{Laying, laying_on, laying_chunk, laying-over, put-fits, full-over}
+use Rattle.names.specs.of_area.Answer.{refuses}
+use Rattle.names.specs.of_area.Area.{placing, laid, stored_answer}
+use Rattle.names.specs.of_area.declared.Stored.{Stored}
+use Rattle.names.specs.of_area.declared.Stored.TheVariants.{Put, Full}
+use Rattle.names.proofs.of_area.Parts.{rest_part, rest_back}
+use Rattle.names.proofs.of_area.Sifting.{Sifting, sifting-more}
+use Rattle.names.proofs.of_area.Laying.{Laying, laying_on, laying_chunk, laying-over, put-fits, full-over}
 use Rattle.escape.proofs.Spelling.{spelled-append}
 use Rattle.write_escape.specs.Escape.{written, escaped}
 use Rattle.write_escape.specs.inside.Plain.{is_special, plain}
-use Rattle.refusal.specs.declared.Cause.TheVariants as cause
+use Rattle.names.specs.of_refusal.declared.Cause.TheVariants as cause
 
 -- ---- a plain text is written as it is
 none_of : {A : Type 0} (p q r s t : Bool) (a b c d e x : A) → (p || (q || (r || (s || t)))) ≡ false → cond p a (cond q b (cond r c (cond s d (cond t e x)))) ≡ x

@@ -4,11 +4,11 @@ use mathlib.Core.Path.{◌≡◌}
 use mathlib.Core.List.{List, [], ◌∷◌}
 use borrow.Author.Tests.{ne_eqb}
 use lib.ListN.{length, set}
-use Rattle.area.specs.Answer.{gives, refuses}
-use Rattle.area.specs.Area.{placing, laid}
-use Rattle.area.proofs.Laying.{laying-start, laying_on, laying-put, laying-done, laying-full}
+use Rattle.names.specs.of_area.Answer.{gives, refuses}
+use Rattle.names.specs.of_area.Area.{placing, laid}
+use Rattle.names.proofs.of_area.Laying.{laying-start, laying_on, laying-put, laying-done, laying-full}
 use Rattle.write_escape.specs.Escape.{written}
-use Rattle.refusal.specs.declared.Cause.TheVariants as cause
+use Rattle.names.specs.of_refusal.declared.Cause.TheVariants as cause
 
 -- a byte that stands for itself
 module _ (b : ℕ) (h1 : b ≡ 0x26 → ⊥) (h2 : b ≡ 0x3C → ⊥) (h3 : b ≡ 0x3E → ⊥) (h4 : b ≡ 0x27 → ⊥) (h5 : b ≡ 0x22 → ⊥) where

@@ -5,15 +5,15 @@ use mathlib.Core.List.{List, ◌++◌}
 use native.Mathlib.Omega.{arith}
 use borrow.Rule.Slice.PartMut.{put_mid}
 use lib.ListN.{length, take, drop, get_or, length-drop}
-use Rattle.area.specs.Answer.{refuses}
-use Rattle.area.specs.Area.{placing, laid, stored_answer}
-use Rattle.area.specs.declared.Stored.{Stored}
-use Rattle.area.specs.declared.Stored.TheVariants.{Put, Full}
-use Rattle.area.proofs.Parts.{rest_part, rest_back}
-use Rattle.area.proofs.Laying.{Laying, laying_on, laying_chunk, laying-over, put-fits, full-over}
+use Rattle.names.specs.of_area.Answer.{refuses}
+use Rattle.names.specs.of_area.Area.{placing, laid, stored_answer}
+use Rattle.names.specs.of_area.declared.Stored.{Stored}
+use Rattle.names.specs.of_area.declared.Stored.TheVariants.{Put, Full}
+use Rattle.names.proofs.of_area.Parts.{rest_part, rest_back}
+use Rattle.names.proofs.of_area.Laying.{Laying, laying_on, laying_chunk, laying-over, put-fits, full-over}
 use Rattle.escape.proofs.Spelling.{spelled-next}
 use Rattle.write_escape.specs.Escape.{written, escaped}
-use Rattle.refusal.specs.declared.Cause.TheVariants as cause
+use Rattle.names.specs.of_refusal.declared.Cause.TheVariants as cause
 
 -- s is put up to its byte i; a call that is lent the area from k on is to put that byte, answers r and leaves ys there
 module _ {out₀ out : List ℕ} {k : ℕ} (s : List ℕ) (i : ℕ) (l : Laying out₀ out k (escaped s) (escaped (drop i s))) (h : i < length s) (r : Stored) (ys : List ℕ)

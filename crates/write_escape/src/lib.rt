@@ -2,13 +2,14 @@
 #![tactic(auto)]
 
 ghost use Rattle.std.specs.Prelude.{◌≡◌, ◌+◌, ◌≤◌, length};
-ghost use Rattle.area.specs.Area.{stored_answer, placing, laid};
+ghost use Rattle.names.specs.of_area.Area.{stored_answer, placing, laid};
 ghost use Rattle.write_escape.specs.Escape.{written, escaped};
 ghost use Rattle.write_escape.specs.inside.Plain.{plain};
-ghost use Rattle.refusal.specs.declared.Cause.TheVariants as cause;
+ghost use Rattle.names.specs.of_refusal.declared.Cause.TheVariants as cause;
 
-use area::{Stored, least};
-use copying::copy_into;
+use escape::the_copying::copy_into;
+pub use names as the_names;
+use names::the_area::{Stored, least};
 
 // Puts what stands for b at the front of out.
 fn put_byte(out: &mut [u8], b: u8) -> Stored

@@ -1,1 +1,2 @@
 pub mod Forms
+pub use Rattle.write_table.proofs as of_write_table

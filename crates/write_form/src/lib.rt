@@ -2,12 +2,13 @@
 #![tactic(auto)]
 
 ghost use Rattle.std.specs.Prelude.{◌≡◌, cond, ◌&&◌, ◌-◌, ◌<◌, eqb, leb};
-ghost use Rattle.area.specs.Limits.{most_bytes};
-ghost use Rattle.table.specs.Kinds as event;
+ghost use Rattle.write_table.specs.of_area.Limits.{most_bytes};
+ghost use Rattle.write_table.specs.of_table.Kinds as event;
 ghost use Rattle.write_table.specs.inside.Forms as forms;
 
-use area::limit;
-use table::kind;
+use write_table::the_area::limit;
+pub use write_table::the_table;
+use write_table::the_table::kind;
 
 pub mod form;
 

@@ -4,17 +4,17 @@ use mathlib.Core.Path.{◌≡◌, refl, sym, ap, ◌∙◌}
 use mathlib.Core.List.{List, [], ◌∷◌, ◌++◌, append-nil}
 use mathlib.Core.Bool.{Bool, true, false, cond}
 use lib.ListN.{get_or}
-use Rattle.names.specs.Bytes.{bytes}
-use Rattle.names.specs.Keys.{keys}
-use Rattle.names.specs.Keys as key
-use Rattle.timestamp.specs.declared.Moment.{Moment}
-use Rattle.uuids.specs.declared.Words.{Words}
-use Rattle.table.specs.Event.{Attribute}
-use Rattle.tree_record.specs.Bits as bit
-use Rattle.tree_record.specs.Words as word
-use Rattle.tree_report.specs.Fields.{given, has_bit, text_at, number_at, moment_of, first, second, hostname, uuid, timestamp, time, counts, assertions}
-use Rattle.write_moment.specs.Written.{timestamp_text}
-use Rattle.write_uuid.specs.Written.{uuid_text}
+use Rattle.write_report.specs.of_names.Bytes.{bytes}
+use Rattle.write_report.specs.of_names.Keys.{keys}
+use Rattle.write_report.specs.of_names.Keys as key
+use Rattle.write_report.specs.of_timestamp.declared.Moment.{Moment}
+use Rattle.write_report.specs.of_uuids.declared.Words.{Words}
+use Rattle.write_report.specs.of_table.Event.{Attribute}
+use Rattle.write_report.specs.of_tree_record.Bits as bit
+use Rattle.write_report.specs.of_tree_record.Words as word
+use Rattle.write_report.specs.of_tree_report.Fields.{given, has_bit, text_at, number_at, moment_of, first, second, hostname, uuid, timestamp, time, counts, assertions}
+use Rattle.write_report.specs.of_write_moment.Written.{timestamp_text}
+use Rattle.write_report.specs.of_write_uuid.Written.{uuid_text}
 use Rattle.write_report.specs.Written.{attribute, textual, numeric, optional, stamped, timed}
 use Rattle.write_items.specs.inside.Values.{report_name, key_name, words_of, offset_of, value_of}
 use Rattle.write_items.specs.inside.Slots.{bit_of, is_present, slot_of, slots}

@@ -3,13 +3,13 @@ use Prim.Native.Nat.{ℕ}
 use mathlib.Core.Path.{◌≡◌, refl, sym, ap, ap₂, ◌∙◌}
 use mathlib.Core.List.{List, [], ◌∷◌, ◌++◌, map}
 use mathlib.Core.Bool.{Bool, true, false, cond}
-use Rattle.names.specs.Bytes.{bytes}
-use Rattle.names.specs.Tags.{tags}
-use Rattle.table.specs.Event.{Attribute, Event, TagKind, Start, Empty, Tag}
-use Rattle.tree_record.specs.Kinds as kind
-use Rattle.tree_report.specs.Report.{TestCase}
-use Rattle.tree_report.specs.Fields.{is_suite, is_case, is_main, is_run, system_out, system_err}
-use Rattle.tree_report.specs.ReportOf.{only, until, branches, pair_of, status_of, case_of}
+use Rattle.write_report.specs.of_names.Bytes.{bytes}
+use Rattle.write_report.specs.of_names.Tags.{tags}
+use Rattle.write_report.specs.of_table.Event.{Attribute, Event, TagKind, Start, Empty, Tag}
+use Rattle.write_report.specs.of_tree_record.Kinds as kind
+use Rattle.write_report.specs.of_tree_report.Report.{TestCase}
+use Rattle.write_report.specs.of_tree_report.Fields.{is_suite, is_case, is_main, is_run, system_out, system_err}
+use Rattle.write_report.specs.of_tree_report.ReportOf.{only, until, branches, pair_of, status_of, case_of}
 use Rattle.write_report.specs.Written.{each, is_empty, extra_attribute, case_attributes, serialize_properties, serialize_elements, serialize_outputs, serialize_test_case}
 use Rattle.write_table.specs.Laid.{tag_number, items_of}
 use Rattle.write_table.proofs.Writing.{items_append}

@@ -6,9 +6,9 @@ use mathlib.Core.Bool.{Bool, true, false, cond, ◌&&◌, and-eq-true_iff, true�
 use native.Mathlib.Omega.{arith}
 use borrow.Author.Tests.{lt-ltb, ltb-true, leb-true, eqb-true}
 use lib.Dec.{leb, ltb, eqb}
-use Rattle.tree_record.specs.Kinds as kind
-use Rattle.tree_report.specs.Fields.{kind_of, live, is_suite, is_case, is_main, is_run, is_suite_property, is_case_property, is_suite_extra, is_case_extra}
-use Rattle.tree_report.specs.ReportOf.{Branch, only, until, branches, case_of, suite_of}
+use Rattle.write_report.specs.of_tree_record.Kinds as kind
+use Rattle.write_report.specs.of_tree_report.Fields.{kind_of, live, is_suite, is_case, is_main, is_run, is_suite_property, is_case_property, is_suite_extra, is_case_extra}
+use Rattle.write_report.specs.of_tree_report.ReportOf.{Branch, only, until, branches, case_of, suite_of}
 
 abbrev pub branch : List ℕ → List (List ℕ) → Branch
 branch r rs = record { head = r; below = rs }

@@ -6,14 +6,14 @@ use mathlib.Core.Bool.{Bool, true, false, cond}
 use mathlib.Core.Option.{none, some}
 use native.Mathlib.Omega.{arith}
 use lib.ListN.{length}
-use Rattle.names.specs.Bytes.{bytes}
-use Rattle.names.specs.Tags.{tags}
-use Rattle.table.specs.Event.{Attribute, Event, Tag, Piece, Eof, Fault}
-use Rattle.table.specs.Kinds as event
-use Rattle.tree_report.specs.Report.{Report, TestSuite}
-use Rattle.tree_report.specs.Fields.{live, is_suite, first, uuid, timestamp, time, counts}
-use Rattle.tree_report.specs.Layout.{used_text, records_of}
-use Rattle.tree_report.specs.ReportOf.{only, branches, suite_of, report_from, report_of}
+use Rattle.write_report.specs.of_names.Bytes.{bytes}
+use Rattle.write_report.specs.of_names.Tags.{tags}
+use Rattle.write_report.specs.of_table.Event.{Attribute, Event, Tag, Piece, Eof, Fault}
+use Rattle.write_report.specs.of_table.Kinds as event
+use Rattle.write_report.specs.of_tree_report.Report.{Report, TestSuite}
+use Rattle.write_report.specs.of_tree_report.Fields.{live, is_suite, first, uuid, timestamp, time, counts}
+use Rattle.write_report.specs.of_tree_report.Layout.{used_text, records_of}
+use Rattle.write_report.specs.of_tree_report.ReportOf.{only, branches, suite_of, report_from, report_of}
 use Rattle.write_report.specs.Written.{each, start_tag, end_tag, indent, report_attributes, declaration, serialize_test_suite, serialize_report, numbered_tag, attributes_of, numbered, written}
 use Rattle.write_table.specs.Laid.{Item, entry, pairs_of_it, items_of_event, items_of}
 use Rattle.write_table.proofs.Writing.{items_append}

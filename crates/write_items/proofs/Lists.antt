@@ -4,10 +4,10 @@ use mathlib.Core.Path.{◌≡◌, refl, sym, ap, ap₂, ◌∙◌}
 use mathlib.Core.List.{List, [], ◌∷◌, ◌++◌, map}
 use mathlib.Core.Bool.{Bool, true, false, cond, ◌&&◌}
 use lib.Dec.{eqb}
-use Rattle.table.specs.Event.{Event}
-use Rattle.tree_report.specs.Fields.{kind_of}
-use Rattle.tree_report.specs.ReportOf.{only, until}
-use Rattle.tree_report.proofs.EncodeLists.{Each, done, more}
+use Rattle.write_report.specs.of_table.Event.{Event}
+use Rattle.write_report.specs.of_tree_report.Fields.{kind_of}
+use Rattle.write_report.specs.of_tree_report.ReportOf.{only, until}
+use Rattle.write_report.proofs.of_tree_report.EncodeLists.{Each, done, more}
 use Rattle.write_report.specs.Written.{each, is_empty}
 use Rattle.write_table.specs.Laid.{Item, items_of}
 use Rattle.write_table.proofs.Writing.{items_append}

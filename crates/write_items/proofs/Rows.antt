@@ -7,15 +7,15 @@ use native.Mathlib.Omega.{arith}
 use borrow.Author.Tests.{eqb-true, ne_eqb, leb-true}
 use lib.Dec.{leb, eqb}
 use lib.ListN.{length, length-map}
-use Rattle.names.specs.Bytes.{bytes}
-use Rattle.names.specs.Tags.{tags}
-use Rattle.names.specs.Tags as tag
-use Rattle.table.specs.Kinds as event
-use Rattle.tree_record.specs.Kinds as kind
-use Rattle.tree_report.specs.Report.{Pair}
-use Rattle.tree_report.specs.Fields.{kind_of, is_run}
-use Rattle.tree_report.specs.ReportOf.{only, pair_of, run_of}
-use Rattle.tree_report.proofs.EncodeLists.{Each, done, more, each_on}
+use Rattle.write_report.specs.of_names.Bytes.{bytes}
+use Rattle.write_report.specs.of_names.Tags.{tags}
+use Rattle.write_report.specs.of_names.Tags as tag
+use Rattle.write_report.specs.of_table.Kinds as event
+use Rattle.write_report.specs.of_tree_record.Kinds as kind
+use Rattle.write_report.specs.of_tree_report.Report.{Pair}
+use Rattle.write_report.specs.of_tree_report.Fields.{kind_of, is_run}
+use Rattle.write_report.specs.of_tree_report.ReportOf.{only, pair_of, run_of}
+use Rattle.write_report.proofs.of_tree_report.EncodeLists.{Each, done, more, each_on}
 use Rattle.write_report.specs.Written.{each, is_empty, end_tag, extra_attribute, serialize_property, serialize_properties, serialize_rerun}
 use Rattle.write_table.specs.Laid.{Item, entry, pairs_of_it, items_of}
 use Rattle.write_table.proofs.Writing.{items_append}

@@ -6,16 +6,16 @@ use mathlib.Core.Bool.{Bool, true, false, cond, ◌&&◌}
 use mathlib.Core.Option.{Option, none, some}
 use native.Mathlib.Omega.{arith}
 use lib.Dec.{leb, eqb}
-use Rattle.names.specs.Bytes.{bytes}
-use Rattle.names.specs.Tags.{tags}
-use Rattle.names.specs.Tags as tag
-use Rattle.table.specs.Event.{Attribute, Event}
-use Rattle.tree_record.specs.Bits as bit
-use Rattle.tree_record.specs.Kinds as kind
-use Rattle.tree_report.specs.Report.{Text, Reason, FlakyOrRerun, flaky, failure, error, TestRerun, non_success, skipped}
-use Rattle.tree_report.specs.Fields.{kind_of, has_bit, is_main, is_run}
-use Rattle.tree_report.specs.ReportOf.{only, reason_of, run_of, kind_of_runs, status_of}
-use Rattle.tree_report.proofs.EncodeLists.{Each, done, more, each_on}
+use Rattle.write_report.specs.of_names.Bytes.{bytes}
+use Rattle.write_report.specs.of_names.Tags.{tags}
+use Rattle.write_report.specs.of_names.Tags as tag
+use Rattle.write_report.specs.of_table.Event.{Attribute, Event}
+use Rattle.write_report.specs.of_tree_record.Bits as bit
+use Rattle.write_report.specs.of_tree_record.Kinds as kind
+use Rattle.write_report.specs.of_tree_report.Report.{Text, Reason, FlakyOrRerun, flaky, failure, error, TestRerun, non_success, skipped}
+use Rattle.write_report.specs.of_tree_report.Fields.{kind_of, has_bit, is_main, is_run}
+use Rattle.write_report.specs.of_tree_report.ReportOf.{only, reason_of, run_of, kind_of_runs, status_of}
+use Rattle.write_report.proofs.of_tree_report.EncodeLists.{Each, done, more, each_on}
 use Rattle.write_report.specs.Written.{each, is_empty, described, status_attributes, serialize_status, serialize_rerun, serialize_elements}
 use Rattle.write_table.specs.Laid.{Item, items_of}
 use Rattle.write_table.proofs.Writing.{items_append}

@@ -5,14 +5,14 @@ use mathlib.Core.List.{List, [], ◌∷◌, ◌++◌, map}
 use mathlib.Core.Bool.{Bool, true, false, cond}
 use native.Mathlib.Omega.{arith}
 use lib.Dec.{eqb}
-use Rattle.names.specs.Bytes.{bytes}
-use Rattle.names.specs.Tags.{tags}
-use Rattle.table.specs.Event.{Attribute, Event, TagKind, Start, Empty, Tag}
-use Rattle.tree_record.specs.Kinds as kind
-use Rattle.tree_report.specs.Report.{TestCase, TestSuite}
-use Rattle.tree_report.specs.Fields.{kind_of, is_suite, is_case, system_out, system_err}
-use Rattle.tree_report.specs.ReportOf.{only, until, branches, pair_of, case_of, suite_of}
-use Rattle.tree_report.proofs.EncodeLists.{each_on}
+use Rattle.write_report.specs.of_names.Bytes.{bytes}
+use Rattle.write_report.specs.of_names.Tags.{tags}
+use Rattle.write_report.specs.of_table.Event.{Attribute, Event, TagKind, Start, Empty, Tag}
+use Rattle.write_report.specs.of_tree_record.Kinds as kind
+use Rattle.write_report.specs.of_tree_report.Report.{TestCase, TestSuite}
+use Rattle.write_report.specs.of_tree_report.Fields.{kind_of, is_suite, is_case, system_out, system_err}
+use Rattle.write_report.specs.of_tree_report.ReportOf.{only, until, branches, pair_of, case_of, suite_of}
+use Rattle.write_report.proofs.of_tree_report.EncodeLists.{each_on}
 use Rattle.write_report.specs.Written.{each, is_empty, element, extra_attribute, case_attributes, suite_attributes, serialize_properties}
 use Rattle.write_report.specs.Written.{serialize_elements, serialize_outputs, serialize_test_case, serialize_test_suite}
 use Rattle.write_table.specs.Laid.{tag_number, items_of}

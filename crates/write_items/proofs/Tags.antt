@@ -4,12 +4,12 @@ use mathlib.Core.Path.{◌≡◌, refl, sym, ap, ap₂, ◌∙◌}
 use mathlib.Core.List.{List, [], ◌∷◌, ◌++◌, append_assoc, append-nil}
 use mathlib.Core.Bool.{Bool, true, false, cond, not, ◌&&◌, ◌||◌, and-false, and-true}
 use lib.ListN.{length, length-append}
-use Rattle.table.specs.Event.{Attribute, Event, TagKind, Empty, Tag}
-use Rattle.table.specs.Kinds as event
-use Rattle.tree_report.specs.Fields.{given, has_bit, text_at, system_out, system_err}
-use Rattle.tree_record.specs.Bits as bit
-use Rattle.tree_record.specs.Words as word
-use Rattle.names.specs.Bytes.{bytes}
+use Rattle.write_report.specs.of_table.Event.{Attribute, Event, TagKind, Empty, Tag}
+use Rattle.write_report.specs.of_table.Kinds as event
+use Rattle.write_report.specs.of_tree_report.Fields.{given, has_bit, text_at, system_out, system_err}
+use Rattle.write_report.specs.of_tree_record.Bits as bit
+use Rattle.write_report.specs.of_tree_record.Words as word
+use Rattle.write_report.specs.of_names.Bytes.{bytes}
 use Rattle.write_report.specs.Written.{is_empty, optional, start_tag, end_tag, element, serialize_output, serialize_outputs}
 use Rattle.write_table.specs.Laid.{Item, entry, pair, pairs_of_it, tag_number, items_of_event, items_of}
 use Rattle.write_table.proofs.Writing.{items_append}

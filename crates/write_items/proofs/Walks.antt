@@ -6,9 +6,9 @@ use mathlib.Core.Bool.{Bool, true, false, cond, ◌&&◌, ◌||◌, and-true, an
 use native.Mathlib.Omega.{arith}
 use borrow.Author.Tests.{leb-true, leb-false, le-leb, lt-leb, eqb-true, eqb-false, ne_eqb}
 use lib.Dec.{leb, eqb}
-use Rattle.tree_record.specs.Kinds as kind
-use Rattle.tree_report.specs.Fields.{kind_of, is_suite, is_case, is_main, is_run}
-use Rattle.tree_report.specs.ReportOf.{only, until}
+use Rattle.write_report.specs.of_tree_record.Kinds as kind
+use Rattle.write_report.specs.of_tree_report.Fields.{kind_of, is_suite, is_case, is_main, is_run}
+use Rattle.write_report.specs.of_tree_report.ReportOf.{only, until}
 use Rattle.write_report.specs.Written.{is_empty}
 use Rattle.write_items.specs.inside.Walk.{ends_at, is_between, own_of, between}
 use Rattle.write_items.proofs.Lists.{only_same, until-same}

@@ -5,15 +5,15 @@ use mathlib.Core.List.{List, [], ◌∷◌, ◌++◌, append-nil}
 use mathlib.Core.Bool.{Bool, true, false, cond, ◌&&◌, ◌||◌}
 use borrow.Author.Tests.{leb-false}
 use lib.Dec.{leb, eqb}
-use Rattle.area.specs.Limits.{most_bytes}
-use Rattle.area.specs.declared.Stored.{Stored}
-use Rattle.area.specs.declared.Stored.TheVariants.{Put, Full}
-use Rattle.list_text.specs.inside.Behind.{filled, Puts}
-use Rattle.list_text.proofs.Putting.{more, other}
-use Rattle.write_table.specs.Laid.{Item, entry, pair}
-use Rattle.write_table.specs.inside.Forms.{is_text, entry_text, key_text, value_text, form_behind, level_behind, before, behind, key_in, quote_in}
-use Rattle.write_table.specs.inside.Putting.{none, xml, Spelling, with_text, put_text, spell, Areas, held, Wrote}
-use Rattle.write_table.proofs.Writing.{wrote-text, wrote-shut}
+use Rattle.write_codes.specs.of_area.Limits.{most_bytes}
+use Rattle.write_codes.specs.of_area.declared.Stored.{Stored}
+use Rattle.write_codes.specs.of_area.declared.Stored.TheVariants.{Put, Full}
+use Rattle.write_bytes.specs.of_list_text.inside.Behind.{filled, Puts}
+use Rattle.write_bytes.proofs.of_list_text.Putting.{more, other}
+use Rattle.write_form.specs.of_write_table.Laid.{Item, entry, pair}
+use Rattle.write_form.specs.of_write_table.inside.Forms.{is_text, entry_text, key_text, value_text, form_behind, level_behind, before, behind, key_in, quote_in}
+use Rattle.write_form.specs.of_write_table.inside.Putting.{none, xml, Spelling, with_text, put_text, spell, Areas, held, Wrote}
+use Rattle.write_form.proofs.of_write_table.Writing.{wrote-text, wrote-shut}
 use Rattle.write_marks.specs.declared.Marks.{Marks}
 use Rattle.write_marks.specs.inside.Kept.{kept, shut_by, entry_more, text_more}
 use Rattle.write_marks.proofs.Storing.{put-says, full-says, never-put}

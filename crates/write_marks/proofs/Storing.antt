@@ -7,15 +7,15 @@ use native.Mathlib.Omega.{arith}
 use borrow.Author.Tests.{leb-true, leb-false, ltb-true, le-leb, lt-leb}
 use lib.Dec.{leb, ltb}
 use lib.ListN.{length, length-append}
-use Rattle.area.specs.Answer.{gives, refuses}
-use Rattle.area.specs.declared.Stored.{Stored}
-use Rattle.area.specs.declared.Stored.TheVariants.{Put, Full}
-use Rattle.list_text.specs.inside.Behind.{Filled, filled, behind, Puts}
-use Rattle.list_text.proofs.Putting.{more}
-use Rattle.write_table.specs.Laid.{entry, pair, entry_words, pair_words, place}
-use Rattle.write_table.specs.inside.Putting.{Held, none, some, over, table_room, byte_room, entry_limits, pair_limits, with_entry, with_pair, put, Areas, held, Wrote}
-use Rattle.write_table.proofs.Writing.{wrote_one}
-use Rattle.refusal.specs.declared.Cause.TheVariants as cause
+use Rattle.write_codes.specs.of_area.Answer.{gives, refuses}
+use Rattle.write_codes.specs.of_area.declared.Stored.{Stored}
+use Rattle.write_codes.specs.of_area.declared.Stored.TheVariants.{Put, Full}
+use Rattle.write_bytes.specs.of_list_text.inside.Behind.{Filled, filled, behind, Puts}
+use Rattle.write_bytes.proofs.of_list_text.Putting.{more}
+use Rattle.write_form.specs.of_write_table.Laid.{entry, pair, entry_words, pair_words, place}
+use Rattle.write_form.specs.of_write_table.inside.Putting.{Held, none, some, over, table_room, byte_room, entry_limits, pair_limits, with_entry, with_pair, put, Areas, held, Wrote}
+use Rattle.write_form.proofs.of_write_table.Writing.{wrote_one}
+use Rattle.write_codes.specs.of_refusal.declared.Cause.TheVariants as cause
 
 -- ---- what a text that was put says of the area
 module _ (k : ℕ) (out f : List ℕ) where

@@ -3,15 +3,19 @@
 #![tactic(auto)]
 
 ghost use Rattle.std.specs.Prelude.{◌≡◌, List, [], ◌∷◌, ◌++◌, ℕ, ◌-◌, ◌≤◌, ◌<◌, not, cond};
-ghost use Rattle.list_text.specs.inside.Behind.{is_full, filled, Puts};
-ghost use Rattle.write_table.specs.Laid as laid;
-ghost use Rattle.write_table.specs.inside.Forms.{before, behind, key_in, quote_in};
-ghost use Rattle.write_table.specs.inside.Putting.{Wrote, entry_limits};
+ghost use Rattle.write_bytes.specs.of_list_text.inside.Behind.{is_full, filled, Puts};
+ghost use Rattle.write_form.specs.of_write_table.Laid as laid;
+ghost use Rattle.write_form.specs.of_write_table.inside.Forms.{before, behind, key_in, quote_in};
+ghost use Rattle.write_form.specs.of_write_table.inside.Putting.{Wrote, entry_limits};
 ghost use Rattle.write_marks.specs.inside.Kept.{kept, shut_by, event_more, attribute_more, entry_more, text_more};
 
-use area::{Stored, limit};
 use write_bytes::put_words;
+pub use write_bytes::the_list_text;
+pub use write_codes as the_write_codes;
 use write_codes::has_pair_room;
+use write_codes::the_area::{Stored, limit};
+pub use write_codes::{the_names, the_table, the_tree_record};
+pub use write_form as the_write_form;
 use write_form::{form, form_behind, is_too_deep, level_behind};
 
 // The numbers of events and attributes, and how many bytes; in the XML form what stands before, and how many elements are open. Four
@@ -30,7 +34,7 @@ pub fn is_open(k: Marks) -> bool
     ensures { result ≡ not (is_full k.bytes) }
 {
     let mark = k.bytes;
-    list_text::is_open(mark)
+    write_bytes::the_list_text::is_open(mark)
 }
 
 fn shut(k: Marks) -> Marks

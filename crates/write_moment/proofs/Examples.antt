@@ -1,7 +1,7 @@
 -- Timestamps written, computed. Assumes nothing.
 use Prim.Native.Nat.{ℕ}
 use mathlib.Core.Path.{◌≡◌, refl}
-use Rattle.names.specs.Bytes.{bytes}
+use Rattle.timestamp.specs.of_names.Bytes.{bytes}
 use Rattle.timestamp.specs.declared.Moment.{Moment}
 use Rattle.write_moment.specs.Written.{date_text, clock_text, offset_text, timestamp_text}
 

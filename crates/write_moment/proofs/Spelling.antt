@@ -5,8 +5,8 @@ use mathlib.Core.List.{List}
 use native.Mathlib.Omega.{arith}
 use lib.ListN.{set}
 use lib.Seq.{sets}
-use Rattle.digits.specs.Digits.{last_digits_of}
-use Rattle.names.specs.Bytes.{bytes}
+use Rattle.timestamp.specs.of_digits.Digits.{last_digits_of}
+use Rattle.timestamp.specs.of_names.Bytes.{bytes}
 use Rattle.timestamp.specs.declared.Moment.{Moment}
 use Rattle.write_moment.specs.Written.{date_text, clock_text, offset_text, timestamp_text, sign, away}
 

@@ -6,9 +6,9 @@ use native.Mathlib.Omega.{arith}
 use borrow.Author.Tests.{lt-ltb}
 use lib.Dec.{ltb}
 use lib.ListN.{length}
-use Rattle.utf8.specs.Utf8.{utf8}
-use Rattle.utf8.specs.inside.Ascii.{ascii}
-use Rattle.utf8.proofs.Rules.{ascii-utf8}
+use Rattle.timestamp.specs.of_utf8.Utf8.{utf8}
+use Rattle.timestamp.specs.of_utf8.inside.Ascii.{ascii}
+use Rattle.timestamp.proofs.of_utf8.Rules.{ascii-utf8}
 use Rattle.timestamp.specs.declared.Moment.{Moment}
 use Rattle.write_moment.specs.Written.{date_text, clock_text, offset_text, timestamp_text, sign}
 

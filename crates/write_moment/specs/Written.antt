@@ -1,7 +1,7 @@
 -- A timestamp as it is written, by RFC 3339, section 5.6, always with a fraction, of which three digits are left, and a numeric
 -- offset (rule W9). Definitions only.
 use Rattle.std.specs.Prelude.{ℕ, ◌-◌, ◌/◌, ◌%◌, List, ◌∷◌, ◌++◌, cond, ltb}
-use Rattle.digits.specs.Digits.{last_digits_of}
+use Rattle.timestamp.specs.of_digits.Digits.{last_digits_of}
 use Rattle.timestamp.specs.declared.Moment.{Moment}
 
 -- date-fullyear "-" date-month "-" date-mday

@@ -3,13 +3,14 @@
 
 ghost use Rattle.std.specs.Prelude.{◌≡◌, ◌<◌, length};
 ghost use Rattle.std.proofs.lemmas.List.Edits.{sets};
-ghost use Rattle.area.specs.Area.{stored_answer, placing, laid};
-ghost use Rattle.digits.specs.Digits.{last_digits_of};
+ghost use Rattle.timestamp.specs.of_area.Area.{stored_answer, placing, laid};
+ghost use Rattle.timestamp.specs.of_digits.Digits.{last_digits_of};
 ghost use Rattle.write_moment.specs.Written.{sign, away, timestamp_text};
-ghost use Rattle.refusal.specs.declared.Cause.TheVariants as cause;
+ghost use Rattle.timestamp.specs.of_refusal.declared.Cause.TheVariants as cause;
 
-use area::{Stored, copy_into};
+pub use timestamp as the_timestamp;
 use timestamp::Moment;
+use timestamp::the_area::{Stored, copy_into};
 
 // Puts the last two digits of n into bytes from `at` on.
 fn put_two(bytes: &mut [u8; 29], at: usize, n: u32)

@@ -2,7 +2,7 @@
 use mathlib.Core.List.{List, [], ◌∷◌, ◌++◌, map}
 use mathlib.Core.Option.{Option, none, some}
 use mathlib.Core.Path.{◌≡◌, refl, ap, ap₂}
-use Rattle.names.specs.Bytes.{bytes}
+use Rattle.write_escape.specs.of_names.Bytes.{bytes}
 use Rattle.table.specs.Event.{Event, Eof}
 use Rattle.tree_report.specs.Report.{Text, TestSuite, Report}
 use Rattle.write_report.specs.Written.{each, start_tag, end_tag, indent, declaration, report_attributes, serialize_test_suite, serialize_report, numbered, written}

@@ -1,7 +1,7 @@
 -- A suite as the crate has it: `hostname` is the first of its extras (docs/DIFFERENCES.md). Definitions only.
 use Rattle.std.specs.Prelude.{List, [], ◌∷◌, ◌++◌, map}
 use Rattle.std.proofs.Math.Option.{Option, none, some}
-use Rattle.names.specs.Bytes.{bytes}
+use Rattle.write_escape.specs.of_names.Bytes.{bytes}
 use Rattle.tree_report.specs.Report.{Text, Pair, TestSuite, Report}
 
 abbrev pub hostname_pairs : Option Text → List Pair

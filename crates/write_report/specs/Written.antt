@@ -2,11 +2,11 @@
 -- schema). Definitions only.
 use Rattle.std.specs.Prelude.{ℕ, zero, suc, ◌+◌, List, [], ◌∷◌, ◌++◌, map, Bool, true, false, cond, length, eqb}
 use Rattle.std.proofs.Math.Option.{Option, none, some}
-use Rattle.names.specs.Bytes.{bytes}
-use Rattle.names.specs.Keys as key
-use Rattle.digits.specs.Digits.{decimal}
+use Rattle.write_escape.specs.of_names.Bytes.{bytes}
+use Rattle.write_escape.specs.of_names.Keys as key
+use Rattle.time_text.specs.of_digits.Digits.{decimal}
 use Rattle.time_text.specs.Written.{written_time}
-use Rattle.timestamp.specs.declared.Moment.{Moment}
+use Rattle.write_moment.specs.of_timestamp.declared.Moment.{Moment}
 use Rattle.write_escape.specs.Escape.{escaped}
 use Rattle.write_moment.specs.Written.{timestamp_text}
 use Rattle.write_uuid.specs.Written.{uuid_text}
@@ -14,11 +14,11 @@ use Rattle.table.specs.Event.{Attribute, Event, Start, Empty, End, Text, Other, 
 use Rattle.tree_report.specs.Report.{Duration, Pair, NonSuccessKind, failure, error, FlakyOrRerun, flaky, rerun, TestRerun}
 use Rattle.tree_report.specs.Report.{Reason, TestCaseStatus, success, non_success, skipped, TestCase, TestSuite, Report}
 use Rattle.tree_report.specs.Report as report
-use Rattle.schema.specs.Schema.{Form, text, number, time, timestamp, uuid, flag, Presence, always, must, may, unkept, Row}
-use Rattle.schema.specs.Schema as table
-use Rattle.schema.specs.Records.{Of, Held, Fields}
-use Rattle.schema.specs.Elements.{report_fields, suite_fields, case_fields, skipped_fields, run_fields, pair_fields}
-use Rattle.schema.specs.Lookups.{text_in_of, places_in}
+use Rattle.tree_report.specs.of_schema.Schema.{Form, text, number, time, timestamp, uuid, flag, Presence, always, must, may, unkept, Row}
+use Rattle.tree_report.specs.of_schema.Schema as table
+use Rattle.tree_report.specs.of_schema.Records.{Of, Held, Fields}
+use Rattle.tree_report.specs.of_schema.Elements.{report_fields, suite_fields, case_fields, skipped_fields, run_fields, pair_fields}
+use Rattle.tree_report.specs.of_schema.Lookups.{text_in_of, places_in}
 
 -- ---- attributes
 abbrev pub attribute : List ℕ → List ℕ → Attribute

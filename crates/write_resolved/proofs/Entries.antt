@@ -7,11 +7,11 @@ use native.Mathlib.Omega.{arith}
 use borrow.Author.Tests.{le-leb, eq-eqb}
 use lib.ListN.{length, drop}
 use lib.Dec.{leb, eqb, eqb-suc-zero}
-use Rattle.refusal.specs.Refusal.{nowhere}
-use Rattle.table.specs.Table.{word, count_of, good_attribute, good_shape, bad_from, check_event}
-use Rattle.table.specs.declared.Checked.TheVariants.{Good, Bad}
-use Rattle.table.specs.Event.{part, bytes_at, attribute_at, attributes_from, event_of, event_at}
-use Rattle.tree_report.proofs.EncodeLists.{both}
+use Rattle.write_report.specs.of_refusal.Refusal.{nowhere}
+use Rattle.write_report.specs.of_table.Table.{word, count_of, good_attribute, good_shape, bad_from, check_event}
+use Rattle.write_report.specs.of_table.declared.Checked.TheVariants.{Good, Bad}
+use Rattle.write_report.specs.of_table.Event.{part, bytes_at, attribute_at, attributes_from, event_of, event_at}
+use Rattle.write_report.proofs.of_tree_report.EncodeLists.{both}
 use Rattle.write_report.specs.Written.{attribute}
 use Rattle.write_table.specs.Laid.{Item, entry, pair, place, event_words, attribute_words, laid_bytes}
 use Rattle.write_resolved.proofs.Standing.{Standing, entry-word, pair-word, entry-bytes, key-bytes, value-bytes, part_placed, part-within}

@@ -5,11 +5,11 @@ use mathlib.Core.List.{List, [], ◌∷◌, ◌++◌}
 use mathlib.Core.Bool.{Bool, cond}
 use native.Mathlib.Omega.{arith}
 use lib.ListN.{length}
-use Rattle.table.specs.Table.{count_of, bad_from, check_event, and_then, check_from}
-use Rattle.table.specs.declared.Checked.{Checked}
-use Rattle.table.specs.declared.Checked.TheVariants.{Good}
-use Rattle.table.specs.Event.{Attribute, Event, Start, Empty, Tag, Piece, Eof, Fault, attributes_from, event_of, event_at, resolve_from}
-use Rattle.tree_report.proofs.EncodeLists.{Each, done, more}
+use Rattle.write_report.specs.of_table.Table.{count_of, bad_from, check_event, and_then, check_from}
+use Rattle.write_report.specs.of_table.declared.Checked.{Checked}
+use Rattle.write_report.specs.of_table.declared.Checked.TheVariants.{Good}
+use Rattle.write_report.specs.of_table.Event.{Attribute, Event, Start, Empty, Tag, Piece, Eof, Fault, attributes_from, event_of, event_at, resolve_from}
+use Rattle.write_report.proofs.of_tree_report.EncodeLists.{Each, done, more}
 use Rattle.write_report.specs.Written.{attributes_of, numbered_tag, numbered}
 use Rattle.write_table.specs.Laid.{Item, entry, pairs_of_it, items_of_event, items_of, place}
 use Rattle.write_resolved.proofs.Standing.{Standing, past-entry, past-pair, place-some}

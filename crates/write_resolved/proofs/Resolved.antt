@@ -7,12 +7,12 @@ use native.Mathlib.Omega.{arith}
 use borrow.Author.Tests.{leb-true, le-leb, eq-eqb}
 use lib.ListN.{length}
 use lib.Dec.{leb}
-use Rattle.refusal.specs.Refusal.{nowhere, accepted}
-use Rattle.table.specs.Table.{count_of, check_from, good_sizes, check_of, checked_answer, table_of}
-use Rattle.table.specs.declared.Checked.TheVariants.{Good, Bad}
-use Rattle.table.specs.Event.{Event, resolve_from, resolve}
-use Rattle.tree_report.specs.Report.{Report}
-use Rattle.tree_report.proofs.EncodeLists.{Each, both, and_left, and_right}
+use Rattle.write_report.specs.of_refusal.Refusal.{nowhere, accepted}
+use Rattle.write_report.specs.of_table.Table.{count_of, check_from, good_sizes, check_of, checked_answer, table_of}
+use Rattle.write_report.specs.of_table.declared.Checked.TheVariants.{Good, Bad}
+use Rattle.write_report.specs.of_table.Event.{Event, resolve_from, resolve}
+use Rattle.write_report.specs.of_tree_report.Report.{Report}
+use Rattle.write_report.proofs.of_tree_report.EncodeLists.{Each, both, and_left, and_right}
 use Rattle.write_report.specs.Written.{numbered, written}
 use Rattle.write_table.specs.Laid.{items_of, laid_out, fits}
 use Rattle.write_resolved.proofs.Standing.{Standing}

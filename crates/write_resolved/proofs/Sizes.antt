@@ -4,8 +4,8 @@ use mathlib.Core.Path.{◌≡◌, refl, ap, ◌∙◌}
 use mathlib.Core.List.{List, [], ◌∷◌, ◌++◌}
 use native.Mathlib.Omega.{arith}
 use lib.ListN.{length, length-drop}
-use Rattle.table.specs.Table.{count_of}
-use Rattle.table.specs.Event.{Attribute, Event, Tag, Piece, Eof, Fault}
+use Rattle.write_report.specs.of_table.Table.{count_of}
+use Rattle.write_report.specs.of_table.Event.{Attribute, Event, Tag, Piece, Eof, Fault}
 use Rattle.write_report.specs.Written.{numbered}
 use Rattle.write_table.specs.Laid.{Item, entry, pair, pairs_of_it, items_of, event_words, attribute_words}
 use Rattle.write_resolved.proofs.Standing.{Standing}

@@ -7,9 +7,9 @@ use native.Mathlib.Omega.{arith}
 use lib.ListN.{length, get_or, take, drop, length-append, length-drop}
 use lib.Dec.{eqb-suc-zero}
 use lib.Seq.{drop-drop, drop-append_seam, take-append_seam}
-use Rattle.table.specs.Table.{word}
-use Rattle.table.specs.Event.{part}
-use Rattle.table.proofs.Words.{word_at}
+use Rattle.write_report.specs.of_table.Table.{word}
+use Rattle.write_report.specs.of_table.Event.{part}
+use Rattle.write_report.proofs.of_table.Words.{word_at}
 use Rattle.write_table.specs.Laid.{Item, entry, pair, place, entry_words, pair_words, event_words, attribute_words, laid_bytes}
 
 -- behind i events, j attributes and b bytes stand these items

@@ -2,14 +2,14 @@
 use Prim.Native.Nat.{ℕ}
 use mathlib.Core.List.{List, [], ◌∷◌, map}
 use mathlib.Core.Option.{Option, none, some}
-use Rattle.names.specs.Bytes.{bytes}
-use Rattle.timestamp.specs.declared.Moment.{Moment}
-use Rattle.uuids.specs.declared.Words.{Words}
-use Rattle.table.specs.Event.{Attribute, Event, Start, Empty, End, Text, CData, Ref, Other, Indent, Tag, Piece, Eof, Fault}
-use Rattle.tree_report.specs.Report.{Duration, Pair, FlakyOrRerun, flaky, TestRerun, Reason, TestCaseStatus, success, non_success, skipped, TestCase, TestSuite, Report}
-use Rattle.tree_report.specs.Report as report
-use Rattle.tree_report.proofs.EncodeLists.{Each, done, more, each_append, each_map}
-use Rattle.write_uuid.specs.Written.{uuid_text}
+use Rattle.write_report.specs.of_names.Bytes.{bytes}
+use Rattle.write_report.specs.of_timestamp.declared.Moment.{Moment}
+use Rattle.write_report.specs.of_uuids.declared.Words.{Words}
+use Rattle.write_report.specs.of_table.Event.{Attribute, Event, Start, Empty, End, Text, CData, Ref, Other, Indent, Tag, Piece, Eof, Fault}
+use Rattle.write_report.specs.of_tree_report.Report.{Duration, Pair, FlakyOrRerun, flaky, TestRerun, Reason, TestCaseStatus, success, non_success, skipped, TestCase, TestSuite, Report}
+use Rattle.write_report.specs.of_tree_report.Report as report
+use Rattle.write_report.proofs.of_tree_report.EncodeLists.{Each, done, more, each_append, each_map}
+use Rattle.write_report.specs.of_write_uuid.Written.{uuid_text}
 use Rattle.write_report.specs.Written.{attribute, textual, numeric, optional, stamped, timed, extra_attribute, each, serialize_output, serialize_property, serialize_properties}
 use Rattle.write_report.specs.Written.{serialize_outputs, status_attributes, described, serialize_status, main_name, indented, serialize_rerun, serialize_elements, element}
 use Rattle.write_report.specs.Written.{case_attributes, serialize_test_case, suite_attributes, serialize_test_suite, report_attributes, declaration, serialize_report}

@@ -4,14 +4,14 @@ use mathlib.Core.Path.{◌≡◌, refl}
 use mathlib.Core.List.{List, [], ◌∷◌, ◌++◌}
 use mathlib.Core.Bool.{Bool, true, false, ◌||◌}
 use lib.Dec.{eqb}
-use Rattle.tree_report.specs.Fields.{kind_of, text_at}
-use Rattle.tree_report.specs.ReportOf.{pair_of, run_of}
-use Rattle.write_escape.specs.Escape.{escaped}
-use Rattle.write_report.specs.Written.{serialize_property, serialize_rerun}
-use Rattle.write_table.specs.Laid.{pair, items_of}
-use Rattle.write_items.specs.inside.Walk.{ends_at, is_between}
-use Rattle.write_items.specs.inside.Status.{family}
-use Rattle.write_items.specs.inside.Rows.{row_items, rows_items}
+use Rattle.write_walk.specs.of_tree_report.Fields.{kind_of, text_at}
+use Rattle.write_walk.specs.of_tree_report.ReportOf.{pair_of, run_of}
+use Rattle.write_walk.specs.of_write_escape.Escape.{escaped}
+use Rattle.write_walk.specs.of_write_report.Written.{serialize_property, serialize_rerun}
+use Rattle.write_walk.specs.of_write_table.Laid.{pair, items_of}
+use Rattle.write_walk.specs.of_write_items.inside.Walk.{ends_at, is_between}
+use Rattle.write_walk.specs.of_write_items.inside.Status.{family}
+use Rattle.write_walk.specs.of_write_items.inside.Rows.{row_items, rows_items}
 
 module _ (text : List ℕ) (flaky : Bool) where
   module _ (r : List ℕ) where

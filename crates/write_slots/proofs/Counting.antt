@@ -5,12 +5,12 @@ use mathlib.Core.List.{List, [], ◌∷◌, ◌++◌}
 use mathlib.Core.Bool.{Bool, true, false, cond}
 use native.Mathlib.Omega.{arith}
 use lib.ListN.{length, get_or, drop, drop_of_length-le}
-use Rattle.area.proofs.Lists.{drop-next}
-use Rattle.write_table.specs.Laid.{entry, pair, pairs_of_it}
-use Rattle.write_table.specs.inside.Putting.{Areas, Wrote}
-use Rattle.write_table.proofs.Writing.{Coming, coming_on, coming-wrote, coming-done}
-use Rattle.write_items.specs.inside.Values.{key_name, value_of}
-use Rattle.write_items.specs.inside.Slots.{is_present, slot_of, slots, count_of}
+use Rattle.write_entries.proofs.of_area.Lists.{drop-next}
+use Rattle.write_entries.specs.of_write_table.Laid.{entry, pair, pairs_of_it}
+use Rattle.write_entries.specs.of_write_table.inside.Putting.{Areas, Wrote}
+use Rattle.write_entries.proofs.of_write_table.Writing.{Coming, coming_on, coming-wrote, coming-done}
+use Rattle.write_entries.specs.of_write_items.inside.Values.{key_name, value_of}
+use Rattle.write_entries.specs.of_write_items.inside.Slots.{is_present, slot_of, slots, count_of}
 
 pub slots-count : (text r codes : List ℕ) → length (slots text r codes) ≡ count_of r codes
 slots-count text r [] = refl

@@ -5,8 +5,8 @@ use mathlib.Core.List.{List, [], ◌∷◌, ◌++◌, append_assoc}
 use native.Mathlib.Omega.{arith}
 use lib.ListN.{length, take, drop, length-append, length-drop, take-append-drop}
 use lib.Seq.{length-take-le, take_at, drop_at, take-nil}
-use Rattle.area.specs.Area.{laid}
-use Rattle.area.proofs.Laying.{laid-fits, laid-append, length-laid}
+use Rattle.write_spelled.specs.of_area.Area.{laid}
+use Rattle.write_spelled.proofs.of_area.Laying.{laid-fits, laid-append, length-laid}
 use Rattle.write_table.specs.Laid.{Item, entry, pair, entry_words, pair_words, event_words, attribute_words, laid_bytes}
 use Rattle.write_table.specs.inside.Putting.{Held, over, with_entry, with_pair}
 

@@ -7,9 +7,9 @@ use native.Mathlib.Omega.{arith}
 use borrow.Author.Tests.{le-leb, leb-true}
 use lib.Dec.{leb}
 use lib.ListN.{length, length-replicate}
-use Rattle.area.specs.Area.{zeros, laid}
-use Rattle.area.specs.Limits.{most_entries, most_bytes}
-use Rattle.table.specs.Event.{Event}
+use Rattle.write_spelled.specs.of_area.Area.{zeros, laid}
+use Rattle.write_spelled.specs.of_area.Limits.{most_entries, most_bytes}
+use Rattle.write_spelled.specs.of_table.Event.{Event}
 use Rattle.write_table.specs.Laid.{items_of, laid_bytes, Table, laid_out, fits}
 use Rattle.write_table.specs.inside.Putting.{Held, Kept, none, some, xml, fresh, put_all}
 use Rattle.write_table.proofs.Filling.{entries, pairs, length-events, length-attributes, after, same-held}

@@ -7,8 +7,8 @@ use native.Mathlib.Omega.{arith}
 use borrow.Author.Tests.{le-leb, lt-ltb, leb-true, ltb-true}
 use lib.Dec.{leb, ltb}
 use lib.ListN.{length, length-append}
-use Rattle.area.specs.Limits.{most_entries, most_bytes}
-use Rattle.table.specs.Event.{Attribute, Event, Tag, Piece, Eof, Fault}
+use Rattle.write_spelled.specs.of_area.Limits.{most_entries, most_bytes}
+use Rattle.write_spelled.specs.of_table.Event.{Attribute, Event, Tag, Piece, Eof, Fault}
 use Rattle.write_table.specs.Laid.{Item, entry, pair, entry_words, pair_words, laid_bytes, pairs_of_it, items_of}
 use Rattle.write_table.specs.inside.Putting.{Held, Spelling, Kept, none, some, xml, table_room, byte_room, entry_limits, pair_limits, with_entry, with_pair, put, put_all}
 use Rattle.write_table.proofs.Filling.{entries, pairs, after, length_over, after_none, after-entry, after-pair}

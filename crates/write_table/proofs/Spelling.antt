@@ -8,9 +8,9 @@ use native.Mathlib.Decide.{dec_le}
 use borrow.Author.Tests.{le-leb, lt-leb, eqb-true}
 use lib.Dec.{leb, eqb}
 use lib.ListN.{length, length-append}
-use Rattle.area.specs.Limits.{most_bytes}
-use Rattle.table.specs.Event.{Attribute, Start, Empty, End, Text, CData, Ref, Other, Indent, Event, Tag, Piece, Eof, Fault}
-use Rattle.names.specs.Bytes.{bytes}
+use Rattle.write_spelled.specs.of_area.Limits.{most_bytes}
+use Rattle.write_spelled.specs.of_table.Event.{Attribute, Start, Empty, End, Text, CData, Ref, Other, Indent, Event, Tag, Piece, Eof, Fault}
+use Rattle.write_spelled.specs.of_names.Bytes.{bytes}
 use Rattle.write_spelled.specs.Spelled.{newline, line, attributes_text, spelled}
 use Rattle.write_table.specs.Laid.{Item, entry, pair, pairs_of_it, items_of}
 use Rattle.write_table.specs.inside.Forms.{free, closing, lead, before_entry, behind_entry, entry_text, key_text, value_text, form_behind, level_behind}

@@ -1,9 +1,9 @@
 -- Items one behind the other. Assumes nothing.
 use mathlib.Core.Path.{◌≡◌, refl, sym, ap, ◌∙◌}
 use mathlib.Core.List.{List, [], ◌∷◌, ◌++◌, append_assoc}
-use Rattle.area.specs.declared.Stored.{Stored}
-use Rattle.area.specs.declared.Stored.TheVariants.{Full}
-use Rattle.table.specs.Event.{Event}
+use Rattle.write_spelled.specs.of_area.declared.Stored.{Stored}
+use Rattle.write_spelled.specs.of_area.declared.Stored.TheVariants.{Full}
+use Rattle.write_spelled.specs.of_table.Event.{Event}
 use Rattle.write_table.specs.Laid.{Item, items_of_event, items_of}
 use Rattle.write_table.specs.inside.Putting.{Held, Spelling, Kept, none, some, xml, put, spell, put_all, Areas, held_by_of, held, Wrote}
 

@@ -1,8 +1,8 @@
 -- The three areas that hold a list of events (rules W12 and W13). Definitions only.
 use Rattle.std.specs.Prelude.{ℕ, ◌+◌, ◌*◌, min, List, [], ◌∷◌, ◌++◌, Bool, cond, ◌&&◌, length, leb, eqb}
-use Rattle.area.specs.Limits.{most_entries, most_bytes}
-use Rattle.table.specs.Kinds as kind
-use Rattle.table.specs.Event.{Attribute, TagKind, Start, Empty, End, PieceKind, Text, CData, Ref, Other, Indent, Event, Tag, Piece, Eof, Fault}
+use Rattle.write_spelled.specs.of_area.Limits.{most_entries, most_bytes}
+use Rattle.write_spelled.specs.of_table.Kinds as kind
+use Rattle.write_spelled.specs.of_table.Event.{Attribute, TagKind, Start, Empty, End, PieceKind, Text, CData, Ref, Other, Indent, Event, Tag, Piece, Eof, Fault}
 
 -- the number of a kind
 abbrev pub tag_number : TagKind → ℕ

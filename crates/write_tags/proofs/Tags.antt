@@ -8,9 +8,9 @@ use borrow.Author.Tests.{ne_eqb}
 use lib.Dec.{eqb}
 use lib.ListN.{take, drop, replicate, length-replicate, replicate-append-replicate}
 use lib.Seq.{take_at}
-use Rattle.names.specs.Bytes.{bytes}
-use Rattle.write_spelled.specs.Spelled.{newline}
-use Rattle.write_table.specs.inside.Forms.{closing, lead, is_text, before_entry, behind_entry, key_text, before, behind, key_in, quote_in}
+use Rattle.list_values.specs.of_names.Bytes.{bytes}
+use Rattle.write_form.specs.of_write_spelled.Spelled.{newline}
+use Rattle.write_form.specs.of_write_table.inside.Forms.{closing, lead, is_text, before_entry, behind_entry, key_text, before, behind, key_in, quote_in}
 
 -- how many bytes of `/>` are left out
 abbrev skipped : ℕ → ℕ

@@ -3,14 +3,16 @@
 #![tactic(auto)]
 
 ghost use Rattle.std.specs.Prelude.{◌≡◌, ◌++◌, cond, ◌-◌, ◌*◌, ◌<◌, eqb, replicate};
-ghost use Rattle.list_text.specs.inside.Behind.{filled, Puts};
-ghost use Rattle.write_spelled.specs.Spelled.{newline};
-ghost use Rattle.write_table.specs.inside.Forms as forms;
+ghost use Rattle.list_values.specs.of_list_text.inside.Behind.{filled, Puts};
+ghost use Rattle.write_form.specs.of_write_spelled.Spelled.{newline};
+ghost use Rattle.write_form.specs.of_write_table.inside.Forms as forms;
 
-use area::{Stored, least};
-use list_text::put;
+pub use list_values as the_list_values;
 use list_values::part_of;
-use table::kind;
+use list_values::the_area::{Stored, least};
+use list_values::the_list_text::put;
+pub use write_form as the_write_form;
+use write_form::the_table::kind;
 use write_form::{form, is_text, left_out, one_less};
 
 fn put_closing(bytes: &mut [u8], k: Stored, form: u32) -> Stored

@@ -1,7 +1,7 @@
 -- UUIDs written, computed. Assumes nothing.
 use Prim.Native.Nat.{ℕ}
 use mathlib.Core.Path.{◌≡◌, refl}
-use Rattle.names.specs.Bytes.{bytes}
+use Rattle.uuids.specs.of_names.Bytes.{bytes}
 use Rattle.uuids.specs.declared.Words.{Words}
 use Rattle.write_uuid.specs.Written.{hex_digit, uuid_text}
 

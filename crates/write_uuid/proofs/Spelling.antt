@@ -5,7 +5,7 @@ use mathlib.Core.List.{List}
 use native.Mathlib.Omega.{arith}
 use lib.ListN.{set}
 use lib.Seq.{sets}
-use Rattle.names.specs.Bytes.{bytes}
+use Rattle.uuids.specs.of_names.Bytes.{bytes}
 use Rattle.uuids.specs.declared.Words.{Words}
 use Rattle.write_uuid.specs.Written.{hex_digit, hex_octets, uuid_text}
 

@@ -6,9 +6,9 @@ use native.Mathlib.Omega.{arith}
 use borrow.Author.Tests.{lt-ltb}
 use lib.Dec.{ltb}
 use lib.ListN.{length}
-use Rattle.utf8.specs.Utf8.{utf8}
-use Rattle.utf8.specs.inside.Ascii.{ascii}
-use Rattle.utf8.proofs.Rules.{ascii-utf8}
+use Rattle.uuids.specs.of_utf8.Utf8.{utf8}
+use Rattle.uuids.specs.of_utf8.inside.Ascii.{ascii}
+use Rattle.uuids.proofs.of_utf8.Rules.{ascii-utf8}
 use Rattle.uuids.specs.declared.Words.{Words}
 use Rattle.write_uuid.specs.Written.{hex_digit, uuid_text}
 

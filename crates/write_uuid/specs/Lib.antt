@@ -1,1 +1,2 @@
 pub mod Written
+pub use Rattle.uuids.specs as of_uuids

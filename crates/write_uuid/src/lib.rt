@@ -3,12 +3,13 @@
 
 ghost use Rattle.std.specs.Prelude.{◌≡◌, ◌%◌, ◌≤◌, length};
 ghost use Rattle.std.proofs.lemmas.List.Edits.{sets};
-ghost use Rattle.area.specs.Area.{stored_answer, placing, laid};
+ghost use Rattle.uuids.specs.of_area.Area.{stored_answer, placing, laid};
 ghost use Rattle.write_uuid.specs.Written.{hex_digit, hex_octets, uuid_text};
-ghost use Rattle.refusal.specs.declared.Cause.TheVariants as cause;
+ghost use Rattle.uuids.specs.of_refusal.declared.Cause.TheVariants as cause;
 
-use area::{Stored, copy_into};
+pub use uuids as the_uuids;
 use uuids::Words;
+use uuids::the_area::{Stored, copy_into};
 
 // The last hexadecimal digit of n.
 fn digit(n: u32) -> u8

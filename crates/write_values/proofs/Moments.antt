@@ -7,11 +7,11 @@ use native.Mathlib.Nat.{mod-mod, div-eq_of_lt-le}
 use native.Mathlib.Omega.{arith}
 use borrow.Author.Tests.{le-ltb, ltb-false}
 use lib.Dec.{ltb}
-use Rattle.digits.specs.Digits.{last_digits_of}
-use Rattle.timestamp.specs.declared.Moment.{Moment}
-use Rattle.tree_report.specs.Fields.{moment_of}
+use Rattle.tree_stamp.specs.of_digits.Digits.{last_digits_of}
+use Rattle.tree_stamp.specs.of_timestamp.declared.Moment.{Moment}
+use Rattle.tree_stamp.specs.of_tree_report.Fields.{moment_of}
 use Rattle.tree_stamp.specs.Stamp.{cut_offset, cut_moment}
-use Rattle.write_moment.specs.Written.{date_text, clock_text, away, offset_text, timestamp_text}
+use Rattle.write_bytes.specs.of_write_moment.Written.{date_text, clock_text, away, offset_text, timestamp_text}
 
 hundred : (n : ℕ) → (n % 100 % 10 ≡ n % 10) × (n % 100 / 10 ≡ n / 10 % 10)
 hundred n =

@@ -8,11 +8,11 @@ use native.Mathlib.Omega.{arith}
 use borrow.Author.Tests.{le-ltb}
 use lib.Dec.{ltb}
 use lib.ListN.{get_or, take, drop}
-use Rattle.names.specs.Bytes.{bytes}
-use Rattle.names.specs.Tags.{tags}
-use Rattle.names.specs.Keys.{keys}
-use Rattle.write_table.specs.inside.Forms.{key_text}
-use Rattle.write_items.specs.inside.Values.{tag_name, key_name, cut_at}
+use Rattle.tree_stamp.specs.of_names.Bytes.{bytes}
+use Rattle.tree_stamp.specs.of_names.Tags.{tags}
+use Rattle.tree_stamp.specs.of_names.Keys.{keys}
+use Rattle.write_codes.specs.of_write_table.inside.Forms.{key_text}
+use Rattle.write_codes.specs.of_write_items.inside.Values.{tag_name, key_name, cut_at}
 
 abbrev tag-starts : List ℕ
 tag-starts = 0 ∷ 0 ∷ 10 ∷ 19 ∷ 27 ∷ 37 ∷ 45 ∷ 52 ∷ 57 ∷ 64 ∷ 76 ∷ 86 ∷ 98 ∷ 108 ∷ 118 ∷ 128 ∷ 138 ∷ []

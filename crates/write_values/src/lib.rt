@@ -2,23 +2,25 @@
 #![tactic(auto)]
 
 ghost use Rattle.std.specs.Prelude.{◌≡◌, ◌+◌, ◌-◌, ◌*◌, ◌≤◌, cond, get_or, ltb};
-ghost use Rattle.digits.specs.Digits.{decimal};
-ghost use Rattle.write_escape.specs.Escape.{escaped};
-ghost use Rattle.tree_report.specs.Fields.{text_at, number_at};
-ghost use Rattle.list_text.specs.inside.Behind.{filled, Puts};
-ghost use Rattle.write_table.specs.inside.Forms.{key_text, key_in};
-ghost use Rattle.write_items.specs.inside.Values.{tag_name, key_name, cut_at, words_of, value_of};
+ghost use Rattle.tree_stamp.specs.of_digits.Digits.{decimal};
+ghost use Rattle.write_bytes.specs.of_write_escape.Escape.{escaped};
+ghost use Rattle.tree_stamp.specs.of_tree_report.Fields.{text_at, number_at};
+ghost use Rattle.write_bytes.specs.of_list_text.inside.Behind.{filled, Puts};
+ghost use Rattle.write_codes.specs.of_write_table.inside.Forms.{key_text, key_in};
+ghost use Rattle.write_codes.specs.of_write_items.inside.Values.{tag_name, key_name, cut_at, words_of, value_of};
 
-use area::Stored;
-use list_text::put;
-use list_values::part_of;
-use names::key;
-use tree_record::{field, word};
 use tree_stamp::moment_of;
-use uuids::Words;
+use tree_stamp::the_area::Stored;
+use tree_stamp::the_names::key;
+use tree_stamp::the_tree_record::{field, word};
+use tree_stamp::the_uuids::Words;
+use write_bytes::the_list_text::put;
 use write_bytes::{put_escaped, put_timestamp, put_uuid};
 use write_codes::offset_of_key;
-use write_form::form;
+pub use write_tags as the_write_tags;
+pub use write_tags::the_list_values;
+use write_tags::the_list_values::part_of;
+use write_tags::the_write_form::form;
 
 fn byte_at(s: &[u8], i: usize) -> u8
     ensures { result ≡ get_or s.now i 0 }
@@ -161,7 +163,7 @@ fn put_number_at(bytes: &mut [u8], k: Stored, r: &[u32], o: usize) -> Stored
     requires { o ≤ 30 }
     ensures { Puts (filled k bytes.old) (decimal (number_at r.now o)) (filled result bytes.new) }
 {
-    list_text::put_decimal(bytes, k, number_of(field(r, o), field(r, o + 1)))
+    write_bytes::the_list_text::put_decimal(bytes, k, number_of(field(r, o), field(r, o + 1)))
 }
 
 // The value under a key.
@@ -176,7 +178,7 @@ pub fn put_value(bytes: &mut [u8], k: Stored, text: &[u8], r: &[u32], code: u8) 
         return put_timestamp(bytes, k, moment_of(r));
     }
     if c == key::TIME {
-        return list_text::put_time(
+        return write_bytes::the_list_text::put_time(
             bytes,
             k,
             field(r, word::SECONDS),

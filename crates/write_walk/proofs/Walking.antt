@@ -6,10 +6,10 @@ use mathlib.Core.Bool.{true, false}
 use native.Mathlib.Omega.{arith}
 use lib.ListN.{length, take, drop, get_or, drop_of_length-le}
 use lib.Seq.{get_or-take}
-use Rattle.area.proofs.Parts.{rest_part}
+use Rattle.list_sums.proofs.of_area.Parts.{rest_part}
 use Rattle.list_sums.specs.inside.Rows.{stands, records_in}
 use Rattle.list_sums.proofs.Records.{stands-room, records-here, records-over}
-use Rattle.tree_report.specs.Fields.{kind_of}
+use Rattle.list_sums.specs.of_tree_report.Fields.{kind_of}
 use Rattle.write_items.specs.inside.Walk.{ends_at, is_between, own_of, between, first_of}
 
 module _ (level low high : ℕ) where

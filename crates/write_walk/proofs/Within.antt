@@ -5,8 +5,8 @@ use mathlib.Core.List.{List}
 use mathlib.Core.Bool.{true, false, ◌&&◌, ◌||◌}
 use borrow.Author.Tests.{eq-eqb, ne_eqb}
 use lib.Dec.{leb, eqb}
-use Rattle.tree_record.specs.Bits as bit
-use Rattle.tree_report.specs.Fields.{has_bit}
+use Rattle.list_sums.specs.of_tree_record.Bits as bit
+use Rattle.list_sums.specs.of_tree_report.Fields.{has_bit}
 use Rattle.write_items.specs.inside.Case.{first_kind, runs_flaky, is_childless}
 
 module _ (rs : List (List ℕ)) where

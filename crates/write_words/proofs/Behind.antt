@@ -3,8 +3,8 @@ use Prim.Native.Nat.{ℕ, ◌+◌, ◌/◌, ◌≤◌, ◌<◌}
 use mathlib.Core.Path.{◌≡◌, refl, sym, ap, ◌∙◌}
 use mathlib.Core.List.{List, ◌++◌}
 use lib.ListN.{length, drop, get_or, drop_of_length-le}
-use Rattle.area.proofs.Lists.{drop-next}
-use Rattle.area.specs.declared.Stored.{Stored}
+use Rattle.list_input.proofs.of_area.Lists.{drop-next}
+use Rattle.list_input.specs.of_area.declared.Stored.{Stored}
 use Rattle.list_text.specs.inside.Behind.{filled, Puts}
 use Rattle.list_text.proofs.Putting.{Coming, coming-start, coming_on, coming_puts, coming-done}
 use Rattle.write_words.specs.Bytes.{word_bytes, words_bytes, table_bytes}

@@ -1,2 +1,3 @@
 pub mod Behind
 mod Examples
+pub use Rattle.write_table.proofs as of_write_table

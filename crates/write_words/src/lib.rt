@@ -4,7 +4,7 @@
 ghost use Rattle.list_text.specs.inside.Behind.{filled, Puts};
 ghost use Rattle.write_words.specs.Bytes.{word_bytes, words_bytes, table_bytes};
 
-use area::{Stored, wide};
+use list_input::the_area::{Stored, wide};
 use list_text::put;
 
 // A word, its low byte first.

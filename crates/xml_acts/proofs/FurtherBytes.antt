@@ -4,15 +4,15 @@ use mathlib.Core.Path.{◌≡◌, refl, sym, ◌∙◌}
 use mathlib.Core.Bool.{Bool, true, false, cond, ◌&&◌}
 use lib.Dec.{leb, ltb, eqb, leb-suc-suc}
 use borrow.Author.Tests.{ltb-true, eq-eqb, ne_eqb}
-use Rattle.xml_chars.specs.Chars.{lower}
-use Rattle.xml_state.specs.declared.Part.{Part}
-use Rattle.xml_state.specs.declared.State.{State}
-use Rattle.xml_state.specs.declared.Followed.{Followed}
-use Rattle.xml_state.specs.declared.Followed.TheVariants.{Takes, Refuses}
-use Rattle.xml_state.specs.declared.Step.TheVariants.{Go, Bad}
-use Rattle.xml_state.specs.inside.Parts.{follow_of}
-use Rattle.xml_state.specs.inside.Registers.{in_mode, with_part}
-use Rattle.xml_state.specs.inside.Acts.{further_of}
+use Rattle.xml_part.specs.of_xml_chars.Chars.{lower}
+use Rattle.xml_part.specs.of_xml_state.declared.Part.{Part}
+use Rattle.xml_part.specs.of_xml_state.declared.State.{State}
+use Rattle.xml_part.specs.of_xml_state.declared.Followed.{Followed}
+use Rattle.xml_part.specs.of_xml_state.declared.Followed.TheVariants.{Takes, Refuses}
+use Rattle.xml_part.specs.of_xml_state.declared.Step.TheVariants.{Go, Bad}
+use Rattle.xml_part.specs.of_xml_state.inside.Parts.{follow_of}
+use Rattle.xml_part.specs.of_xml_state.inside.Registers.{in_mode, with_part}
+use Rattle.xml_part.specs.of_xml_state.inside.Acts.{further_of}
 
 pub when_none-left : {l m x : ℕ} (y : ℕ) → l ≡ 0 → m ≡ x → m ≡ cond (eqb l 0) x y
 when_none-left {l} y e q = rw (eq-eqb l 0 e) q

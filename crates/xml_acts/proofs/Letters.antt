@@ -3,11 +3,11 @@ use Prim.Native.Nat.{ℕ, ◌+◌, ◌≤◌, ◌<◌}
 use mathlib.Core.Path.{◌≡◌, refl, sym, ap, ◌∙◌}
 use lib.ListN.{get_or}
 use borrow.Author.Tests.{lt-ltb, le-ltb, eq-eqb, ne_eqb}
-use Rattle.xml_chars.specs.Chars.{lower}
-use Rattle.xml_state.specs.declared.State.{State}
-use Rattle.xml_state.specs.declared.Step.TheVariants.{Go, Bad}
-use Rattle.xml_state.specs.inside.Registers.{in_mode, at_mark_of}
-use Rattle.xml_state.specs.inside.Acts.{words, letter_of, next_letter, spelled_of}
+use Rattle.xml_part.specs.of_xml_chars.Chars.{lower}
+use Rattle.xml_part.specs.of_xml_state.declared.State.{State}
+use Rattle.xml_part.specs.of_xml_state.declared.Step.TheVariants.{Go, Bad}
+use Rattle.xml_part.specs.of_xml_state.inside.Registers.{in_mode, at_mark_of}
+use Rattle.xml_part.specs.of_xml_state.inside.Acts.{words, letter_of, next_letter, spelled_of}
 
 pub letter-exact : {w b t : ℕ} → w < 44 → t ≡ b → t ≡ letter_of w b
 letter-exact {w} h e = rw (lt-ltb w 44 h) e

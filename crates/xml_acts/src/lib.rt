@@ -2,15 +2,17 @@
 #![tactic(auto)]
 
 ghost use Rattle.std.specs.Prelude.{◌≡◌, ◌+◌, ◌≤◌, ◌<◌};
-ghost use Rattle.xml_chars.specs.Chars as chars;
-ghost use Rattle.xml_state.specs.inside.Registers.{in_mode, at_mark_of, beginning};
-ghost use Rattle.xml_state.specs.inside.Acts.{further_of, next_letter, spelled_of, named_of, keyed_of, quoted_of, closing_of, led_of, word_of, spelling_of, opened_of, acted_of};
+ghost use Rattle.xml_part.specs.of_xml_chars.Chars as chars;
+ghost use Rattle.xml_part.specs.of_xml_state.inside.Registers.{in_mode, at_mark_of, beginning};
+ghost use Rattle.xml_part.specs.of_xml_state.inside.Acts.{further_of, next_letter, spelled_of, named_of, keyed_of, quoted_of, closing_of, led_of, word_of, spelling_of, opened_of, acted_of};
 
-use area::wide;
+pub use tree_record as the_tree_record;
 use tree_record::field;
-use xml_checks::{byte_at, into, less, wanted};
+use xml_part::the_area::wide;
+use xml_part::the_xml_checks::{byte_at, into, less, wanted};
+use xml_part::the_xml_state::{Followed, Move, State, Step, class, mode};
+pub use xml_part::{the_area, the_refusal, the_xml_state};
 use xml_part::{follow, lead};
-use xml_state::{Followed, Move, State, Step, class, mode};
 
 pub fn begin() -> State
     ensures { result ≡ beginning }

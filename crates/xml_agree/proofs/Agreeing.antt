@@ -5,18 +5,18 @@ use mathlib.Core.List.{List}
 use mathlib.Core.Bool.{Bool, true, false, cond}
 use lib.Dec.{eqb}
 use lib.ListN.{get_or}
-use Rattle.xml_chars.specs.Chars.{is_space, is_digit, is_hex, lower}
-use Rattle.xml_machine.specs.State.{State, Stay, Mark, EndText, TextMark, Name, Key, Next, no, go}
-use Rattle.xml_machine.specs.Tokens.{Marks, marking, naming, keying, text_due}
-use Rattle.xml_stack.specs.Stack.{Range}
-use Rattle.xml_state.specs.declared.Part.{Part as Open}
-use Rattle.xml_state.specs.declared.Move.{Move}
-use Rattle.xml_state.specs.declared.State.{State as Registers}
-use Rattle.xml_state.specs.declared.Step.TheVariants.{Go}
-use Rattle.xml_state.specs.inside.Rows as row
-use Rattle.xml_state.specs.inside.Registers.{in_mode, at_mark_of, to_then, with_part, with_count}
-use Rattle.xml_state.specs.inside.Acts.{named_of, keyed_of, quoted_of, acted_of}
-use Rattle.xml_state.specs.inside.Puts.{turned, fresh_of, act_on}
+use Rattle.xml_rep.specs.of_xml_chars.Chars.{is_space, is_digit, is_hex, lower}
+use Rattle.xml_rep.specs.of_xml_machine.State.{State, Stay, Mark, EndText, TextMark, Name, Key, Next, no, go}
+use Rattle.xml_rep.specs.of_xml_machine.Tokens.{Marks, marking, naming, keying, text_due}
+use Rattle.xml_rep.specs.of_xml_stack.Stack.{Range}
+use Rattle.xml_rep.specs.of_xml_state.declared.Part.{Part as Open}
+use Rattle.xml_rep.specs.of_xml_state.declared.Move.{Move}
+use Rattle.xml_rep.specs.of_xml_state.declared.State.{State as Registers}
+use Rattle.xml_rep.specs.of_xml_state.declared.Step.TheVariants.{Go}
+use Rattle.xml_rep.specs.of_xml_state.inside.Rows as row
+use Rattle.xml_rep.specs.of_xml_state.inside.Registers.{in_mode, at_mark_of, to_then, with_part, with_count}
+use Rattle.xml_rep.specs.of_xml_state.inside.Acts.{named_of, keyed_of, quoted_of, acted_of}
+use Rattle.xml_rep.specs.of_xml_state.inside.Puts.{turned, fresh_of, act_on}
 use Rattle.xml_rep.specs.inside.Rep.{Moded, Homed, Placed, Rep}
 use Rattle.xml_rep.specs.inside.Agree.{Does, Agree, wrong, quietly, texting}
 

@@ -5,22 +5,22 @@ use mathlib.Core.List.{List}
 use mathlib.Core.Bool.{true, false}
 use lib.Dec.{ltb}
 use lib.ListN.{get_or}
-use Rattle.xml_chars.specs.Chars as chars
-use Rattle.xml_chars.specs.Chars.{meets, any_char, name_start, name_char}
-use Rattle.xml_chars.specs.Bytes.{Left, one, two, three, Part, whole, part, fits}
-use Rattle.xml_machine.specs.State.{State, Act, Stay, Here, Next, no, go}
-use Rattle.xml_machine.specs.Machine.{char, begun}
-use Rattle.xml_machine.specs.Tokens.{Marks, marking}
-use Rattle.xml_stack.specs.Stack.{Range}
-use Rattle.xml_state.specs.declared.Part.{Part as Open}
-use Rattle.xml_state.specs.declared.Move.{Move}
-use Rattle.xml_state.specs.declared.State.{State as Registers}
-use Rattle.xml_state.specs.inside.Rows as row
-use Rattle.xml_state.specs.inside.Rows.{char_row}
-use Rattle.xml_state.specs.inside.Parts.{class_of, part_of, lead_of}
-use Rattle.xml_state.specs.inside.Registers.{in_mode, at_mark_of}
-use Rattle.xml_state.specs.inside.Acts.{led_of, opened_of, acted_of}
-use Rattle.xml_state.specs.inside.Puts.{act_on}
+use Rattle.xml_rep.specs.of_xml_chars.Chars as chars
+use Rattle.xml_rep.specs.of_xml_chars.Chars.{meets, any_char, name_start, name_char}
+use Rattle.xml_rep.specs.of_xml_chars.Bytes.{Left, one, two, three, Part, whole, part, fits}
+use Rattle.xml_rep.specs.of_xml_machine.State.{State, Act, Stay, Here, Next, no, go}
+use Rattle.xml_rep.specs.of_xml_machine.Machine.{char, begun}
+use Rattle.xml_rep.specs.of_xml_machine.Tokens.{Marks, marking}
+use Rattle.xml_rep.specs.of_xml_stack.Stack.{Range}
+use Rattle.xml_rep.specs.of_xml_state.declared.Part.{Part as Open}
+use Rattle.xml_rep.specs.of_xml_state.declared.Move.{Move}
+use Rattle.xml_rep.specs.of_xml_state.declared.State.{State as Registers}
+use Rattle.xml_rep.specs.of_xml_state.inside.Rows as row
+use Rattle.xml_rep.specs.of_xml_state.inside.Rows.{char_row}
+use Rattle.xml_rep.specs.of_xml_state.inside.Parts.{class_of, part_of, lead_of}
+use Rattle.xml_rep.specs.of_xml_state.inside.Registers.{in_mode, at_mark_of}
+use Rattle.xml_rep.specs.of_xml_state.inside.Acts.{led_of, opened_of, acted_of}
+use Rattle.xml_rep.specs.of_xml_state.inside.Puts.{act_on}
 use Rattle.xml_rep.specs.inside.Rep.{left_of, Parted, Partly, Moded, Homed, Placed, Rep}
 use Rattle.xml_rep.specs.inside.Agree.{Agree, quietly}
 use Rattle.xml_agree.proofs.Agreeing.{moved, Level, either, given, refused, stayed}

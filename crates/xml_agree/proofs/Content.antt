@@ -3,16 +3,16 @@ use Prim.Native.Nat.{ℕ}
 use mathlib.Core.Path.{◌≡◌, refl}
 use mathlib.Core.List.{List, ◌∷◌}
 use lib.ListN.{get_or}
-use Rattle.xml_chars.specs.Bytes.{whole, part}
-use Rattle.xml_machine.specs.State.{Brackets, b0, b1, b2, text, section, lt, inside, ref, Host, content, attribute, InRef, ampersand, ref_name, hash, digits, hash_x, hexes}
-use Rattle.xml_machine.specs.Machine.{more, angle, in_text, section_end, in_section, ref_end, in_ref}
-use Rattle.xml_machine.specs.Tokens.{Marks}
-use Rattle.xml_stack.specs.Stack.{Range}
-use Rattle.xml_state.specs.declared.Part.{Part as Open}
-use Rattle.xml_state.specs.declared.Move.{Move}
-use Rattle.xml_state.specs.declared.State.{State as Registers}
-use Rattle.xml_state.specs.inside.Rows as row
-use Rattle.xml_state.specs.inside.Rows.{all_rows, move_of}
+use Rattle.xml_rep.specs.of_xml_chars.Bytes.{whole, part}
+use Rattle.xml_rep.specs.of_xml_machine.State.{Brackets, b0, b1, b2, text, section, lt, inside, ref, Host, content, attribute, InRef, ampersand, ref_name, hash, digits, hash_x, hexes}
+use Rattle.xml_rep.specs.of_xml_machine.Machine.{more, angle, in_text, section_end, in_section, ref_end, in_ref}
+use Rattle.xml_rep.specs.of_xml_machine.Tokens.{Marks}
+use Rattle.xml_rep.specs.of_xml_stack.Stack.{Range}
+use Rattle.xml_rep.specs.of_xml_state.declared.Part.{Part as Open}
+use Rattle.xml_rep.specs.of_xml_state.declared.Move.{Move}
+use Rattle.xml_rep.specs.of_xml_state.declared.State.{State as Registers}
+use Rattle.xml_rep.specs.of_xml_state.inside.Rows as row
+use Rattle.xml_rep.specs.of_xml_state.inside.Rows.{all_rows, move_of}
 use Rattle.xml_rep.specs.inside.Modes.{text_mode, section_mode, ref_mode}
 use Rattle.xml_rep.specs.inside.Rep.{Named, host_home, HostPlaced}
 use Rattle.xml_rep.specs.inside.Agree.{Agree}

@@ -4,19 +4,19 @@ use mathlib.Core.Path.{◌≡◌, refl}
 use mathlib.Core.List.{List, [], ◌∷◌}
 use native.Mathlib.Omega.{arith}
 use lib.ListN.{get_or}
-use Rattle.names.specs.Bytes.{bytes}
-use Rattle.xml_chars.specs.Chars.{mark, single, double}
-use Rattle.xml_chars.specs.Bytes.{whole}
-use Rattle.xml_machine.specs.State.{decl, misc, pi_close, before, to_equals, to_point, to_chosen}
-use Rattle.xml_machine.specs.State.{version, encoding, standalone, InDecl, opening, equals, quoting, point, digit, letters, choice, chosen, valued, between}
-use Rattle.xml_machine.specs.Machine.{in_decl, decl_end, to_come}
-use Rattle.xml_machine.specs.Tokens.{Marks}
-use Rattle.xml_stack.specs.Stack.{Range}
-use Rattle.xml_state.specs.declared.State.{State as Registers}
-use Rattle.xml_state.specs.inside.Rows as row
-use Rattle.xml_state.specs.inside.Rows.{all_rows, move_of}
-use Rattle.xml_state.specs.inside.Acts.{acted_of, opened_of}
-use Rattle.xml_state.specs.inside.Puts.{act_on}
+use Rattle.xml_rep.specs.of_names.Bytes.{bytes}
+use Rattle.xml_rep.specs.of_xml_chars.Chars.{mark, single, double}
+use Rattle.xml_rep.specs.of_xml_chars.Bytes.{whole}
+use Rattle.xml_rep.specs.of_xml_machine.State.{decl, misc, pi_close, before, to_equals, to_point, to_chosen}
+use Rattle.xml_rep.specs.of_xml_machine.State.{version, encoding, standalone, InDecl, opening, equals, quoting, point, digit, letters, choice, chosen, valued, between}
+use Rattle.xml_rep.specs.of_xml_machine.Machine.{in_decl, decl_end, to_come}
+use Rattle.xml_rep.specs.of_xml_machine.Tokens.{Marks}
+use Rattle.xml_rep.specs.of_xml_stack.Stack.{Range}
+use Rattle.xml_rep.specs.of_xml_state.declared.State.{State as Registers}
+use Rattle.xml_rep.specs.of_xml_state.inside.Rows as row
+use Rattle.xml_rep.specs.of_xml_state.inside.Rows.{all_rows, move_of}
+use Rattle.xml_rep.specs.of_xml_state.inside.Acts.{acted_of, opened_of}
+use Rattle.xml_rep.specs.of_xml_state.inside.Puts.{act_on}
 use Rattle.xml_rep.specs.inside.Rep.{DeclModed, Named}
 use Rattle.xml_rep.specs.inside.Agree.{Agree}
 use Rattle.xml_agree.proofs.Agreeing.{Level, at-mode, on, on_space, on-digit, refused, stays}

@@ -7,18 +7,18 @@ use native.Mathlib.Omega.{arith}
 use borrow.Author.Tests.{lt-ltb, le-ltb}
 use lib.Dec.{ltb, eqb}
 use lib.ListN.{length, get_or, take, drop}
-use Rattle.xml_machine.specs.State.{State, ending, end_space, Stay, no, go}
-use Rattle.xml_machine.specs.Machine.{step}
-use Rattle.xml_machine.specs.Tokens.{Marks}
-use Rattle.xml_stack.specs.Stack.{Range}
-use Rattle.xml_state.specs.declared.State.{State as Registers}
-use Rattle.xml_state.specs.declared.Step.{Step}
-use Rattle.xml_state.specs.declared.Step.TheVariants.{Go, Bad}
-use Rattle.xml_state.specs.inside.Rows as row
-use Rattle.xml_state.specs.inside.Rows.{all_rows, move_of}
-use Rattle.xml_state.specs.inside.Registers.{in_mode}
-use Rattle.xml_state.specs.inside.Acts.{wanted_of, acted_of}
-use Rattle.xml_state.specs.inside.Puts.{turned, act_on}
+use Rattle.xml_rep.specs.of_xml_machine.State.{State, ending, end_space, Stay, no, go}
+use Rattle.xml_rep.specs.of_xml_machine.Machine.{step}
+use Rattle.xml_rep.specs.of_xml_machine.Tokens.{Marks}
+use Rattle.xml_rep.specs.of_xml_stack.Stack.{Range}
+use Rattle.xml_rep.specs.of_xml_state.declared.State.{State as Registers}
+use Rattle.xml_rep.specs.of_xml_state.declared.Step.{Step}
+use Rattle.xml_rep.specs.of_xml_state.declared.Step.TheVariants.{Go, Bad}
+use Rattle.xml_rep.specs.of_xml_state.inside.Rows as row
+use Rattle.xml_rep.specs.of_xml_state.inside.Rows.{all_rows, move_of}
+use Rattle.xml_rep.specs.of_xml_state.inside.Registers.{in_mode}
+use Rattle.xml_rep.specs.of_xml_state.inside.Acts.{wanted_of, acted_of}
+use Rattle.xml_rep.specs.of_xml_state.inside.Puts.{turned, act_on}
 use Rattle.xml_rep.specs.inside.Modes.{end_mode}
 use Rattle.xml_rep.specs.inside.Rep.{Placed, Rep}
 use Rattle.xml_rep.specs.inside.Agree.{Agree, wrong, quietly}

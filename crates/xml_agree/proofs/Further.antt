@@ -7,22 +7,22 @@ use native.Mathlib.Omega.{arith}
 use borrow.Author.Tests.{leb-true, leb-false, ltb-true, ltb-false, lt-ltb, le-ltb}
 use lib.Dec.{leb, ltb, eqb}
 use lib.ListN.{get_or}
-use Rattle.xml_chars.specs.Chars as chars
-use Rattle.xml_chars.specs.Chars.{crosses, meets, any_char, name_start, name_char, to}
-use Rattle.xml_chars.specs.Bytes.{Left, one, two, three, Part, whole, part, fits}
-use Rattle.xml_machine.specs.State.{State, Stay, no, go}
-use Rattle.xml_machine.specs.Machine.{follow, begun}
-use Rattle.xml_machine.specs.Tokens.{Marks}
-use Rattle.xml_stack.specs.Stack.{Range}
-use Rattle.xml_state.specs.declared.Part.{Part as Open}
-use Rattle.xml_state.specs.declared.Followed.{Followed}
-use Rattle.xml_state.specs.declared.Followed.TheVariants.{Takes, Refuses}
-use Rattle.xml_state.specs.declared.State.{State as Registers}
-use Rattle.xml_state.specs.inside.Rows as row
-use Rattle.xml_state.specs.inside.Parts.{class_of, unit_of, part_of, follow_of}
-use Rattle.xml_state.specs.inside.Registers.{in_mode, with_part}
-use Rattle.xml_state.specs.inside.Acts.{further_by, further_of, acted_of}
-use Rattle.xml_state.specs.inside.Puts.{turned, act_on}
+use Rattle.xml_rep.specs.of_xml_chars.Chars as chars
+use Rattle.xml_rep.specs.of_xml_chars.Chars.{crosses, meets, any_char, name_start, name_char, to}
+use Rattle.xml_rep.specs.of_xml_chars.Bytes.{Left, one, two, three, Part, whole, part, fits}
+use Rattle.xml_rep.specs.of_xml_machine.State.{State, Stay, no, go}
+use Rattle.xml_rep.specs.of_xml_machine.Machine.{follow, begun}
+use Rattle.xml_rep.specs.of_xml_machine.Tokens.{Marks}
+use Rattle.xml_rep.specs.of_xml_stack.Stack.{Range}
+use Rattle.xml_rep.specs.of_xml_state.declared.Part.{Part as Open}
+use Rattle.xml_rep.specs.of_xml_state.declared.Followed.{Followed}
+use Rattle.xml_rep.specs.of_xml_state.declared.Followed.TheVariants.{Takes, Refuses}
+use Rattle.xml_rep.specs.of_xml_state.declared.State.{State as Registers}
+use Rattle.xml_rep.specs.of_xml_state.inside.Rows as row
+use Rattle.xml_rep.specs.of_xml_state.inside.Parts.{class_of, unit_of, part_of, follow_of}
+use Rattle.xml_rep.specs.of_xml_state.inside.Registers.{in_mode, with_part}
+use Rattle.xml_rep.specs.of_xml_state.inside.Acts.{further_by, further_of, acted_of}
+use Rattle.xml_rep.specs.of_xml_state.inside.Puts.{turned, act_on}
 use Rattle.xml_rep.specs.inside.Rep.{left_of, Parted, Partly, Moded, Homed, Placed, Rep}
 use Rattle.xml_rep.specs.inside.Agree.{Agree, wrong}
 use Rattle.xml_agree.proofs.Agreeing.{moved, Level, stayed}

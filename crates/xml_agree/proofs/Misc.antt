@@ -4,18 +4,18 @@ use mathlib.Core.Path.{◌≡◌, refl}
 use mathlib.Core.List.{List, [], ◌∷◌}
 use native.Mathlib.Omega.{arith}
 use lib.ListN.{length, get_or}
-use Rattle.names.specs.Bytes.{bytes}
-use Rattle.xml_chars.specs.Bytes.{whole}
-use Rattle.xml_machine.specs.State.{Letters, x0, x1, x2, x3, Place, before, after, inside, heading, decl, opening, misc, tag, name, to_section}
-use Rattle.xml_machine.specs.State.{InMisc, bang, dash, remark0, remark1, remark2, target, named, pi_data, pi_query, pi_close}
-use Rattle.xml_machine.specs.Machine.{in_target, target_end, in_heading, in_misc, opens_misc, in_lt, resume, to_come}
-use Rattle.xml_machine.specs.Tokens.{Marks}
-use Rattle.xml_stack.specs.Stack.{Range}
-use Rattle.xml_state.specs.declared.State.{State as Registers}
-use Rattle.xml_state.specs.inside.Rows as row
-use Rattle.xml_state.specs.inside.Rows.{all_rows, move_of}
-use Rattle.xml_state.specs.inside.Acts.{acted_of, opened_of}
-use Rattle.xml_state.specs.inside.Puts.{act_on}
+use Rattle.xml_rep.specs.of_names.Bytes.{bytes}
+use Rattle.xml_rep.specs.of_xml_chars.Bytes.{whole}
+use Rattle.xml_rep.specs.of_xml_machine.State.{Letters, x0, x1, x2, x3, Place, before, after, inside, heading, decl, opening, misc, tag, name, to_section}
+use Rattle.xml_rep.specs.of_xml_machine.State.{InMisc, bang, dash, remark0, remark1, remark2, target, named, pi_data, pi_query, pi_close}
+use Rattle.xml_rep.specs.of_xml_machine.Machine.{in_target, target_end, in_heading, in_misc, opens_misc, in_lt, resume, to_come}
+use Rattle.xml_rep.specs.of_xml_machine.Tokens.{Marks}
+use Rattle.xml_rep.specs.of_xml_stack.Stack.{Range}
+use Rattle.xml_rep.specs.of_xml_state.declared.State.{State as Registers}
+use Rattle.xml_rep.specs.of_xml_state.inside.Rows as row
+use Rattle.xml_rep.specs.of_xml_state.inside.Rows.{all_rows, move_of}
+use Rattle.xml_rep.specs.of_xml_state.inside.Acts.{acted_of, opened_of}
+use Rattle.xml_rep.specs.of_xml_state.inside.Puts.{act_on}
 use Rattle.xml_rep.specs.inside.Modes.{mode_of, head_mode, lt_mode, bang_mode, misc_mode}
 use Rattle.xml_rep.specs.inside.Rep.{Named, opened}
 use Rattle.xml_rep.specs.inside.Agree.{Agree}

@@ -6,19 +6,19 @@ use mathlib.Core.Bool.{Bool, true, cond}
 use native.Mathlib.Omega.{arith}
 use borrow.Author.Tests.{ne_eqb}
 use lib.ListN.{length, take, drop}
-use Rattle.table.specs.Kinds as kind
-use Rattle.xml_chars.specs.Chars.{Quote, single, double}
-use Rattle.xml_chars.specs.Bytes.{whole}
-use Rattle.xml_machine.specs.State.{text, b0, tag, value, value_end, ending, Place, before, after, inside, Stay, Mark, NameStart, NameEnd, Start, Empty, End, Value, Ref, Comment, Pi, CData, go}
-use Rattle.xml_machine.specs.Machine.{shut, resume}
-use Rattle.xml_machine.specs.Tokens.{rec, unless0, over, Marks, marking, event, attribute}
-use Rattle.xml_stack.specs.Stack.{Range, range}
-use Rattle.xml_state.specs.declared.State.{State as Registers}
-use Rattle.xml_state.specs.declared.Step.TheVariants.{Go}
-use Rattle.xml_state.specs.inside.Rows as row
-use Rattle.xml_state.specs.inside.Registers.{in_mode, at_mark_of, with_name, with_count}
-use Rattle.xml_state.specs.inside.Acts.{named_of, acted_of}
-use Rattle.xml_state.specs.inside.Puts.{by_events, stepped, put_over, fresh_of, settled_of, in_value, act_ref, act_between, act_on}
+use Rattle.xml_rep.specs.of_table.Kinds as kind
+use Rattle.xml_rep.specs.of_xml_chars.Chars.{Quote, single, double}
+use Rattle.xml_rep.specs.of_xml_chars.Bytes.{whole}
+use Rattle.xml_rep.specs.of_xml_machine.State.{text, b0, tag, value, value_end, ending, Place, before, after, inside, Stay, Mark, NameStart, NameEnd, Start, Empty, End, Value, Ref, Comment, Pi, CData, go}
+use Rattle.xml_rep.specs.of_xml_machine.Machine.{shut, resume}
+use Rattle.xml_rep.specs.of_xml_machine.Tokens.{rec, unless0, over, Marks, marking, event, attribute}
+use Rattle.xml_rep.specs.of_xml_stack.Stack.{Range, range}
+use Rattle.xml_rep.specs.of_xml_state.declared.State.{State as Registers}
+use Rattle.xml_rep.specs.of_xml_state.declared.Step.TheVariants.{Go}
+use Rattle.xml_rep.specs.of_xml_state.inside.Rows as row
+use Rattle.xml_rep.specs.of_xml_state.inside.Registers.{in_mode, at_mark_of, with_name, with_count}
+use Rattle.xml_rep.specs.of_xml_state.inside.Acts.{named_of, acted_of}
+use Rattle.xml_rep.specs.of_xml_state.inside.Puts.{by_events, stepped, put_over, fresh_of, settled_of, in_value, act_ref, act_between, act_on}
 use Rattle.xml_rep.specs.inside.Modes.{mode_of, by_quote, end_mode}
 use Rattle.xml_rep.specs.inside.Rep.{Growing, Tagged, Keyed, Named, no_name_of, a_name, opened, Closing, Rep}
 use Rattle.xml_rep.specs.inside.Agree.{shut_in, Agree, closing, starting, emptying, closed, between, valuing}

@@ -4,16 +4,16 @@ use mathlib.Core.Path.{◌≡◌, refl, sym, ap}
 use mathlib.Core.List.{List, [], ◌∷◌, ◌++◌}
 use native.Mathlib.Omega.{arith}
 use lib.ListN.{length, get_or}
-use Rattle.xml_chars.specs.Chars.{mark, Quote, single, double}
-use Rattle.xml_chars.specs.Bytes.{whole}
-use Rattle.xml_machine.specs.State.{tag, ref, ampersand, attribute, InTag, name, gap, slash, key, key_eq, quote, value, value_end, Name, NameStart, Stay, Start}
-use Rattle.xml_machine.specs.Machine.{behind, in_tag}
-use Rattle.xml_machine.specs.Tokens.{Marks, naming}
-use Rattle.xml_stack.specs.Stack.{Range}
-use Rattle.xml_state.specs.declared.State.{State as Registers}
-use Rattle.xml_state.specs.inside.Rows as row
-use Rattle.xml_state.specs.inside.Rows.{all_rows, move_of}
-use Rattle.xml_state.specs.inside.Acts.{named_of}
+use Rattle.xml_rep.specs.of_xml_chars.Chars.{mark, Quote, single, double}
+use Rattle.xml_rep.specs.of_xml_chars.Bytes.{whole}
+use Rattle.xml_rep.specs.of_xml_machine.State.{tag, ref, ampersand, attribute, InTag, name, gap, slash, key, key_eq, quote, value, value_end, Name, NameStart, Stay, Start}
+use Rattle.xml_rep.specs.of_xml_machine.Machine.{behind, in_tag}
+use Rattle.xml_rep.specs.of_xml_machine.Tokens.{Marks, naming}
+use Rattle.xml_rep.specs.of_xml_stack.Stack.{Range}
+use Rattle.xml_rep.specs.of_xml_state.declared.State.{State as Registers}
+use Rattle.xml_rep.specs.of_xml_state.inside.Rows as row
+use Rattle.xml_rep.specs.of_xml_state.inside.Rows.{all_rows, move_of}
+use Rattle.xml_rep.specs.of_xml_state.inside.Acts.{named_of}
 use Rattle.xml_rep.specs.inside.Modes.{tag_mode, by_quote}
 use Rattle.xml_rep.specs.inside.Rep.{Growing, Tagged, Keyed, TagHome, TagPlaced, Named}
 use Rattle.xml_rep.specs.inside.Agree.{Agree}

@@ -4,18 +4,18 @@ use mathlib.Core.Path.{◌≡◌, refl}
 use mathlib.Core.List.{List, [], ◌∷◌, ◌++◌}
 use native.Mathlib.Omega.{arith}
 use lib.ListN.{length, get_or}
-use Rattle.xml_chars.specs.Chars.{Range as Class}
-use Rattle.xml_chars.specs.Bytes.{Left, whole, part}
-use Rattle.xml_machine.specs.State.{before, after, InTag, name, gap, slash, key, key_eq, quote, value, value_end}
-use Rattle.xml_machine.specs.State.{State, fresh, marked, lt_first, heading, x0, decl, literal, prolog, epilog, text, lt, misc, section, ref, tag, ending, end_space, to_marked}
-use Rattle.xml_machine.specs.Machine.{step, in_first, to_come}
-use Rattle.xml_machine.specs.Tokens.{Marks}
-use Rattle.xml_stack.specs.Stack.{Range}
-use Rattle.xml_state.specs.declared.State.{State as Registers}
-use Rattle.xml_state.specs.inside.Rows as row
-use Rattle.xml_state.specs.inside.Rows.{all_rows, move_of}
-use Rattle.xml_state.specs.inside.Acts.{acted_of, opened_of}
-use Rattle.xml_state.specs.inside.Puts.{act_on}
+use Rattle.xml_rep.specs.of_xml_chars.Chars.{Range as Class}
+use Rattle.xml_rep.specs.of_xml_chars.Bytes.{Left, whole, part}
+use Rattle.xml_rep.specs.of_xml_machine.State.{before, after, InTag, name, gap, slash, key, key_eq, quote, value, value_end}
+use Rattle.xml_rep.specs.of_xml_machine.State.{State, fresh, marked, lt_first, heading, x0, decl, literal, prolog, epilog, text, lt, misc, section, ref, tag, ending, end_space, to_marked}
+use Rattle.xml_rep.specs.of_xml_machine.Machine.{step, in_first, to_come}
+use Rattle.xml_rep.specs.of_xml_machine.Tokens.{Marks}
+use Rattle.xml_rep.specs.of_xml_stack.Stack.{Range}
+use Rattle.xml_rep.specs.of_xml_state.declared.State.{State as Registers}
+use Rattle.xml_rep.specs.of_xml_state.inside.Rows as row
+use Rattle.xml_rep.specs.of_xml_state.inside.Rows.{all_rows, move_of}
+use Rattle.xml_rep.specs.of_xml_state.inside.Acts.{acted_of, opened_of}
+use Rattle.xml_rep.specs.of_xml_state.inside.Puts.{act_on}
 use Rattle.xml_rep.specs.inside.Modes.{tag_mode}
 use Rattle.xml_rep.specs.inside.Rep.{Partly, TagHome, TagPlaced, Moded, Homed, Placed, Named, Rep}
 use Rattle.xml_rep.specs.inside.Agree.{Agree}

@@ -7,18 +7,18 @@ use native.Mathlib.Omega.{arith}
 use borrow.Author.Tests.{lt-ltb, le-ltb}
 use lib.Dec.{eqb}
 use lib.ListN.{get_or}
-use Rattle.xml_chars.specs.Chars.{lower, Quote}
-use Rattle.xml_machine.specs.State.{State, decl, literal, letters, Stay, Mark, no, go, Goal, to_marked, to_section, to_equals, to_point, to_chosen}
-use Rattle.xml_machine.specs.Machine.{in_literal, reached}
-use Rattle.xml_machine.specs.Tokens.{Marks, marking}
-use Rattle.xml_stack.specs.Stack.{Range}
-use Rattle.xml_state.specs.declared.State.{State as Registers}
-use Rattle.xml_state.specs.declared.Step.{Step}
-use Rattle.xml_state.specs.declared.Step.TheVariants.{Go, Bad}
-use Rattle.xml_state.specs.inside.Rows as row
-use Rattle.xml_state.specs.inside.Registers.{in_mode, at_mark_of, at_word}
-use Rattle.xml_state.specs.inside.Acts.{words, letter_of, spelled_of, spelling_of, acted_of}
-use Rattle.xml_state.specs.inside.Puts.{turned, act_on}
+use Rattle.xml_rep.specs.of_xml_chars.Chars.{lower, Quote}
+use Rattle.xml_rep.specs.of_xml_machine.State.{State, decl, literal, letters, Stay, Mark, no, go, Goal, to_marked, to_section, to_equals, to_point, to_chosen}
+use Rattle.xml_rep.specs.of_xml_machine.Machine.{in_literal, reached}
+use Rattle.xml_rep.specs.of_xml_machine.Tokens.{Marks, marking}
+use Rattle.xml_rep.specs.of_xml_stack.Stack.{Range}
+use Rattle.xml_rep.specs.of_xml_state.declared.State.{State as Registers}
+use Rattle.xml_rep.specs.of_xml_state.declared.Step.{Step}
+use Rattle.xml_rep.specs.of_xml_state.declared.Step.TheVariants.{Go, Bad}
+use Rattle.xml_rep.specs.of_xml_state.inside.Rows as row
+use Rattle.xml_rep.specs.of_xml_state.inside.Registers.{in_mode, at_mark_of, at_word}
+use Rattle.xml_rep.specs.of_xml_state.inside.Acts.{words, letter_of, spelled_of, spelling_of, acted_of}
+use Rattle.xml_rep.specs.of_xml_state.inside.Puts.{turned, act_on}
 use Rattle.xml_rep.specs.inside.Modes.{mode_of}
 use Rattle.xml_rep.specs.inside.Rep.{Spells, Spelling, end_of, goal_home, goal_opened, DeclModed, Moded, Homed, Placed, Named, Rep}
 use Rattle.xml_rep.specs.inside.Agree.{Does, Agree, wrong, quietly}

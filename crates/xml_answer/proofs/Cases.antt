@@ -2,11 +2,11 @@
 use lib.Ieee.{add, sum, div, of_int, round, units, odd, size, span, climb}
 use lib.Count.{count_trailing_zeros}
 use mathlib.Core.Path.{refl}
-use Rattle.digits.specs.Digits as digits
-use Rattle.time_text.specs.Written.{time_text, thousandths_of, float_sum}
-use Rattle.write_escape.specs.Escape as escape
-use Rattle.write_report.specs.Written as write
-use Rattle.write_spelled.specs.Spelled.{spelled}
+use Rattle.list_text.specs.of_digits.Digits as digits
+use Rattle.list_text.specs.of_time_text.Written.{time_text, thousandths_of, float_sum}
+use Rattle.write_answer.specs.of_write_escape.Escape as escape
+use Rattle.write_answer.specs.of_write_report.Written as write
+use Rattle.write_answer.specs.of_write_spelled.Spelled.{spelled}
 use Rattle.xml_answer.specs.Answer.{document}
 use Rattle.xml_answer.specs.Cases.{Cases}
 

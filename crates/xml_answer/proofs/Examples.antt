@@ -4,11 +4,11 @@ use mathlib.Core.Path.{◌≡◌, refl}
 use mathlib.Core.List.{List, [], ◌∷◌}
 use mathlib.Core.Bool.{false}
 use lib.ListN.{length}
-use Rattle.refusal.specs.declared.Cause.TheVariants as cause
-use Rattle.area.specs.Answer.{gives, refuses}
-use Rattle.area.specs.Area.{placing}
-use Rattle.area.specs.Limits.{most_bytes}
-use Rattle.tree_report.specs.Layout.{layout}
+use Rattle.list_text.specs.of_refusal.declared.Cause.TheVariants as cause
+use Rattle.list_text.specs.of_area.Answer.{gives, refuses}
+use Rattle.list_text.specs.of_area.Area.{placing}
+use Rattle.list_text.specs.of_area.Limits.{most_bytes}
+use Rattle.list_text.specs.of_tree_report.Layout.{layout}
 use Rattle.list_text.specs.Listing.{output_for}
 use Rattle.xml_answer.specs.Answer.{document_answer}
 use Rattle.xml_answer.specs.Cases.{nothing_text}

@@ -1,16 +1,16 @@
 -- What writing a report's XML document answers and leaves in its area (rules W20 and F13). Definitions only.
 use Rattle.std.specs.Prelude.{ℕ, min, List, false, cond}
-use Rattle.area.specs.Answer.{Answer, refuses}
-use Rattle.area.specs.Area.{placing}
-use Rattle.area.specs.Limits.{most_bytes}
-use Rattle.refusal.specs.Refusal.{Outcome}
-use Rattle.tree_report.specs.Report.{Report}
-use Rattle.tree_report.specs.Layout.{layout}
+use Rattle.list_text.specs.of_area.Answer.{Answer, refuses}
+use Rattle.list_text.specs.of_area.Area.{placing}
+use Rattle.list_text.specs.of_area.Limits.{most_bytes}
+use Rattle.list_text.specs.of_refusal.Refusal.{Outcome}
+use Rattle.list_text.specs.of_tree_report.Report.{Report}
+use Rattle.list_text.specs.of_tree_report.Layout.{layout}
 use Rattle.list_text.specs.Listing.{outcome_of, output_for}
-use Rattle.write_report.specs.Written.{written}
-use Rattle.write_spelled.specs.Spelled.{spelled}
+use Rattle.write_answer.specs.of_write_report.Written.{written}
+use Rattle.write_answer.specs.of_write_spelled.Spelled.{spelled}
 use Rattle.write_answer.specs.Answer.{events_of}
-use Rattle.refusal.specs.declared.Cause.TheVariants as cause
+use Rattle.list_text.specs.of_refusal.declared.Cause.TheVariants as cause
 
 -- the bytes of a report's document: its events, however many, spelled out (rule W17)
 unfoldable pub document : Report → List ℕ

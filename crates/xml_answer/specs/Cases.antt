@@ -3,8 +3,8 @@
 use Rattle.std.specs.Prelude.{ℕ, ◌≡◌, List, [], ◌∷◌, ◌++◌}
 use Prim.Native.String.{String}
 use Rattle.std.proofs.Math.Option.{Option, none, some}
-use Rattle.names.specs.Bytes.{bytes}
-use Rattle.tree_report.specs.Report.{Text, Pair, Counts, failure, error, rerun, TestRerun, Reason, TestCaseStatus, success, non_success, skipped, TestCase, TestSuite, Report}
+use Rattle.list_text.specs.of_names.Bytes.{bytes}
+use Rattle.list_text.specs.of_tree_report.Report.{Text, Pair, Counts, failure, error, rerun, TestRerun, Reason, TestCaseStatus, success, non_success, skipped, TestCase, TestSuite, Report}
 use Rattle.xml_answer.specs.Answer.{document}
 
 -- the lines of a file, each ended by a newline

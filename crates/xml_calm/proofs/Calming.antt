@@ -6,7 +6,7 @@ use mathlib.Core.Bool.{Bool, true, false, not, ◌&&◌, and-eq-true_iff}
 use native.Mathlib.Omega.{arith}
 use native.Mathlib.Decide.{dec_lt}
 use lib.ListN.{length, take, drop, get_or}
-use Rattle.area.proofs.Parts.{length_part, part_at}
+use Rattle.xml_state.proofs.of_area.Parts.{length_part, part_at}
 use Rattle.xml_calm.specs.inside.Calm.{mild, mild_all, stop_of, Calm}
 
 pub mild-next : (stop b : ℕ) (t : List ℕ) → mild_all stop (b ∷ t) ≡ (not (not (mild stop b)) && mild_all stop t)

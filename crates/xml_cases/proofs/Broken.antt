@@ -1,9 +1,9 @@
 -- Characters cut off at the end or broken within, by the bytes that they have, and whole ones. Assumes nothing.
 use mathlib.Core.Path.{refl}
 use mathlib.Core.List.{[], ◌∷◌, ◌++◌}
-use Rattle.names.specs.Bytes.{bytes}
-use Rattle.xml_chars.specs.Chars.{crosses, lower}
-use Rattle.xml_chars.specs.Bytes.{fits}
+use Rattle.xml_machine.specs.of_names.Bytes.{bytes}
+use Rattle.xml_machine.specs.of_xml_chars.Chars.{crosses, lower}
+use Rattle.xml_machine.specs.of_xml_chars.Bytes.{fits}
 use Rattle.xml_machine.specs.Machine.{begun, char, follow, in_text, in_section, in_ref, in_target, in_misc, in_heading, in_decl, behind, in_tag, in_lt, step}
 use Rattle.xml_machine.specs.Tokens.{rec, keep, records, laid_out, resulting, room_of, tokens}
 use Rattle.xml_cases.specs.Cases.{Refused, Read}

@@ -19,9 +19,9 @@
 -- RefOpen, RefName, RefHash, RefDigits, RefX, RefHex     | in-reference
 use mathlib.Core.Path.{refl}
 use mathlib.Core.List.{[], ◌∷◌, ◌++◌}
-use Rattle.names.specs.Bytes.{bytes}
-use Rattle.xml_chars.specs.Chars.{crosses, lower}
-use Rattle.xml_chars.specs.Bytes.{fits}
+use Rattle.xml_machine.specs.of_names.Bytes.{bytes}
+use Rattle.xml_machine.specs.of_xml_chars.Chars.{crosses, lower}
+use Rattle.xml_machine.specs.of_xml_chars.Bytes.{fits}
 use Rattle.xml_machine.specs.Machine.{begun, char, follow, in_text, in_section, in_ref, in_target, in_misc, in_heading, in_decl, behind, in_tag, in_lt, step}
 use Rattle.xml_machine.specs.Tokens.{keep, records, laid_out, resulting, room_of, tokens}
 use Rattle.xml_cases.specs.Cases.{Refused}

@@ -1,6 +1,6 @@
 -- What is said of a document: its refusal, or its records. Definitions only.
 use Rattle.std.specs.Prelude.{ℕ, ◌*◌, ◌≡◌, List, length, replicate}
-use Rattle.refusal.specs.Refusal.{nowhere}
+use Rattle.xml_machine.specs.of_refusal.Refusal.{nowhere}
 use Rattle.xml_machine.specs.Tokens.{Rec, flat, done-with, refused, tokens}
 
 -- in areas of so many words; a refusal leaves zeros

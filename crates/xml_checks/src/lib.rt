@@ -2,13 +2,15 @@
 #![tactic(auto)]
 
 ghost use Rattle.std.specs.Prelude.{◌≡◌, ◌-◌, get_or};
-ghost use Rattle.xml_chars.specs.Chars.{crosses, meets, any_char};
-ghost use Rattle.xml_machine.specs.Tokens as tokens;
+ghost use Rattle.xml_state.specs.of_xml_chars.Chars.{crosses, meets, any_char};
+ghost use Rattle.xml_state.specs.of_xml_machine.Tokens as tokens;
 ghost use Rattle.xml_state.specs.inside.Registers.{in_mode};
 ghost use Rattle.xml_state.specs.inside.Acts.{wanted_of};
 ghost use Rattle.xml_state.specs.inside.Puts.{room_for};
 
-use area::{limit, wide};
+pub use xml_state as the_xml_state;
+use xml_state::the_area::{limit, wide};
+pub use xml_state::{the_area, the_refusal};
 use xml_state::{State, Step, mode};
 
 pub fn crosses(a: u64, z: u64, low: u64, high: u64) -> bool

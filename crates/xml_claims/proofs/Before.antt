@@ -9,18 +9,18 @@ use borrow.Author.Tests.{le-ltb}
 use lib.Dec.{eqb}
 use lib.ListN.{take}
 use lib.Seq.{take_at}
-use Rattle.names.specs.Bytes.{bytes}
-use Rattle.table.specs.Kinds as kind
-use Rattle.xml_chars.specs.Chars.{crosses}
-use Rattle.xml_chars.specs.Bytes.{whole, part}
-use Rattle.xml_grammar.specs.Documents.{FirstBad, Doctype}
-use Rattle.xml_machine.specs.State as state
-use Rattle.xml_machine.specs.State.{State, fresh, marked, lt_first, heading, decl, literal, prolog, epilog, text, lt, misc, section, ref, tag, ending, end_space, Act, Mark, to_marked, to_section, to_equals, to_point, to_chosen, Next}
-use Rattle.xml_machine.specs.Machine.{char, in_text, in_lt, in_misc, step}
-use Rattle.xml_machine.specs.Runs.{after, run}
-use Rattle.xml_machine.specs.Tokens.{Rec, over, Marks, no_marks, marks_by, Due, nothing, event, attribute, text_due, due}
-use Rattle.xml_machine.proofs.Outcomes.{Ok, ok-go}
-use Rattle.xml_tokens.specs.Due.{counted, due_by, due_from, due_in_of, events_due, attributes_due}
+use Rattle.xml_finish.specs.of_names.Bytes.{bytes}
+use Rattle.xml_finish.specs.of_table.Kinds as kind
+use Rattle.xml_finish.specs.of_xml_chars.Chars.{crosses}
+use Rattle.xml_finish.specs.of_xml_chars.Bytes.{whole, part}
+use Rattle.xml_sound.specs.of_xml_grammar.Documents.{FirstBad, Doctype}
+use Rattle.xml_finish.specs.of_xml_machine.State as state
+use Rattle.xml_finish.specs.of_xml_machine.State.{State, fresh, marked, lt_first, heading, decl, literal, prolog, epilog, text, lt, misc, section, ref, tag, ending, end_space, Act, Mark, to_marked, to_section, to_equals, to_point, to_chosen, Next}
+use Rattle.xml_finish.specs.of_xml_machine.Machine.{char, in_text, in_lt, in_misc, step}
+use Rattle.xml_finish.specs.of_xml_machine.Runs.{after, run}
+use Rattle.xml_finish.specs.of_xml_machine.Tokens.{Rec, over, Marks, no_marks, marks_by, Due, nothing, event, attribute, text_due, due}
+use Rattle.xml_finish.proofs.of_xml_machine.Outcomes.{Ok, ok-go}
+use Rattle.xml_places.specs.of_xml_tokens.Due.{counted, due_by, due_from, due_in_of, events_due, attributes_due}
 use Rattle.xml_claims.proofs.Plain.{Plain}
 use Rattle.xml_claims.proofs.Steps.{opens, at_mark_of, Enters, After, step_after}
 use Rattle.xml_claims.proofs.Exact.{reaches, markup-opens}

@@ -5,15 +5,15 @@ use mathlib.Core.List.{List, [], ◌∷◌, ◌++◌, append_assoc, append-nil}
 use mathlib.Core.Bool.{true, false, false≢true}
 use mathlib.Core.Option.{some}
 use native.Mathlib.Omega.{arith}
-use Rattle.names.specs.Bytes.{bytes}
-use Rattle.xml_chars.specs.Bytes.{whole, part}
-use Rattle.xml_machine.specs.State as state
-use Rattle.xml_machine.specs.State.{State, fresh, marked, lt_first, heading, decl, literal, prolog, epilog, text, lt, misc, section, ref, tag, ending, end_space, Next}
-use Rattle.xml_machine.specs.State.{InMisc, bang, dash, remark0, remark1, remark2, target, named, pi_data, pi_query, pi_close}
-use Rattle.xml_machine.specs.Machine.{step}
-use Rattle.xml_machine.specs.Runs.{after, run, at_bang}
-use Rattle.xml_machine.proofs.Outcomes.{Ok, ok-go}
-use Rattle.xml_machine.proofs.Runs.{run-append, run_step}
+use Rattle.xml_finish.specs.of_names.Bytes.{bytes}
+use Rattle.xml_finish.specs.of_xml_chars.Bytes.{whole, part}
+use Rattle.xml_finish.specs.of_xml_machine.State as state
+use Rattle.xml_finish.specs.of_xml_machine.State.{State, fresh, marked, lt_first, heading, decl, literal, prolog, epilog, text, lt, misc, section, ref, tag, ending, end_space, Next}
+use Rattle.xml_finish.specs.of_xml_machine.State.{InMisc, bang, dash, remark0, remark1, remark2, target, named, pi_data, pi_query, pi_close}
+use Rattle.xml_finish.specs.of_xml_machine.Machine.{step}
+use Rattle.xml_finish.specs.of_xml_machine.Runs.{after, run, at_bang}
+use Rattle.xml_finish.proofs.of_xml_machine.Outcomes.{Ok, ok-go}
+use Rattle.xml_finish.proofs.of_xml_machine.Runs.{run-append, run_step}
 use Rattle.xml_claims.proofs.Plain.{Plain}
 use Rattle.xml_claims.proofs.Steps.{opens, at_lt, EntersMisc, Enters, After, step_after}
 

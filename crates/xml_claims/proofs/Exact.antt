@@ -9,17 +9,17 @@ use native.Mathlib.Omega.{arith}
 use borrow.Author.Tests.{eqb-true}
 use lib.Dec.{eqb}
 use lib.ListN.{length, length-append}
-use Rattle.names.specs.Bytes.{bytes}
-use Rattle.xml_chars.specs.Chars.{begins}
-use Rattle.xml_grammar.specs.Documents.{WellFormed, FirstBad, OpensMarkup, Doctype}
-use Rattle.xml_machine.specs.State as state
-use Rattle.xml_machine.specs.State.{State, fresh, Next}
-use Rattle.xml_machine.specs.Machine.{step, done}
-use Rattle.xml_machine.specs.Runs.{after, run, is_done, accepts, at_bang, is_doctype, Verdict, accepted, bad, doctype, blame, ahead, judge, verdict}
-use Rattle.xml_machine.proofs.Runs.{run-append, run_step, run-no}
+use Rattle.xml_finish.specs.of_names.Bytes.{bytes}
+use Rattle.xml_finish.specs.of_xml_chars.Chars.{begins}
+use Rattle.xml_sound.specs.of_xml_grammar.Documents.{WellFormed, FirstBad, OpensMarkup, Doctype}
+use Rattle.xml_finish.specs.of_xml_machine.State as state
+use Rattle.xml_finish.specs.of_xml_machine.State.{State, fresh, Next}
+use Rattle.xml_finish.specs.of_xml_machine.Machine.{step, done}
+use Rattle.xml_finish.specs.of_xml_machine.Runs.{after, run, is_done, accepts, at_bang, is_doctype, Verdict, accepted, bad, doctype, blame, ahead, judge, verdict}
+use Rattle.xml_finish.proofs.of_xml_machine.Runs.{run-append, run_step, run-no}
 use Rattle.xml_finish.proofs.Finish.{finish}
 use Rattle.xml_finish.proofs.GoesOn.{goes_on}
-use Rattle.xml_complete.proofs.Complete.{well_formed-accepted, no-document}
+use Rattle.xml_places.proofs.of_xml_complete.Complete.{well_formed-accepted, no-document}
 use Rattle.xml_sound.proofs.Sound.{sound}
 use Rattle.xml_claims.proofs.Steps.{opens}
 use Rattle.xml_claims.proofs.Probe.{probe, probe-reads, probe-none, doctype-judged}

@@ -4,7 +4,7 @@ use mathlib.Core.Path.{subst}
 use mathlib.Core.List.{List, ◌++◌, append_assoc, append-nil}
 use mathlib.Core.Bool.{Bool}
 use mathlib.Core.Logic.{◌↔◌}
-use Rattle.xml_grammar.specs.Grammar.{Many, no_char, a-char, chars, Space, Spaces, Miscs, last-space, misc}
+use Rattle.xml_sound.specs.of_xml_grammar.Grammar.{Many, no_char, a-char, chars, Space, Spaces, Miscs, last-space, misc}
 use Rattle.xml_claims.specs.MiscStar.{white, other, MiscStar, no-misc, a-misc}
 
 many-append : {is : ℕ → Bool} {s t : List ℕ} → Many is s → Many is t → Many is (s ++ t)

@@ -5,15 +5,15 @@ use mathlib.Core.Path.{◌≡◌, sym, ap, ◌∙◌}
 use mathlib.Core.List.{List, [], ◌∷◌, ◌++◌, append_assoc, append-nil}
 use native.Mathlib.Omega.{arith}
 use lib.ListN.{length, take, length-append}
-use Rattle.table.specs.Kinds as kind
-use Rattle.xml_grammar.specs.Documents.{WellFormed, events_of}
-use Rattle.xml_machine.specs.State.{State, fresh}
-use Rattle.xml_machine.specs.Runs.{Verdict}
-use Rattle.xml_machine.specs.Tokens.{Rec, rec, no_marks, Due, nothing, event, attribute, open_run, done-with, resulting, flat, tokens}
-use Rattle.xml_tokens.specs.Due.{due_from, due_in_of, events_due, attributes_due, attributes_in}
-use Rattle.xml_tokens.proofs.Rooms.{last_due, all_due}
-use Rattle.xml_tokens.proofs.Flat.{laid-front}
-use Rattle.xml_tokens.proofs.Tables.{is-accepted, due-events, due-attributes}
+use Rattle.xml_finish.specs.of_table.Kinds as kind
+use Rattle.xml_sound.specs.of_xml_grammar.Documents.{WellFormed, events_of}
+use Rattle.xml_finish.specs.of_xml_machine.State.{State, fresh}
+use Rattle.xml_finish.specs.of_xml_machine.Runs.{Verdict}
+use Rattle.xml_finish.specs.of_xml_machine.Tokens.{Rec, rec, no_marks, Due, nothing, event, attribute, open_run, done-with, resulting, flat, tokens}
+use Rattle.xml_places.specs.of_xml_tokens.Due.{due_from, due_in_of, events_due, attributes_due, attributes_in}
+use Rattle.xml_places.proofs.of_xml_tokens.Rooms.{last_due, all_due}
+use Rattle.xml_places.proofs.of_xml_tokens.Flat.{laid-front}
+use Rattle.xml_places.proofs.of_xml_tokens.Tables.{is-accepted, due-events, due-attributes}
 use Rattle.xml_places.specs.Places.{events_placed, attributes_placed, event_words, attribute_words}
 use Rattle.xml_places.specs.Begun.{GoesOn, Begun}
 use Rattle.xml_places.proofs.Placed.{due-placed}

@@ -6,15 +6,15 @@ use mathlib.Core.Bool.{true, false, ◌&&◌, and-eq-true_iff, false≢true}
 use native.Mathlib.Omega.{arith}
 use borrow.Author.Tests.{ltb-false, leb-true}
 use lib.Dec.{leb, ltb}
-use Rattle.xml_chars.specs.Chars.{Range, crosses, meets, name_start, name_char}
-use Rattle.xml_chars.specs.Bytes.{Left, one, two, three, Part, whole, part, fits}
-use Rattle.xml_machine.specs.State as state
-use Rattle.xml_machine.specs.State.{State, fresh, marked, lt_first, heading, decl, literal, prolog, epilog, text, lt, misc, section, ref, tag, ending, end_space, Act, Stay, Next}
-use Rattle.xml_machine.specs.State.{Place, before, inside, InMisc, bang, dash, remark0, remark1, remark2, target, named, pi_data, pi_query, pi_close}
-use Rattle.xml_machine.specs.State.{Host, content, attribute, Goal, to_marked, to_section, to_equals, to_point, to_chosen}
-use Rattle.xml_machine.specs.State.{InDecl, opening, equals, quoting, point, digit, letters, choice, chosen, valued, between}
-use Rattle.xml_machine.specs.Machine.{begun, char, follow}
-use Rattle.xml_machine.proofs.Outcomes.{Ok, good, bad, cond-ok, when-ok}
+use Rattle.xml_finish.specs.of_xml_chars.Chars.{Range, crosses, meets, name_start, name_char}
+use Rattle.xml_finish.specs.of_xml_chars.Bytes.{Left, one, two, three, Part, whole, part, fits}
+use Rattle.xml_finish.specs.of_xml_machine.State as state
+use Rattle.xml_finish.specs.of_xml_machine.State.{State, fresh, marked, lt_first, heading, decl, literal, prolog, epilog, text, lt, misc, section, ref, tag, ending, end_space, Act, Stay, Next}
+use Rattle.xml_finish.specs.of_xml_machine.State.{Place, before, inside, InMisc, bang, dash, remark0, remark1, remark2, target, named, pi_data, pi_query, pi_close}
+use Rattle.xml_finish.specs.of_xml_machine.State.{Host, content, attribute, Goal, to_marked, to_section, to_equals, to_point, to_chosen}
+use Rattle.xml_finish.specs.of_xml_machine.State.{InDecl, opening, equals, quoting, point, digit, letters, choice, chosen, valued, between}
+use Rattle.xml_finish.specs.of_xml_machine.Machine.{begun, char, follow}
+use Rattle.xml_finish.proofs.of_xml_machine.Outcomes.{Ok, good, bad, cond-ok, when-ok}
 
 -- ---- no `<`
 abbrev pub NoLt : List ℕ → Type 0

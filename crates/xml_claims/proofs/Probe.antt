@@ -6,17 +6,17 @@ use mathlib.Core.Bool.{Bool, true, false, cond, false≢true}
 use mathlib.Core.Option.{none, some}
 use native.Mathlib.Omega.{arith}
 use borrow.Author.Tests.{ne_eqb}
-use Rattle.names.specs.Bytes.{bytes}
-use Rattle.xml_chars.specs.Chars.{Range, crosses, lower, single, double}
-use Rattle.xml_chars.specs.Bytes.{Left, one, two, three, Part, whole, part}
-use Rattle.xml_machine.specs.State.{State, fresh, marked, lt_first, heading, decl, literal, prolog, epilog, text, lt, misc, section, ref, tag, ending, end_space, Stay, no, go, Brackets, b0}
-use Rattle.xml_machine.specs.State.{Letters, x0, x1, x2, x3, Place, before, after, inside, InMisc, bang, dash, remark0, remark1, remark2, target, named, pi_data, pi_query, pi_close}
-use Rattle.xml_machine.specs.State.{InRef, ampersand, ref_name, hash, digits, hash_x, hexes, Host, Goal}
-use Rattle.xml_machine.specs.State.{version, encoding, standalone, InDecl, opening, equals, quoting, point, digit, letters, choice, chosen, valued, between}
-use Rattle.xml_machine.specs.State.{InTag, name, gap, slash, key, key_eq, quote, value, value_end}
-use Rattle.xml_machine.specs.Machine.{char, follow, reached, reached_by, in_literal, resume, in_text, in_section, in_ref, in_target, in_misc, in_heading, in_decl, behind, in_tag, in_lt, step}
-use Rattle.xml_machine.specs.Runs.{doctype, run, judge}
-use Rattle.xml_machine.proofs.Runs.{run-no}
+use Rattle.xml_finish.specs.of_names.Bytes.{bytes}
+use Rattle.xml_finish.specs.of_xml_chars.Chars.{Range, crosses, lower, single, double}
+use Rattle.xml_finish.specs.of_xml_chars.Bytes.{Left, one, two, three, Part, whole, part}
+use Rattle.xml_finish.specs.of_xml_machine.State.{State, fresh, marked, lt_first, heading, decl, literal, prolog, epilog, text, lt, misc, section, ref, tag, ending, end_space, Stay, no, go, Brackets, b0}
+use Rattle.xml_finish.specs.of_xml_machine.State.{Letters, x0, x1, x2, x3, Place, before, after, inside, InMisc, bang, dash, remark0, remark1, remark2, target, named, pi_data, pi_query, pi_close}
+use Rattle.xml_finish.specs.of_xml_machine.State.{InRef, ampersand, ref_name, hash, digits, hash_x, hexes, Host, Goal}
+use Rattle.xml_finish.specs.of_xml_machine.State.{version, encoding, standalone, InDecl, opening, equals, quoting, point, digit, letters, choice, chosen, valued, between}
+use Rattle.xml_finish.specs.of_xml_machine.State.{InTag, name, gap, slash, key, key_eq, quote, value, value_end}
+use Rattle.xml_finish.specs.of_xml_machine.Machine.{char, follow, reached, reached_by, in_literal, resume, in_text, in_section, in_ref, in_target, in_misc, in_heading, in_decl, behind, in_tag, in_lt, step}
+use Rattle.xml_finish.specs.of_xml_machine.Runs.{doctype, run, judge}
+use Rattle.xml_finish.proofs.of_xml_machine.Runs.{run-no}
 use Rattle.xml_claims.proofs.Plain.{NoLt, Plain}
 use Rattle.xml_claims.proofs.Steps.{opens}
 

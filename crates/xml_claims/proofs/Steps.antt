@@ -5,18 +5,18 @@ use mathlib.Core.List.{List, [], ◌∷◌}
 use mathlib.Core.Bool.{Bool, true, false, cond, false≢true}
 use borrow.Author.Tests.{eqb-true, eqb-false}
 use lib.Dec.{eqb}
-use Rattle.names.specs.Bytes.{bytes}
-use Rattle.names.specs.Bytes.{bytes}
-use Rattle.xml_chars.specs.Chars.{Range, any_char, name_start, name_char, is_space, is_digit, is_hex, lower, Quote, single, double, mark}
-use Rattle.xml_chars.specs.Bytes.{Left, Part, whole, part}
-use Rattle.xml_machine.specs.State as state
-use Rattle.xml_machine.specs.State.{State, fresh, marked, lt_first, heading, decl, literal, prolog, epilog, text, lt, misc, section, ref, tag, ending, end_space, Act, Next, Brackets, b0, b1, b2}
-use Rattle.xml_machine.specs.State.{Letters, x0, x1, x2, x3, Place, before, inside, InMisc, bang, dash, remark0, remark1, remark2, target, named, pi_data, pi_query, pi_close}
-use Rattle.xml_machine.specs.State.{InRef, ampersand, ref_name, hash, digits, hash_x, hexes, Host, content, attribute, Goal, to_marked, to_section, to_equals, to_point, to_chosen}
-use Rattle.xml_machine.specs.State.{Item, version, encoding, standalone, InDecl, opening, equals, quoting, point, digit, letters, choice, chosen, valued, between}
-use Rattle.xml_machine.specs.State.{InTag, name, gap, slash, key, key_eq, quote, value, value_end}
-use Rattle.xml_machine.specs.Machine.{only, spaced, quoted, shut, resume, reached, angle, in_text, section_end, in_section, ref_end, in_ref, section_at, target_end, in_target, in_misc, in_heading, decl_end, item_after, value_of, in_decl, behind, in_tag, grown, opens_misc, in_lt, in_space, in_first, step}
-use Rattle.xml_machine.proofs.Outcomes.{Ok, good, bad, cond-ok, when-ok}
+use Rattle.xml_finish.specs.of_names.Bytes.{bytes}
+use Rattle.xml_finish.specs.of_names.Bytes.{bytes}
+use Rattle.xml_finish.specs.of_xml_chars.Chars.{Range, any_char, name_start, name_char, is_space, is_digit, is_hex, lower, Quote, single, double, mark}
+use Rattle.xml_finish.specs.of_xml_chars.Bytes.{Left, Part, whole, part}
+use Rattle.xml_finish.specs.of_xml_machine.State as state
+use Rattle.xml_finish.specs.of_xml_machine.State.{State, fresh, marked, lt_first, heading, decl, literal, prolog, epilog, text, lt, misc, section, ref, tag, ending, end_space, Act, Next, Brackets, b0, b1, b2}
+use Rattle.xml_finish.specs.of_xml_machine.State.{Letters, x0, x1, x2, x3, Place, before, inside, InMisc, bang, dash, remark0, remark1, remark2, target, named, pi_data, pi_query, pi_close}
+use Rattle.xml_finish.specs.of_xml_machine.State.{InRef, ampersand, ref_name, hash, digits, hash_x, hexes, Host, content, attribute, Goal, to_marked, to_section, to_equals, to_point, to_chosen}
+use Rattle.xml_finish.specs.of_xml_machine.State.{Item, version, encoding, standalone, InDecl, opening, equals, quoting, point, digit, letters, choice, chosen, valued, between}
+use Rattle.xml_finish.specs.of_xml_machine.State.{InTag, name, gap, slash, key, key_eq, quote, value, value_end}
+use Rattle.xml_finish.specs.of_xml_machine.Machine.{only, spaced, quoted, shut, resume, reached, angle, in_text, section_end, in_section, ref_end, in_ref, section_at, target_end, in_target, in_misc, in_heading, decl_end, item_after, value_of, in_decl, behind, in_tag, grown, opens_misc, in_lt, in_space, in_first, step}
+use Rattle.xml_finish.proofs.of_xml_machine.Outcomes.{Ok, good, bad, cond-ok, when-ok}
 use Rattle.xml_claims.proofs.Plain.{NoLt, NoLts, PlainPlace, PlainHost, PlainGoal, Banged, Plain, no-lt_append, char-ok, name-ok, follow-ok, start-lacks, name-lacks}
 
 -- markup may begin here

@@ -8,17 +8,17 @@ use native.Mathlib.Omega.{arith}
 use borrow.Author.Tests.{ltb-false}
 use lib.Dec.{ltb}
 use lib.ListN.{length, take, drop, replicate}
-use Rattle.refusal.specs.Refusal.{nowhere}
-use Rattle.area.specs.Limits.{most_entries, most_bytes}
-use Rattle.xml_grammar.specs.Documents.{FirstBad, Doctype}
-use Rattle.xml_machine.specs.Runs.{Verdict, accepted, bad, doctype, verdict}
-use Rattle.xml_machine.specs.Tokens.{Due, refuse, done-with, refused, Result, resulting, room_of, tokens}
-use Rattle.xml_tokens.specs.Due.{due_in_of, events_due, attributes_due}
-use Rattle.xml_tokens.proofs.Rooms.{last_due, all_due, ended, kept_of}
-use Rattle.xml_tokens.proofs.Answers as answers
-use Rattle.xml_tokens.proofs.Answers.{Short, Answered, answered, eleven, sixteen}
-use Rattle.xml_tokens.proofs.Flat.{laid-behind}
-use Rattle.xml_tokens.proofs.Tables.{not-below, Accepted, is-accepted, table-good, table-right, due-events, due-attributes}
+use Rattle.xml_finish.specs.of_refusal.Refusal.{nowhere}
+use Rattle.xml_finish.specs.of_area.Limits.{most_entries, most_bytes}
+use Rattle.xml_sound.specs.of_xml_grammar.Documents.{FirstBad, Doctype}
+use Rattle.xml_finish.specs.of_xml_machine.Runs.{Verdict, accepted, bad, doctype, verdict}
+use Rattle.xml_finish.specs.of_xml_machine.Tokens.{Due, refuse, done-with, refused, Result, resulting, room_of, tokens}
+use Rattle.xml_places.specs.of_xml_tokens.Due.{due_in_of, events_due, attributes_due}
+use Rattle.xml_places.proofs.of_xml_tokens.Rooms.{last_due, all_due, ended, kept_of}
+use Rattle.xml_places.proofs.of_xml_tokens.Answers as answers
+use Rattle.xml_places.proofs.of_xml_tokens.Answers.{Short, Answered, answered, eleven, sixteen}
+use Rattle.xml_places.proofs.of_xml_tokens.Flat.{laid-behind}
+use Rattle.xml_places.proofs.of_xml_tokens.Tables.{not-below, Accepted, is-accepted, table-good, table-right, due-events, due-attributes}
 use Rattle.xml_claims.specs.Tokenizing.{answer_to, NoDoctype, AreDue, in-document, before-bad, before-doctype, Overflows, Fits, Documented, Tokenizing}
 use Rattle.xml_claims.proofs.Exact.{doctype-told, exact-accepted, exact-bad, exact-doctype, no-doctype}
 use Rattle.xml_claims.proofs.Verdicts.{document-told, bad-told, two-before}

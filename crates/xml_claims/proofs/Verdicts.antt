@@ -7,12 +7,12 @@ use mathlib.Core.Logic.{◌⊎◌, inl, inr}
 use mathlib.Core.Option.{some}
 use native.Mathlib.Omega.{arith}
 use lib.ListN.{length}
-use Rattle.xml_grammar.specs.Documents.{WellFormed, Dead, FirstBad, Doctype}
-use Rattle.xml_machine.specs.State as state
-use Rattle.xml_machine.specs.State.{State, fresh, Next}
-use Rattle.xml_machine.specs.Machine.{step, done}
-use Rattle.xml_machine.specs.Runs.{run, is_done, accepts, is_doctype, Verdict, accepted, bad, doctype, blame, ahead, judge, verdict}
-use Rattle.xml_complete.proofs.Complete.{well_formed-accepted}
+use Rattle.xml_sound.specs.of_xml_grammar.Documents.{WellFormed, Dead, FirstBad, Doctype}
+use Rattle.xml_finish.specs.of_xml_machine.State as state
+use Rattle.xml_finish.specs.of_xml_machine.State.{State, fresh, Next}
+use Rattle.xml_finish.specs.of_xml_machine.Machine.{step, done}
+use Rattle.xml_finish.specs.of_xml_machine.Runs.{run, is_done, accepts, is_doctype, Verdict, accepted, bad, doctype, blame, ahead, judge, verdict}
+use Rattle.xml_places.proofs.of_xml_complete.Complete.{well_formed-accepted}
 use Rattle.xml_sound.proofs.Sound.{sound}
 use Rattle.xml_claims.specs.Tokenizing.{NoDoctype}
 use Rattle.xml_claims.proofs.Exact.{begins-document, reaches, judge-run, one_more, bang-long, doctype-told, exact-doctype}

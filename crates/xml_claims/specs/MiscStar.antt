@@ -1,6 +1,6 @@
 -- [27] Misc with its S, and Misc*, as XML 1.0 (fifth edition) writes them. Definitions only.
 use Rattle.std.specs.Prelude.{ℕ, List, [], ◌++◌}
-use Rattle.xml_grammar.specs.Grammar.{Space, Misc}
+use Rattle.xml_sound.specs.of_xml_grammar.Grammar.{Space, Misc}
 
 pub data AnyMisc : List ℕ → Type 0 where
   white : {s : List ℕ} → Space s → AnyMisc s

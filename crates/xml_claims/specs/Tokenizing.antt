@@ -17,15 +17,15 @@
 --
 -- `tokens` takes the lengths of both areas and not what these held before: no claim depends on old contents.
 use Rattle.std.specs.Prelude.{ℕ, ◌+◌, ◌-◌, ◌*◌, ◌≤◌, ◌<◌, ◌≡◌, List, ◌++◌, ◌⊎◌, ◌↔◌, length, take, drop, replicate}
-use Rattle.refusal.specs.Refusal.{nowhere}
-use Rattle.area.specs.Limits.{most_bytes}
-use Rattle.table.specs.Event.{resolve}
-use Rattle.table.specs.Table.{check_of}
-use Rattle.table.specs.declared.Checked.TheVariants.{Good}
-use Rattle.xml_grammar.specs.Grammar.{Miscs}
-use Rattle.xml_grammar.specs.Documents.{WellFormed, events_of, FirstBad, Doctype}
-use Rattle.xml_machine.specs.Tokens.{Answer, done-with, refused, room_of, tokens}
-use Rattle.xml_tokens.specs.Due.{due_in_of, events_due, attributes_due, attributes_in}
+use Rattle.xml_finish.specs.of_refusal.Refusal.{nowhere}
+use Rattle.xml_finish.specs.of_area.Limits.{most_bytes}
+use Rattle.xml_finish.specs.of_table.Event.{resolve}
+use Rattle.xml_finish.specs.of_table.Table.{check_of}
+use Rattle.xml_finish.specs.of_table.declared.Checked.TheVariants.{Good}
+use Rattle.xml_sound.specs.of_xml_grammar.Grammar.{Miscs}
+use Rattle.xml_sound.specs.of_xml_grammar.Documents.{WellFormed, events_of, FirstBad, Doctype}
+use Rattle.xml_finish.specs.of_xml_machine.Tokens.{Answer, done-with, refused, room_of, tokens}
+use Rattle.xml_places.specs.of_xml_tokens.Due.{due_in_of, events_due, attributes_due, attributes_in}
 use Rattle.xml_places.specs.Places.{events_placed, attributes_placed, event_words, attribute_words}
 use Rattle.xml_places.specs.Begun.{Begun}
 use Rattle.xml_claims.specs.MiscStar.{MiscStar}

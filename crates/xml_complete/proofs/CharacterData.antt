@@ -6,11 +6,11 @@ use mathlib.Core.Bool.{Bool, true, false, not, ◌||◌, false≢true, and-eq-tr
 use native.Mathlib.Omega.{arith}
 use borrow.Author.Tests.{ne_eqb, eqb-true, eqb-false}
 use lib.Dec.{eqb}
-use Rattle.names.specs.Bytes.{bytes}
-use Rattle.utf8.specs.Characters.{encode}
-use Rattle.xml_chars.specs.Chars.{is_in, any_char, begins}
-use Rattle.xml_chars.specs.Bytes.{Part, whole}
-use Rattle.xml_chars.proofs.CharLaws.{in-scalar}
+use Rattle.xml_grammar.specs.of_names.Bytes.{bytes}
+use Rattle.xml_grammar.specs.of_utf8.Characters.{encode}
+use Rattle.xml_grammar.specs.of_xml_chars.Chars.{is_in, any_char, begins}
+use Rattle.xml_grammar.specs.of_xml_chars.Bytes.{Part, whole}
+use Rattle.xml_grammar.proofs.of_xml_chars.CharLaws.{in-scalar}
 use Rattle.xml_grammar.specs.Grammar.{Many, no_char, a-char, lacks, in_data_of}
 use Rattle.xml_machine.specs.State as state
 use Rattle.xml_machine.specs.State.{State, text, section, Stay, Brackets, b0, b1, b2}

@@ -6,11 +6,11 @@ use mathlib.Core.Bool.{true, not, and-eq-true_iff}
 use native.Mathlib.Omega.{arith}
 use borrow.Author.Tests.{ne_eqb, eqb-false}
 use lib.Dec.{eqb}
-use Rattle.utf8.specs.Characters.{encode}
-use Rattle.table.specs.Event.{Piece, Other}
-use Rattle.xml_chars.specs.Chars.{crosses, is_in, any_char}
-use Rattle.xml_chars.specs.Bytes.{utf8, whole}
-use Rattle.xml_chars.proofs.CharLaws.{in-scalar}
+use Rattle.xml_grammar.specs.of_utf8.Characters.{encode}
+use Rattle.xml_grammar.specs.of_table.Event.{Piece, Other}
+use Rattle.xml_grammar.specs.of_xml_chars.Chars.{crosses, is_in, any_char}
+use Rattle.xml_grammar.specs.of_xml_chars.Bytes.{utf8, whole}
+use Rattle.xml_grammar.proofs.of_xml_chars.CharLaws.{in-scalar}
 use Rattle.xml_grammar.specs.Grammar.{in_remark_of, Remark, no-remark, plain, dashed}
 use Rattle.xml_machine.specs.State as state
 use Rattle.xml_machine.specs.State.{State, fresh, marked, lt_first, prolog, epilog, text, lt, misc, Stay, Mark, EndText, Comment, Brackets, Place, before, inside, InMisc, bang, dash, remark0, remark1, remark2}

@@ -4,8 +4,8 @@ use mathlib.Core.Path.{◌≡◌, refl, sym, ap, ◌∙◌}
 use mathlib.Core.List.{List, [], ◌∷◌, ◌++◌, append-nil}
 use mathlib.Core.Bool.{true, false≢true}
 use mathlib.Core.Option.{Option, none, some}
-use Rattle.table.specs.Event.{Event, Eof}
-use Rattle.xml_chars.specs.Bytes.{utf8}
+use Rattle.xml_grammar.specs.of_table.Event.{Event, Eof}
+use Rattle.xml_grammar.specs.of_xml_chars.Bytes.{utf8}
 use Rattle.xml_grammar.specs.Grammar.{Document}
 use Rattle.xml_grammar.specs.Events.{document_of}
 use Rattle.xml_grammar.specs.Documents.{Mark, unmarked, marked, WellFormed}

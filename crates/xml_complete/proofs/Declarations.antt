@@ -6,10 +6,10 @@ use mathlib.Core.Bool.{true, and-eq-true_iff}
 use native.Mathlib.Omega.{arith}
 use borrow.Author.Tests.{eq-eqb, ltb-true}
 use lib.Dec.{ltb}
-use Rattle.names.specs.Bytes.{bytes}
-use Rattle.xml_chars.specs.Chars.{is_space, is_digit, lower, Quote, single, double, mark}
-use Rattle.xml_chars.specs.Bytes.{whole}
-use Rattle.xml_chars.proofs.CharLaws.{digit_low, lower-least}
+use Rattle.xml_grammar.specs.of_names.Bytes.{bytes}
+use Rattle.xml_grammar.specs.of_xml_chars.Chars.{is_space, is_digit, lower, Quote, single, double, mark}
+use Rattle.xml_grammar.specs.of_xml_chars.Bytes.{whole}
+use Rattle.xml_grammar.proofs.of_xml_chars.CharLaws.{digit_low, lower-least}
 use Rattle.xml_grammar.specs.Grammar as grammar
 use Rattle.xml_grammar.specs.Grammar.{no_char, a-char, chars, Space, Spaces, Declares, declares, Maybe, absent, present, Version, Encoding, Standalone, yes-alone, no-alone, Declaration, declaration}
 use Rattle.xml_machine.specs.State as state

@@ -4,10 +4,10 @@ use mathlib.Core.Path.{◌≡◌, refl, ap, ◌∙◌, subst}
 use mathlib.Core.List.{List, [], ◌∷◌, ◌++◌, append_assoc}
 use mathlib.Core.Bool.{true}
 use native.Mathlib.Omega.{arith}
-use Rattle.table.specs.Event.{Event, Piece, Other, Eof}
-use Rattle.xml_chars.specs.Chars.{is_space}
-use Rattle.xml_chars.specs.Bytes.{utf8}
-use Rattle.xml_chars.proofs.CharLaws.{low_scalar}
+use Rattle.xml_grammar.specs.of_table.Event.{Event, Piece, Other, Eof}
+use Rattle.xml_grammar.specs.of_xml_chars.Chars.{is_space}
+use Rattle.xml_grammar.specs.of_xml_chars.Bytes.{utf8}
+use Rattle.xml_grammar.proofs.of_xml_chars.CharLaws.{low_scalar}
 use Rattle.xml_grammar.specs.Grammar as grammar
 use Rattle.xml_grammar.specs.Grammar.{no_char, a-char, Spaces, Miscs, last-space, Prolog, undeclared, declared, Document, document}
 use Rattle.xml_grammar.specs.Events.{text_of, misc_of, miscs_of, element_of, prolog_of, document_of}

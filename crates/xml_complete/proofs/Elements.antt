@@ -3,10 +3,10 @@ use Prim.Native.Nat.{ℕ}
 use mathlib.Core.Path.{◌≡◌, refl, sym, ap, ◌∙◌, subst}
 use mathlib.Core.List.{List, [], ◌∷◌, ◌++◌, append_assoc}
 use native.Mathlib.Omega.{arith}
-use Rattle.table.specs.Event as table
-use Rattle.table.specs.Event.{Event, Tag, Piece}
-use Rattle.xml_chars.specs.Bytes.{utf8, whole}
-use Rattle.xml_chars.proofs.CharLaws.{in-scalar}
+use Rattle.xml_grammar.specs.of_table.Event as table
+use Rattle.xml_grammar.specs.of_table.Event.{Event, Tag, Piece}
+use Rattle.xml_grammar.specs.of_xml_chars.Bytes.{utf8, whole}
+use Rattle.xml_grammar.proofs.of_xml_chars.CharLaws.{in-scalar}
 use Rattle.xml_grammar.specs.Grammar as grammar
 use Rattle.xml_grammar.specs.Grammar.{data_of, Beside, reference, aside, Element, empty, pair, Content, last-data, child, beside}
 use Rattle.xml_grammar.specs.Events.{text_of, beside_of, element_of, content_of, attributes_of}

@@ -6,12 +6,12 @@ use mathlib.Core.Bool.{Bool, true, false, false≢true}
 use native.Mathlib.Omega.{arith}
 use borrow.Author.Tests.{ne_eqb, eqb-true, eqb-false}
 use lib.Dec.{eqb}
-use Rattle.names.specs.Bytes.{bytes}
-use Rattle.utf8.specs.Characters.{encode}
-use Rattle.table.specs.Event.{Piece, Other}
-use Rattle.xml_chars.specs.Chars.{crosses, is_in, any_char, is_space}
-use Rattle.xml_chars.specs.Bytes.{utf8, whole}
-use Rattle.xml_chars.proofs.CharLaws.{in-scalar}
+use Rattle.xml_grammar.specs.of_names.Bytes.{bytes}
+use Rattle.xml_grammar.specs.of_utf8.Characters.{encode}
+use Rattle.xml_grammar.specs.of_table.Event.{Piece, Other}
+use Rattle.xml_grammar.specs.of_xml_chars.Chars.{crosses, is_in, any_char, is_space}
+use Rattle.xml_grammar.specs.of_xml_chars.Bytes.{utf8, whole}
+use Rattle.xml_grammar.proofs.of_xml_chars.CharLaws.{in-scalar}
 use Rattle.xml_grammar.specs.Grammar.{Many, no_char, a-char, chars, lacks, Instruction, bare, with-data, Misc, comment, instruction}
 use Rattle.xml_grammar.specs.Events.{misc_of}
 use Rattle.xml_machine.specs.State as state

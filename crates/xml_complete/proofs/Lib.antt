@@ -15,3 +15,6 @@ pub mod Elements
 pub mod Declarations
 pub mod Documents
 pub mod Complete
+pub use Rattle.xml_grammar.proofs.of_table as of_table
+pub use Rattle.xml_grammar.proofs.of_xml_chars as of_xml_chars
+pub use Rattle.xml_machine.proofs as of_xml_machine

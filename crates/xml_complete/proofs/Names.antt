@@ -6,10 +6,10 @@ use mathlib.Core.Bool.{true, cond, false≢true}
 use native.Mathlib.Omega.{arith}
 use borrow.Author.Tests.{ne_eqb}
 use lib.Dec.{eqb}
-use Rattle.utf8.specs.Characters.{encode, is_scalar}
-use Rattle.xml_chars.specs.Chars.{Range, crosses, is_in, name_start, name_char}
-use Rattle.xml_chars.specs.Bytes.{utf8, Part, whole}
-use Rattle.xml_chars.proofs.CharLaws.{start-scalar, name-scalar}
+use Rattle.xml_grammar.specs.of_utf8.Characters.{encode, is_scalar}
+use Rattle.xml_grammar.specs.of_xml_chars.Chars.{Range, crosses, is_in, name_start, name_char}
+use Rattle.xml_grammar.specs.of_xml_chars.Bytes.{utf8, Part, whole}
+use Rattle.xml_grammar.proofs.of_xml_chars.CharLaws.{start-scalar, name-scalar}
 use Rattle.xml_grammar.specs.Grammar.{Many, no_char, a-char, Name, name_of}
 use Rattle.xml_machine.specs.State as state
 use Rattle.xml_machine.specs.State.{State, lt_first, lt, misc, ref, tag, Act, Stay, Here, Next, Place, before, inside, Host, named, ampersand, ref_name, name, gap, key, key_eq, quote}

@@ -6,11 +6,11 @@ use mathlib.Core.Bool.{Bool, true}
 use native.Mathlib.Omega.{arith}
 use native.Mathlib.Decide.{dec_lt}
 use lib.ListN.{length, take, length-append}
-use Rattle.utf8.specs.Characters.{encode, is_scalar}
-use Rattle.table.specs.Event as table
-use Rattle.table.specs.Event.{Piece, Text, Other}
-use Rattle.xml_chars.specs.Bytes.{utf8}
-use Rattle.xml_chars.proofs.Encoding.{encode-1, encode-2, encode-3, encode-4}
+use Rattle.xml_grammar.specs.of_utf8.Characters.{encode, is_scalar}
+use Rattle.xml_grammar.specs.of_table.Event as table
+use Rattle.xml_grammar.specs.of_table.Event.{Piece, Text, Other}
+use Rattle.xml_grammar.specs.of_xml_chars.Bytes.{utf8}
+use Rattle.xml_grammar.proofs.of_xml_chars.Encoding.{encode-1, encode-2, encode-3, encode-4}
 use Rattle.xml_grammar.specs.Grammar.{Many, no_char, a-char}
 use Rattle.xml_grammar.specs.Events.{text_of}
 use Rattle.xml_machine.specs.State as state

@@ -3,10 +3,10 @@ use Prim.Native.Nat.{ℕ, ◌<◌}
 use mathlib.Core.Path.{◌≡◌, refl, sym, ap, ◌∙◌, subst}
 use mathlib.Core.List.{List, [], ◌∷◌, ◌++◌, append_assoc, append-nil}
 use mathlib.Core.Bool.{Bool, true}
-use Rattle.utf8.specs.Characters.{encode}
-use Rattle.table.specs.Event.{Event}
-use Rattle.xml_chars.specs.Bytes.{utf8}
-use Rattle.xml_chars.proofs.Encoding.{encode-1, utf8_append}
+use Rattle.xml_grammar.specs.of_utf8.Characters.{encode}
+use Rattle.xml_grammar.specs.of_table.Event.{Event}
+use Rattle.xml_grammar.specs.of_xml_chars.Bytes.{utf8}
+use Rattle.xml_grammar.proofs.of_xml_chars.Encoding.{encode-1, utf8_append}
 use Rattle.xml_grammar.specs.Grammar.{Many, no_char, a-char}
 use Rattle.xml_machine.specs.State as state
 use Rattle.xml_machine.specs.State.{State, Act, Stay, Here, Mark, EndText, TextMark}

@@ -6,10 +6,10 @@ use mathlib.Core.Bool.{true, false, not, ◌||◌, and-eq-true_iff}
 use native.Mathlib.Omega.{arith}
 use borrow.Author.Tests.{ne_eqb}
 use lib.Dec.{eqb}
-use Rattle.utf8.specs.Characters.{encode}
-use Rattle.xml_chars.specs.Chars.{crosses, is_in, any_char, is_digit, is_hex, Quote, single, double, mark}
-use Rattle.xml_chars.specs.Bytes.{whole}
-use Rattle.xml_chars.proofs.CharLaws.{in-scalar, digit_low, hex-low}
+use Rattle.xml_grammar.specs.of_utf8.Characters.{encode}
+use Rattle.xml_grammar.specs.of_xml_chars.Chars.{crosses, is_in, any_char, is_digit, is_hex, Quote, single, double, mark}
+use Rattle.xml_grammar.specs.of_xml_chars.Bytes.{whole}
+use Rattle.xml_grammar.proofs.of_xml_chars.CharLaws.{in-scalar, digit_low, hex-low}
 use Rattle.xml_grammar.specs.Grammar.{chars, Referred, entity, decimal, hexadecimal, in_value, Value, no_value, value-char, value-ref}
 use Rattle.xml_machine.specs.State as state
 use Rattle.xml_machine.specs.State.{ref, tag, Stay, Host, attribute, InRef, ampersand, ref_name, hash, digits, hash_x, hexes, value}

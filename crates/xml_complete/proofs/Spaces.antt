@@ -6,9 +6,9 @@ use mathlib.Core.Bool.{true}
 use native.Mathlib.Omega.{arith}
 use borrow.Author.Tests.{eqb-true}
 use lib.Dec.{eqb}
-use Rattle.xml_chars.specs.Chars.{is_space, crosses}
-use Rattle.xml_chars.specs.Bytes.{whole}
-use Rattle.xml_chars.proofs.CharLaws.{or_cases, space-low}
+use Rattle.xml_grammar.specs.of_xml_chars.Chars.{is_space, crosses}
+use Rattle.xml_grammar.specs.of_xml_chars.Bytes.{whole}
+use Rattle.xml_grammar.proofs.of_xml_chars.CharLaws.{or_cases, space-low}
 use Rattle.xml_grammar.specs.Grammar.{Spaces}
 use Rattle.xml_machine.specs.State as state
 use Rattle.xml_machine.specs.State.{State, prolog, epilog, decl, tag, end_space, Stay, Item, opening, equals, quoting, between, gap, key_eq, quote}

@@ -4,9 +4,9 @@ use mathlib.Core.Path.{◌≡◌, refl, sym, ap, ◌∙◌, subst}
 use mathlib.Core.List.{List, [], ◌∷◌, ◌++◌, append_assoc, append-nil}
 use mathlib.Core.Bool.{true}
 use native.Mathlib.Omega.{arith}
-use Rattle.table.specs.Event.{Attribute}
-use Rattle.xml_chars.specs.Chars.{crosses, is_space, Quote, single, double, mark}
-use Rattle.xml_chars.specs.Bytes.{utf8, whole}
+use Rattle.xml_grammar.specs.of_table.Event.{Attribute}
+use Rattle.xml_grammar.specs.of_xml_chars.Chars.{crosses, is_space, Quote, single, double, mark}
+use Rattle.xml_grammar.specs.of_xml_chars.Bytes.{utf8, whole}
 use Rattle.xml_grammar.specs.Grammar as grammar
 use Rattle.xml_grammar.specs.Grammar.{no_char, a-char, chars, Space, Spaces, Attributes, no-attribute}
 use Rattle.xml_grammar.specs.Events.{attributes_of}

@@ -5,10 +5,10 @@ use mathlib.Core.List.{List, [], ◌∷◌, ◌++◌, append_assoc}
 use mathlib.Core.Bool.{true}
 use native.Mathlib.Omega.{arith}
 use borrow.Author.Tests.{eq-eqb}
-use Rattle.table.specs.Event as table
-use Rattle.table.specs.Event.{Attribute, Event, Tag}
-use Rattle.xml_chars.specs.Chars.{crosses, is_space}
-use Rattle.xml_chars.specs.Bytes.{utf8, whole}
+use Rattle.xml_grammar.specs.of_table.Event as table
+use Rattle.xml_grammar.specs.of_table.Event.{Attribute, Event, Tag}
+use Rattle.xml_grammar.specs.of_xml_chars.Chars.{crosses, is_space}
+use Rattle.xml_grammar.specs.of_xml_chars.Bytes.{utf8, whole}
 use Rattle.xml_grammar.specs.Grammar.{no_char, a-char, Spaces, Name, Attributes}
 use Rattle.xml_grammar.specs.Events.{attributes_of}
 use Rattle.xml_machine.specs.State as state

@@ -6,10 +6,10 @@ use mathlib.Core.Bool.{Bool, true, false, ◌&&◌, false≢true, true≢false}
 use native.Mathlib.Omega.{arith}
 use borrow.Author.Tests.{ne_eqb, eq-eqb, eqb-true}
 use lib.Dec.{eqb}
-use Rattle.utf8.specs.Characters.{encode, is_scalar}
-use Rattle.xml_chars.specs.Chars.{Range, crosses, is_in, name_start, name_char, is_space, lower}
-use Rattle.xml_chars.specs.Bytes.{whole}
-use Rattle.xml_chars.proofs.CharLaws.{start-scalar, name-scalar, lower-least}
+use Rattle.xml_grammar.specs.of_utf8.Characters.{encode, is_scalar}
+use Rattle.xml_grammar.specs.of_xml_chars.Chars.{Range, crosses, is_in, name_start, name_char, is_space, lower}
+use Rattle.xml_grammar.specs.of_xml_chars.Bytes.{whole}
+use Rattle.xml_grammar.proofs.of_xml_chars.CharLaws.{start-scalar, name-scalar, lower-least}
 use Rattle.xml_grammar.specs.Grammar.{Many, no_char, a-char, name_of, is_xml, Target, target-of}
 use Rattle.xml_machine.specs.State as state
 use Rattle.xml_machine.specs.State.{State, heading, misc, Stay, Next, Letters, x0, x1, x2, x3, Place, before, target, named, pi_data, pi_close}

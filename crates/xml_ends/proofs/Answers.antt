@@ -6,18 +6,18 @@ use mathlib.Core.Bool.{Bool, true, false, not, ◌&&◌, ◌||◌}
 use lib.Dec.{leb, ltb, eqb}
 use lib.ListN.{length, drop}
 use borrow.Author.Tests.{eq-eqb, ne_eqb}
-use Rattle.names.specs.Bytes.{bytes}
-use Rattle.refusal.specs.Refusal.{nowhere}
-use Rattle.table.specs.Kinds as kind
-use Rattle.xml_chars.specs.Chars.{begins}
-use Rattle.xml_state.specs.declared.State.{State}
-use Rattle.xml_state.specs.declared.Step.{Step}
-use Rattle.xml_state.specs.declared.Step.TheVariants.{Go, Full, Bad}
-use Rattle.xml_state.specs.declared.Tokenized.{Tokenized}
-use Rattle.xml_state.specs.declared.Tokenized.TheVariants.{Table, Refused}
-use Rattle.xml_state.specs.inside.Rows as row
-use Rattle.xml_state.specs.inside.Puts.{stepped, room_for, put_over, act_text}
-use Rattle.xml_state.specs.inside.Turns.{run_mode, broken_of, refused_of, ended, eof_of, finish_of}
+use Rattle.xml_put.specs.of_names.Bytes.{bytes}
+use Rattle.xml_put.specs.of_refusal.Refusal.{nowhere}
+use Rattle.xml_put.specs.of_table.Kinds as kind
+use Rattle.xml_put.specs.of_xml_chars.Chars.{begins}
+use Rattle.xml_put.specs.of_xml_state.declared.State.{State}
+use Rattle.xml_put.specs.of_xml_state.declared.Step.{Step}
+use Rattle.xml_put.specs.of_xml_state.declared.Step.TheVariants.{Go, Full, Bad}
+use Rattle.xml_put.specs.of_xml_state.declared.Tokenized.{Tokenized}
+use Rattle.xml_put.specs.of_xml_state.declared.Tokenized.TheVariants.{Table, Refused}
+use Rattle.xml_put.specs.of_xml_state.inside.Rows as row
+use Rattle.xml_put.specs.of_xml_state.inside.Puts.{stepped, room_for, put_over, act_text}
+use Rattle.xml_put.specs.of_xml_state.inside.Turns.{run_mode, broken_of, refused_of, ended, eof_of, finish_of}
 
 -- ---- the open run
 module _ (s : State) (at words : ℕ) {m : ℕ} (em : m ≡ run_mode s) where

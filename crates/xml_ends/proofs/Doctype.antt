@@ -8,8 +8,8 @@ use mathlib.Core.Bool.{Bool, true, false, ◌&&◌, and-true}
 use lib.Dec.{eqb, eqb-zero-suc, eqb-suc-zero, eqb-suc-suc}
 use lib.ListN.{length, get_or, drop, length-drop}
 use lib.Seq.{drop-cons}
-use Rattle.names.specs.Bytes.{bytes}
-use Rattle.xml_chars.specs.Chars.{begins}
+use Rattle.xml_put.specs.of_names.Bytes.{bytes}
+use Rattle.xml_put.specs.of_xml_chars.Chars.{begins}
 
 eqb-sym : (a b : ℕ) → eqb a b ≡ eqb b a
 eqb-sym zero zero = refl

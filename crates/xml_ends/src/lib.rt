@@ -2,16 +2,18 @@
 #![tactic(auto)]
 
 ghost use Rattle.std.specs.Prelude.{◌≡◌, ◌≤◌, drop};
-ghost use Rattle.names.specs.Bytes.{bytes};
-ghost use Rattle.xml_chars.specs.Chars.{begins};
-ghost use Rattle.xml_state.specs.inside.Turns.{run_mode, broken_of, refused_of, ended, eof_of, finish_of};
+ghost use Rattle.xml_put.specs.of_names.Bytes.{bytes};
+ghost use Rattle.xml_put.specs.of_xml_chars.Chars.{begins};
+ghost use Rattle.xml_put.specs.of_xml_state.inside.Turns.{run_mode, broken_of, refused_of, ended, eof_of, finish_of};
 
-use area::wide;
-use refusal::NOWHERE;
-use xml_checks::{has_room, less};
+pub use xml_put as the_xml_put;
 use xml_put::act_text;
-use xml_state::{State, Step, Tokenized, mode};
-use xml_write::put_over;
+use xml_put::the_area::wide;
+use xml_put::the_refusal::NOWHERE;
+use xml_put::the_xml_checks::{has_room, less};
+use xml_put::the_xml_state::{State, Step, Tokenized, mode};
+use xml_put::the_xml_write::put_over;
+pub use xml_put::{the_area, the_refusal, the_xml_acts, the_xml_state};
 
 // Whether `DOCTYPE` stands at `at`.
 fn is_doctype(source: &[u8], at: usize) -> bool

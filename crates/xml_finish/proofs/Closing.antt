@@ -4,8 +4,8 @@ use mathlib.Core.Path.{◌≡◌, refl, ◌∙◌}
 use mathlib.Core.List.{List, [], ◌∷◌, ◌++◌}
 use mathlib.Core.Option.{some}
 use borrow.Author.Tests.{eq-eqb}
-use Rattle.xml_chars.specs.Chars.{crosses, lower, single, double}
-use Rattle.xml_chars.specs.Bytes.{whole}
+use Rattle.xml_machine.specs.of_xml_chars.Chars.{crosses, lower, single, double}
+use Rattle.xml_machine.specs.of_xml_chars.Bytes.{whole}
 use Rattle.xml_machine.specs.State as state
 use Rattle.xml_machine.specs.State.{prolog, epilog, text, lt, misc, section, ref, tag, ending, EndText, Mark, Brackets, b0, b1, b2}
 use Rattle.xml_machine.specs.State.{Letters, x0, x1, x2, x3, Place, before, inside, InMisc, bang, dash, remark0, remark1, remark2, target, named, pi_data, pi_query, pi_close}

@@ -4,7 +4,7 @@ use mathlib.Core.Path.{◌≡◌, refl}
 use mathlib.Core.List.{List, [], ◌∷◌, ◌++◌}
 use mathlib.Core.Option.{some}
 use borrow.Author.Tests.{eq-eqb}
-use Rattle.xml_chars.specs.Chars.{crosses, lower, Quote, single, double}
+use Rattle.xml_machine.specs.of_xml_chars.Chars.{crosses, lower, Quote, single, double}
 use Rattle.xml_machine.specs.State.{marked, heading, decl, literal, epilog, b0, Letters, x0, x1, x2, x3, Goal, to_marked, to_section, to_equals, to_point, to_chosen}
 use Rattle.xml_machine.specs.State.{Item, version, encoding, standalone, InDecl, opening, equals, quoting, point, digit, letters, choice, chosen, valued, between}
 use Rattle.xml_machine.specs.Machine.{char, in_target, in_misc, in_heading, in_decl, behind, in_tag, in_lt, reached, step}

@@ -1,11 +1,11 @@
 -- The bytes that complete a document from each state. Definitions only.
 use Prim.Native.Nat.{ℕ, ◌+◌, ◌-◌, max}
 use mathlib.Core.List.{List, [], ◌∷◌, ◌++◌}
-use Rattle.names.specs.Bytes.{bytes}
-use Rattle.xml_chars.specs.Chars.{mark}
-use Rattle.xml_chars.specs.Bytes.{Part, whole, part, span}
-use Rattle.xml_chars.proofs.CharLaws.{pick}
-use Rattle.xml_chars.proofs.Encoding.{tail}
+use Rattle.xml_machine.specs.of_names.Bytes.{bytes}
+use Rattle.xml_machine.specs.of_xml_chars.Chars.{mark}
+use Rattle.xml_machine.specs.of_xml_chars.Bytes.{Part, whole, part, span}
+use Rattle.xml_machine.proofs.of_xml_chars.CharLaws.{pick}
+use Rattle.xml_machine.proofs.of_xml_chars.Encoding.{tail}
 use Rattle.xml_machine.specs.State.{State, fresh, marked, lt_first, heading, decl, literal, prolog, epilog, text, lt, misc, section, ref, tag, ending, end_space}
 use Rattle.xml_machine.specs.State.{Letters, x0, x1, x2, x3, Place, before, after, inside, InMisc, bang, dash, remark0, remark1, remark2, target, named, pi_data, pi_query, pi_close}
 use Rattle.xml_machine.specs.State.{InRef, ampersand, ref_name, hash, digits, hash_x, hexes, Host, content, attribute, Goal, to_marked, to_section, to_equals, to_point, to_chosen}

@@ -5,10 +5,10 @@ use mathlib.Core.List.{List, [], ◌∷◌, ◌++◌}
 use mathlib.Core.Bool.{true}
 use mathlib.Core.Option.{some}
 use native.Mathlib.Omega.{arith}
-use Rattle.xml_chars.specs.Chars.{Range, crosses}
-use Rattle.xml_chars.specs.Bytes.{Left, one, two, three, span, Part, whole, part, fits}
-use Rattle.xml_chars.proofs.CharLaws.{pick, pick-in}
-use Rattle.xml_chars.proofs.Encoding.{Inside}
+use Rattle.xml_machine.specs.of_xml_chars.Chars.{Range, crosses}
+use Rattle.xml_machine.specs.of_xml_chars.Bytes.{Left, one, two, three, span, Part, whole, part, fits}
+use Rattle.xml_machine.proofs.of_xml_chars.CharLaws.{pick, pick-in}
+use Rattle.xml_machine.proofs.of_xml_chars.Encoding.{Inside}
 use Rattle.xml_machine.specs.State.{State, fresh, marked, lt_first, heading, decl, literal, prolog, epilog, text, lt, misc, section, ref, tag, ending, end_space}
 use Rattle.xml_machine.specs.Machine.{char, behind, in_tag, in_lt, grown, step}
 use Rattle.xml_machine.specs.Runs.{run}

@@ -4,8 +4,8 @@ use mathlib.Core.Path.{refl}
 use mathlib.Core.List.{List, [], ◌∷◌}
 use mathlib.Core.Bool.{◌&&◌}
 use lib.Dec.{leb, ltb, eqb}
-use Rattle.xml_chars.specs.Chars.{Range, meets, any_char, name_start, name_char, is_space, is_digit, is_hex, lower, Quote, single, double, mark}
-use Rattle.xml_chars.specs.Bytes.{Left, one, two, three, Part, whole, part, fits}
+use Rattle.xml_machine.specs.of_xml_chars.Chars.{Range, meets, any_char, name_start, name_char, is_space, is_digit, is_hex, lower, Quote, single, double, mark}
+use Rattle.xml_machine.specs.of_xml_chars.Bytes.{Left, one, two, three, Part, whole, part, fits}
 use Rattle.xml_machine.specs.State as state
 use Rattle.xml_machine.specs.State.{State, fresh, marked, lt_first, heading, decl, literal, prolog, epilog, text, lt, misc, section, ref, tag, ending, end_space, Act, Next, Brackets, b0, b1, b2}
 use Rattle.xml_machine.specs.State.{Letters, x0, x1, x2, x3, Place, before, inside, InMisc, bang, dash, remark0, remark1, remark2, target, named, pi_data, pi_query, pi_close}

@@ -4,7 +4,7 @@ use mathlib.Core.List.{[], ◌∷◌, ◌++◌}
 use mathlib.Core.Bool.{true}
 use Rattle.names.specs.Bytes.{bytes}
 use Rattle.table.specs.Event.{Tag, Piece, Eof, Start, Empty, End, Text, Ref, Other}
-use Rattle.utf8.specs.Characters.{encode}
+use Rattle.xml_chars.specs.of_utf8.Characters.{encode}
 use Rattle.xml_chars.specs.Chars.{crosses, lower, single}
 use Rattle.xml_grammar.specs.Events.{element_of, content_of, table_events}
 use Rattle.xml_grammar.specs.Grammar.{no_char, a-char, chars, Name, name_of, Referred, entity, Value, no_value, value-char, Attributes, no-attribute, attribute, CharData, data_of, last-space, reference, empty, pair, Content, last-data, child, beside, declares, absent, present, version, encoding, Declaration, declaration, undeclared, declared, Document, document}

@@ -6,8 +6,8 @@ use mathlib.Core.Bool.{true, false}
 use native.Mathlib.Omega.{arith}
 use native.Mathlib.Decide.{dec_lt}
 use borrow.Author.Tests.{le-leb, le-ltb, lt-ltb}
-use Rattle.utf8.specs.Characters.{encode, is_scalar}
-use Rattle.utf8.proofs.Forms.{scalar-most}
+use Rattle.xml_chars.specs.of_utf8.Characters.{encode, is_scalar}
+use Rattle.xml_chars.proofs.of_utf8.Forms.{scalar-most}
 use Rattle.xml_chars.specs.Chars.{Range, is_in}
 use Rattle.xml_chars.specs.Bytes.{Left, one, two, three, Part, whole, part, fits}
 use Rattle.xml_chars.proofs.CharLaws.{fits-of}

@@ -1,7 +1,7 @@
 -- Tokenizing: the answer for a source and both areas, byte by byte with its records. Definitions only.
 use Rattle.std.specs.Prelude.{ℕ, ◌+◌, ◌-◌, ◌*◌, ◌/◌, List, [], ◌∷◌, ◌++◌, Bool, true, false, cond, ltb, eqb, length, replicate}
-use Rattle.area.specs.Limits.{most_entries, most_bytes}
-use Rattle.refusal.specs.Refusal.{nowhere}
+use Rattle.names.specs.of_area.Limits.{most_entries, most_bytes}
+use Rattle.names.specs.of_refusal.Refusal.{nowhere}
 use Rattle.table.specs.Kinds as kind
 use Rattle.xml_machine.specs.State.{State, fresh, marked, lt_first, heading, decl, literal, prolog, epilog, text, lt, misc, section, ref, tag, ending, end_space, Act, Stay, Mark, Here, EndText, TextMark, Name, NameStart, NameEnd, Start, Empty, End, Key, Value, Ref, Comment, Pi, CData, Next, no, go}
 use Rattle.xml_machine.specs.Machine.{step, done}

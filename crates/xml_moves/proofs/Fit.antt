@@ -7,8 +7,8 @@ use lib.ListN.{get_or}
 use Rattle.xml_state.specs.declared.Move.{Move}
 use Rattle.xml_state.specs.inside.Tables.{class_rows, next_rows, act_rows, class_table}
 use Rattle.xml_state.specs.inside.Rows.{all_rows, char_row}
-use Rattle.xml_chars.specs.Chars.{crosses, lower}
-use Rattle.xml_chars.specs.Bytes.{fits}
+use Rattle.xml_state.specs.of_xml_chars.Chars.{crosses, lower}
+use Rattle.xml_state.specs.of_xml_chars.Bytes.{fits}
 
 abbrev pub both : Bool → Bool → Bool
 both true b = b

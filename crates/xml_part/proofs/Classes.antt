@@ -3,7 +3,7 @@ use Prim.Native.Nat.{ℕ}
 use mathlib.Core.Path.{◌≡◌, refl, sym, ap, ◌∙◌}
 use mathlib.Core.List.{List, [], ◌∷◌, ◌++◌}
 use mathlib.Core.Bool.{Bool, ◌||◌, or_assoc}
-use Rattle.xml_chars.specs.Chars.{Range, to, crosses, meets}
+use Rattle.xml_checks.specs.of_xml_chars.Chars.{Range, to, crosses, meets}
 
 pub meets-append : (xs ys : List Range) (low high : ℕ) → meets (xs ++ ys) low high ≡ meets xs low high || meets ys low high
 meets-append [] ys low high = refl

@@ -6,10 +6,10 @@ use mathlib.Core.Path.{◌≡◌, refl, sym, ◌∙◌}
 use mathlib.Core.Bool.{Bool, true, false, ◌||◌}
 use lib.Dec.{ltb}
 use borrow.Author.Tests.{ltb-false}
-use Rattle.xml_chars.specs.Chars.{meets}
-use Rattle.xml_state.specs.declared.Part.{Part}
-use Rattle.xml_state.specs.declared.Followed.TheVariants.{Takes, Refuses}
-use Rattle.xml_state.specs.inside.Parts.{class_of, unit_of, low_of, part_of, follow_of}
+use Rattle.xml_checks.specs.of_xml_chars.Chars.{meets}
+use Rattle.xml_checks.specs.of_xml_state.declared.Part.{Part}
+use Rattle.xml_checks.specs.of_xml_state.declared.Followed.TheVariants.{Takes, Refuses}
+use Rattle.xml_checks.specs.of_xml_state.inside.Parts.{class_of, unit_of, low_of, part_of, follow_of}
 
 left_false : (x y : Bool) → (x || y) ≡ false → x ≡ false
 left_false true y e = e

@@ -2,11 +2,13 @@
 #![tactic(auto)]
 
 ghost use Rattle.std.specs.Prelude.{◌≡◌, ◌-◌, ◌<◌, ◌≤◌, max};
-ghost use Rattle.xml_chars.specs.Chars.{meets, name_start, name_char};
-ghost use Rattle.xml_state.specs.inside.Parts.{class_of, unit_of, lead_of, follow_of, low_start};
+ghost use Rattle.xml_checks.specs.of_xml_chars.Chars.{meets, name_start, name_char};
+ghost use Rattle.xml_checks.specs.of_xml_state.inside.Parts.{class_of, unit_of, lead_of, follow_of, low_start};
 
+pub use xml_checks as the_xml_checks;
+use xml_checks::the_xml_state::{Followed, Part, class};
+pub use xml_checks::{the_area, the_refusal, the_xml_state};
 use xml_checks::{crosses, meets_any};
-use xml_state::{Followed, Part, class};
 
 fn wide(b: u8) -> u64
     ensures { (result ≡ b) × (result < 256) }

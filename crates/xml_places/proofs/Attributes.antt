@@ -5,18 +5,18 @@ use mathlib.Core.List.{List, [], ◌∷◌, ◌++◌}
 use mathlib.Core.Bool.{true}
 use native.Mathlib.Omega.{arith}
 use lib.ListN.{length}
-use Rattle.xml_chars.specs.Chars.{crosses, is_space, Quote, mark}
-use Rattle.xml_chars.specs.Bytes.{whole}
-use Rattle.xml_grammar.specs.Grammar as grammar
-use Rattle.xml_grammar.specs.Grammar.{no_char, a-char, chars, Space, Spaces, Attributes, no-attribute}
-use Rattle.xml_machine.specs.State as state
-use Rattle.xml_machine.specs.State.{State, tag, Act, Stay, InTag, name, gap, key, quote, value_end}
-use Rattle.xml_machine.specs.Machine.{char, behind, in_tag, step}
-use Rattle.xml_machine.specs.Tokens.{Rec, rec, unless0, Marks, marking, keying, marks_by}
-use Rattle.xml_complete.proofs.Spaces.{space-cases, space-ascii, spaces-read, gap-space, equal_space, quote-space}
-use Rattle.xml_complete.proofs.Names.{key_here}
-use Rattle.xml_complete.proofs.References.{mark-low, value-reads}
-use Rattle.xml_complete.proofs.Tags.{key-equals, key-spaces, space-equals, quote-opens, quote-closes}
+use Rattle.xml_tokens.specs.of_xml_chars.Chars.{crosses, is_space, Quote, mark}
+use Rattle.xml_tokens.specs.of_xml_chars.Bytes.{whole}
+use Rattle.xml_tokens.specs.of_xml_grammar.Grammar as grammar
+use Rattle.xml_tokens.specs.of_xml_grammar.Grammar.{no_char, a-char, chars, Space, Spaces, Attributes, no-attribute}
+use Rattle.xml_tokens.specs.of_xml_machine.State as state
+use Rattle.xml_tokens.specs.of_xml_machine.State.{State, tag, Act, Stay, InTag, name, gap, key, quote, value_end}
+use Rattle.xml_tokens.specs.of_xml_machine.Machine.{char, behind, in_tag, step}
+use Rattle.xml_tokens.specs.of_xml_machine.Tokens.{Rec, rec, unless0, Marks, marking, keying, marks_by}
+use Rattle.xml_tokens.proofs.of_xml_complete.Spaces.{space-cases, space-ascii, spaces-read, gap-space, equal_space, quote-space}
+use Rattle.xml_tokens.proofs.of_xml_complete.Names.{key_here}
+use Rattle.xml_tokens.proofs.of_xml_complete.References.{mark-low, value-reads}
+use Rattle.xml_tokens.proofs.of_xml_complete.Tags.{key-equals, key-spaces, space-equals, quote-opens, quote-closes}
 use Rattle.xml_places.specs.Places.{size, value_at, attributes_at}
 use Rattle.xml_places.proofs.Going.{size-ascii, Spot, spot, Goes, goes_none, goes_then, goes_to, goes-from, goes_as, goes_with, goes-reads, goes-here, goes-byte}
 

@@ -22,15 +22,15 @@ use mathlib.Core.Option.{some}
 use native.Mathlib.Omega.{arith}
 use borrow.Author.Tests.{lt-ltb, ltb-true}
 use lib.Dec.{leb, ltb, eqb}
-use Rattle.table.specs.Kinds as kind
-use Rattle.xml_chars.specs.Chars.{Range, meets, any_char, is_space}
-use Rattle.xml_chars.specs.Bytes.{Left, one, two, three, Part, whole, part, fits}
-use Rattle.xml_machine.specs.State as state
-use Rattle.xml_machine.specs.State.{State, fresh, marked, lt_first, heading, decl, literal, prolog, epilog, text, lt, misc, section}
-use Rattle.xml_machine.specs.State.{ref, tag, ending, end_space, Place, Stay, EndText, TextMark, Next, Brackets, b0, b1, b2}
-use Rattle.xml_machine.specs.Machine.{begun, char, follow, angle, in_text, in_space, step}
-use Rattle.xml_machine.specs.Runs.{after, run}
-use Rattle.xml_machine.specs.Tokens.{Rec, rec, unless0, over, Marks, marking, marks_by, Due, nothing, event, attribute, text_due, due, open_run}
+use Rattle.xml_tokens.specs.of_table.Kinds as kind
+use Rattle.xml_tokens.specs.of_xml_chars.Chars.{Range, meets, any_char, is_space}
+use Rattle.xml_tokens.specs.of_xml_chars.Bytes.{Left, one, two, three, Part, whole, part, fits}
+use Rattle.xml_tokens.specs.of_xml_machine.State as state
+use Rattle.xml_tokens.specs.of_xml_machine.State.{State, fresh, marked, lt_first, heading, decl, literal, prolog, epilog, text, lt, misc, section}
+use Rattle.xml_tokens.specs.of_xml_machine.State.{ref, tag, ending, end_space, Place, Stay, EndText, TextMark, Next, Brackets, b0, b1, b2}
+use Rattle.xml_tokens.specs.of_xml_machine.Machine.{begun, char, follow, angle, in_text, in_space, step}
+use Rattle.xml_tokens.specs.of_xml_machine.Runs.{after, run}
+use Rattle.xml_tokens.specs.of_xml_machine.Tokens.{Rec, rec, unless0, over, Marks, marking, marks_by, Due, nothing, event, attribute, text_due, due, open_run}
 use Rattle.xml_tokens.specs.Due.{counted, due_by, due_from, events_due, attributes_due}
 use Rattle.xml_places.specs.Begun.{GoesOn}
 use Rattle.xml_places.proofs.Tags.{unless-some}

@@ -5,14 +5,14 @@ use mathlib.Core.List.{List, [], ◌∷◌, ◌++◌, append_assoc, append-nil}
 use mathlib.Core.Bool.{Bool, cond}
 use native.Mathlib.Omega.{arith}
 use borrow.Author.Tests.{le-ltb}
-use Rattle.table.specs.Kinds as kind
-use Rattle.xml_grammar.specs.Grammar as grammar
-use Rattle.xml_grammar.specs.Grammar.{Miscs, last-space, Prolog, undeclared, declared, Document, document}
-use Rattle.xml_machine.specs.State.{State, prolog, epilog, Place, before}
-use Rattle.xml_machine.specs.Tokens.{Rec, rec, over, event, nothing}
-use Rattle.xml_complete.proofs.Comments.{at-fresh, at-marked}
-use Rattle.xml_complete.proofs.Declarations.{declaration-reads}
-use Rattle.xml_complete.proofs.Documents.{Outside, is-prolog, is-epilog, outside-opens, resumed, Out, spaces-out, First, first-fresh, first-marked, first-outside, before-begins, after-ends}
+use Rattle.xml_tokens.specs.of_table.Kinds as kind
+use Rattle.xml_tokens.specs.of_xml_grammar.Grammar as grammar
+use Rattle.xml_tokens.specs.of_xml_grammar.Grammar.{Miscs, last-space, Prolog, undeclared, declared, Document, document}
+use Rattle.xml_tokens.specs.of_xml_machine.State.{State, prolog, epilog, Place, before}
+use Rattle.xml_tokens.specs.of_xml_machine.Tokens.{Rec, rec, over, event, nothing}
+use Rattle.xml_tokens.proofs.of_xml_complete.Comments.{at-fresh, at-marked}
+use Rattle.xml_tokens.proofs.of_xml_complete.Declarations.{declaration-reads}
+use Rattle.xml_tokens.proofs.of_xml_complete.Documents.{Outside, is-prolog, is-epilog, outside-opens, resumed, Out, spaces-out, First, first-fresh, first-marked, first-outside, before-begins, after-ends}
 use Rattle.xml_tokens.specs.Due.{events_due}
 use Rattle.xml_places.specs.Places.{size, piece_at, misc_at, miscs_at, element_at, element_attributes, prolog_at, document_at, document_attributes}
 use Rattle.xml_places.proofs.Putting.{Puts, puts-long, puts_then, puts_these, puts-from, puts-reads, run_at}

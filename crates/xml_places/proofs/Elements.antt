@@ -4,15 +4,15 @@ use mathlib.Core.Path.{◌≡◌, refl, sym, ap, ◌∙◌, subst}
 use mathlib.Core.List.{List, [], ◌∷◌, ◌++◌, append_assoc, append-nil}
 use native.Mathlib.Omega.{arith}
 use lib.ListN.{length}
-use Rattle.table.specs.Kinds as kind
-use Rattle.xml_chars.specs.Bytes.{utf8, whole}
-use Rattle.xml_grammar.specs.Grammar.{data_of, Element, empty, pair, Content, last-data, child, beside}
-use Rattle.xml_machine.specs.State.{State, text, lt, b0, Place, inside}
-use Rattle.xml_machine.specs.Machine.{shut}
-use Rattle.xml_machine.specs.Tokens.{Rec}
-use Rattle.xml_complete.proofs.Names.{Begins, within}
-use Rattle.xml_complete.proofs.CharacterData.{text-reads}
-use Rattle.xml_complete.proofs.Comments.{Opens, in-text, opens-step}
+use Rattle.xml_tokens.specs.of_table.Kinds as kind
+use Rattle.xml_tokens.specs.of_xml_chars.Bytes.{utf8, whole}
+use Rattle.xml_tokens.specs.of_xml_grammar.Grammar.{data_of, Element, empty, pair, Content, last-data, child, beside}
+use Rattle.xml_tokens.specs.of_xml_machine.State.{State, text, lt, b0, Place, inside}
+use Rattle.xml_tokens.specs.of_xml_machine.Machine.{shut}
+use Rattle.xml_tokens.specs.of_xml_machine.Tokens.{Rec}
+use Rattle.xml_tokens.proofs.of_xml_complete.Names.{Begins, within}
+use Rattle.xml_tokens.proofs.of_xml_complete.CharacterData.{text-reads}
+use Rattle.xml_tokens.proofs.of_xml_complete.Comments.{Opens, in-text, opens-step}
 use Rattle.xml_places.specs.Places.{size, tag_at, attributes_at, element_attributes, content_attributes, beside_at, element_at, content_at}
 use Rattle.xml_places.proofs.Putting.{Puts, puts-long, puts_then, puts_these, puts-reads, puts-text, run_at}
 use Rattle.xml_places.proofs.Markup.{run-data, puts-end, beside-puts}

@@ -4,17 +4,17 @@ use mathlib.Core.Path.{◌≡◌, refl, sym, ap, ◌∙◌}
 use mathlib.Core.List.{List, [], ◌∷◌, ◌++◌, append-nil}
 use native.Mathlib.Omega.{arith}
 use lib.ListN.{get_or}
-use Rattle.names.specs.Bytes.{bytes}
-use Rattle.utf8.specs.Characters.{encode}
-use Rattle.table.specs.Event.{event_of, event_at, attributes_from, resolve_from, resolve}
-use Rattle.table.specs.Table.{check_from, check_event, good_sizes, good_shape, bad_from, check_of}
-use Rattle.table.specs.declared.Checked.TheVariants.{Good}
-use Rattle.xml_chars.specs.Chars.{crosses, single}
-use Rattle.xml_grammar.specs.Grammar.{no_char, a-char, chars, Name, name_of, Value, no_value, value-char, no-attribute, attribute, CharData, data_of}
-use Rattle.xml_grammar.specs.Grammar.{last-space, comment, plain, no-remark, Remark, misc, empty, pair, last-data, undeclared, document}
-use Rattle.xml_grammar.specs.Events.{element_of, content_of}
-use Rattle.xml_grammar.specs.Documents.{unmarked, marked, WellFormed, events_of}
-use Rattle.xml_machine.specs.Tokens.{Rec, rec, Due}
+use Rattle.xml_tokens.specs.of_names.Bytes.{bytes}
+use Rattle.xml_tokens.specs.of_utf8.Characters.{encode}
+use Rattle.xml_tokens.specs.of_table.Event.{event_of, event_at, attributes_from, resolve_from, resolve}
+use Rattle.xml_tokens.specs.of_table.Table.{check_from, check_event, good_sizes, good_shape, bad_from, check_of}
+use Rattle.xml_tokens.specs.of_table.declared.Checked.TheVariants.{Good}
+use Rattle.xml_tokens.specs.of_xml_chars.Chars.{crosses, single}
+use Rattle.xml_tokens.specs.of_xml_grammar.Grammar.{no_char, a-char, chars, Name, name_of, Value, no_value, value-char, no-attribute, attribute, CharData, data_of}
+use Rattle.xml_tokens.specs.of_xml_grammar.Grammar.{last-space, comment, plain, no-remark, Remark, misc, empty, pair, last-data, undeclared, document}
+use Rattle.xml_tokens.specs.of_xml_grammar.Events.{element_of, content_of}
+use Rattle.xml_tokens.specs.of_xml_grammar.Documents.{unmarked, marked, WellFormed, events_of}
+use Rattle.xml_tokens.specs.of_xml_machine.Tokens.{Rec, rec, Due}
 use Rattle.xml_tokens.specs.Due.{attributes_due}
 use Rattle.xml_places.specs.Places.{element_attributes, content_attributes, element_at, content_at, events_placed, attributes_placed, event_words}
 use Rattle.xml_places.specs.Begun.{Begun}

@@ -4,14 +4,14 @@ use mathlib.Core.Path.{◌≡◌, refl, sym, ap, ◌∙◌, subst}
 use mathlib.Core.List.{List, [], ◌∷◌, ◌++◌, append_assoc}
 use native.Mathlib.Omega.{arith}
 use lib.ListN.{length, length-append}
-use Rattle.xml_chars.specs.Bytes.{utf8}
-use Rattle.xml_chars.proofs.Encoding.{encode-1, utf8_append}
-use Rattle.xml_machine.specs.State as state
-use Rattle.xml_machine.specs.State.{State, Act, Stay, Here}
-use Rattle.xml_machine.specs.Machine.{step}
-use Rattle.xml_machine.specs.Tokens.{Rec, Marks, marking, marks_by, Due, nothing, event, attribute, due}
-use Rattle.xml_machine.proofs.Stays.{Stays, there, stay, Takes, takes}
-use Rattle.xml_complete.proofs.Reading.{Reads}
+use Rattle.xml_tokens.specs.of_xml_chars.Bytes.{utf8}
+use Rattle.xml_tokens.proofs.of_xml_chars.Encoding.{encode-1, utf8_append}
+use Rattle.xml_tokens.specs.of_xml_machine.State as state
+use Rattle.xml_tokens.specs.of_xml_machine.State.{State, Act, Stay, Here}
+use Rattle.xml_tokens.specs.of_xml_machine.Machine.{step}
+use Rattle.xml_tokens.specs.of_xml_machine.Tokens.{Rec, Marks, marking, marks_by, Due, nothing, event, attribute, due}
+use Rattle.xml_tokens.proofs.of_xml_machine.Stays.{Stays, there, stay, Takes, takes}
+use Rattle.xml_tokens.proofs.of_xml_complete.Reading.{Reads}
 use Rattle.xml_tokens.specs.Due.{counted, due_from, events_due, attributes_due}
 use Rattle.xml_places.specs.Places.{size}
 

@@ -6,28 +6,28 @@ use mathlib.Core.Bool.{Bool, true, cond}
 use native.Mathlib.Omega.{arith}
 use borrow.Author.Tests.{lt-ltb, le-ltb}
 use lib.ListN.{length}
-use Rattle.names.specs.Bytes.{bytes}
-use Rattle.utf8.specs.Characters.{is_scalar, encode}
-use Rattle.table.specs.Kinds as kind
-use Rattle.table.specs.Event.{Piece, Text}
-use Rattle.xml_chars.specs.Chars.{is_in, any_char}
-use Rattle.xml_chars.specs.Bytes.{utf8, whole}
-use Rattle.xml_chars.proofs.CharLaws.{in-scalar, low_scalar}
-use Rattle.xml_grammar.specs.Grammar as grammar
-use Rattle.xml_grammar.specs.Grammar.{Many, no_char, a-char, lacks, Spaces, in_data_of, Remark, Referred, Misc, comment, instruction, Beside, reference, aside}
-use Rattle.xml_machine.specs.State.{State, text, Brackets, b0, Place, content, to_section}
-use Rattle.xml_machine.specs.Machine.{resume}
-use Rattle.xml_machine.specs.Tokens.{Rec, over, event, nothing}
-use Rattle.xml_machine.specs.inside.Saying.{text_said}
-use Rattle.xml_complete.proofs.Reading.{Reads}
-use Rattle.xml_complete.proofs.Spaces.{space-ascii}
-use Rattle.xml_complete.proofs.Pieces.{text-said}
-use Rattle.xml_complete.proofs.Literals.{literal-last}
-use Rattle.xml_complete.proofs.References.{referred-reads, refers-end}
-use Rattle.xml_complete.proofs.CharacterData.{data-char, section-reads, section-bracket, section-brackets}
-use Rattle.xml_complete.proofs.Comments.{Opens, in-text, opens-step, opens-bang, bang-dash, dash-opens, first-dash, second-dash, dash-ends, remark-reads}
-use Rattle.xml_complete.proofs.Instructions.{Closes, closes, asks, asks-aims, asks-step, instruction-reads}
-use Rattle.xml_complete.proofs.Elements.{ampersand-opens, section-ends, opening-reads}
+use Rattle.xml_tokens.specs.of_names.Bytes.{bytes}
+use Rattle.xml_tokens.specs.of_utf8.Characters.{is_scalar, encode}
+use Rattle.xml_tokens.specs.of_table.Kinds as kind
+use Rattle.xml_tokens.specs.of_table.Event.{Piece, Text}
+use Rattle.xml_tokens.specs.of_xml_chars.Chars.{is_in, any_char}
+use Rattle.xml_tokens.specs.of_xml_chars.Bytes.{utf8, whole}
+use Rattle.xml_tokens.proofs.of_xml_chars.CharLaws.{in-scalar, low_scalar}
+use Rattle.xml_tokens.specs.of_xml_grammar.Grammar as grammar
+use Rattle.xml_tokens.specs.of_xml_grammar.Grammar.{Many, no_char, a-char, lacks, Spaces, in_data_of, Remark, Referred, Misc, comment, instruction, Beside, reference, aside}
+use Rattle.xml_tokens.specs.of_xml_machine.State.{State, text, Brackets, b0, Place, content, to_section}
+use Rattle.xml_tokens.specs.of_xml_machine.Machine.{resume}
+use Rattle.xml_tokens.specs.of_xml_machine.Tokens.{Rec, over, event, nothing}
+use Rattle.xml_tokens.specs.of_xml_machine.inside.Saying.{text_said}
+use Rattle.xml_tokens.proofs.of_xml_complete.Reading.{Reads}
+use Rattle.xml_tokens.proofs.of_xml_complete.Spaces.{space-ascii}
+use Rattle.xml_tokens.proofs.of_xml_complete.Pieces.{text-said}
+use Rattle.xml_tokens.proofs.of_xml_complete.Literals.{literal-last}
+use Rattle.xml_tokens.proofs.of_xml_complete.References.{referred-reads, refers-end}
+use Rattle.xml_tokens.proofs.of_xml_complete.CharacterData.{data-char, section-reads, section-bracket, section-brackets}
+use Rattle.xml_tokens.proofs.of_xml_complete.Comments.{Opens, in-text, opens-step, opens-bang, bang-dash, dash-opens, first-dash, second-dash, dash-ends, remark-reads}
+use Rattle.xml_tokens.proofs.of_xml_complete.Instructions.{Closes, closes, asks, asks-aims, asks-step, instruction-reads}
+use Rattle.xml_tokens.proofs.of_xml_complete.Elements.{ampersand-opens, section-ends, opening-reads}
 use Rattle.xml_tokens.specs.Due.{events_due}
 use Rattle.xml_places.specs.Places.{size, piece_at, text_at, misc_at, beside_at}
 use Rattle.xml_places.proofs.Putting.{Puts, puts-long, puts_then, puts-to, puts-reads, puts-stay, puts-mark, puts-text}

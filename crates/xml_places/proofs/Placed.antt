@@ -3,16 +3,16 @@ use Prim.Native.Nat.{ℕ, ◌+◌}
 use mathlib.Core.Path.{◌≡◌, refl, sym, ap, ◌∙◌}
 use mathlib.Core.List.{List, [], ◌∷◌, ◌++◌, append_assoc, append-nil}
 use lib.ListN.{length}
-use Rattle.table.specs.Kinds as kind
-use Rattle.xml_chars.specs.Bytes.{utf8}
-use Rattle.xml_grammar.specs.Grammar.{Document}
-use Rattle.xml_grammar.specs.Documents as documents
-use Rattle.xml_grammar.specs.Documents.{unmarked, WellFormed}
-use Rattle.xml_machine.specs.State as state
-use Rattle.xml_machine.specs.State.{State, epilog}
-use Rattle.xml_machine.specs.Machine.{step}
-use Rattle.xml_machine.specs.Tokens.{Rec, rec, Marks, no_marks, marking, Due, nothing}
-use Rattle.xml_complete.proofs.Documents.{First, first-fresh, first-marked}
+use Rattle.xml_tokens.specs.of_table.Kinds as kind
+use Rattle.xml_tokens.specs.of_xml_chars.Bytes.{utf8}
+use Rattle.xml_tokens.specs.of_xml_grammar.Grammar.{Document}
+use Rattle.xml_tokens.specs.of_xml_grammar.Documents as documents
+use Rattle.xml_tokens.specs.of_xml_grammar.Documents.{unmarked, WellFormed}
+use Rattle.xml_tokens.specs.of_xml_machine.State as state
+use Rattle.xml_tokens.specs.of_xml_machine.State.{State, epilog}
+use Rattle.xml_tokens.specs.of_xml_machine.Machine.{step}
+use Rattle.xml_tokens.specs.of_xml_machine.Tokens.{Rec, rec, Marks, no_marks, marking, Due, nothing}
+use Rattle.xml_tokens.proofs.of_xml_complete.Documents.{First, first-fresh, first-marked}
 use Rattle.xml_tokens.specs.Due.{due_from, due_in_of, events_due, attributes_due}
 use Rattle.xml_places.specs.Places.{numbered, document_at, document_attributes, events_placed, attributes_placed}
 use Rattle.xml_places.proofs.Putting.{counts, numbered-append, run-numbered, run-bare, run_at}

@@ -6,12 +6,12 @@ use mathlib.Core.Bool.{Bool, true, false, cond}
 use native.Mathlib.Omega.{arith}
 use lib.Dec.{ltb}
 use lib.ListN.{length, length-append}
-use Rattle.table.specs.Kinds as kind
-use Rattle.xml_machine.specs.State as state
-use Rattle.xml_machine.specs.State.{State, Act, Stay, Mark, EndText, TextMark, Ref, Comment, Pi, CData}
-use Rattle.xml_machine.specs.Machine.{step}
-use Rattle.xml_machine.specs.Tokens.{Rec, rec, unless0, over, Marks, no_marks, marking, marks_by, nothing, event, text_due, due}
-use Rattle.xml_complete.proofs.Reading.{Reads, reads_none, reads_byte}
+use Rattle.xml_tokens.specs.of_table.Kinds as kind
+use Rattle.xml_tokens.specs.of_xml_machine.State as state
+use Rattle.xml_tokens.specs.of_xml_machine.State.{State, Act, Stay, Mark, EndText, TextMark, Ref, Comment, Pi, CData}
+use Rattle.xml_tokens.specs.of_xml_machine.Machine.{step}
+use Rattle.xml_tokens.specs.of_xml_machine.Tokens.{Rec, rec, unless0, over, Marks, no_marks, marking, marks_by, nothing, event, text_due, due}
+use Rattle.xml_tokens.proofs.of_xml_complete.Reading.{Reads, reads_none, reads_byte}
 use Rattle.xml_tokens.specs.Due.{counted, events_due, attributes_due}
 use Rattle.xml_places.specs.Places.{size, piece_at, numbered}
 use Rattle.xml_places.proofs.Going.{size-ascii, Goes, spot, goes_then, goes_as, goes-reads, goes-byte}

@@ -6,18 +6,18 @@ use mathlib.Core.Bool.{Bool, cond}
 use native.Mathlib.Omega.{arith}
 use lib.Dec.{eqb-suc-zero}
 use lib.ListN.{length, length-append}
-use Rattle.table.specs.Kinds as kind
-use Rattle.xml_chars.specs.Chars.{crosses}
-use Rattle.xml_chars.specs.Bytes.{utf8, whole}
-use Rattle.xml_grammar.specs.Grammar.{no_char, a-char, Spaces, Name, Attributes}
-use Rattle.xml_machine.specs.State as state
-use Rattle.xml_machine.specs.State.{State, text, lt, tag, ending, Act, NameStart, Start, inside, b0, InTag, name, gap, slash, value_end}
-use Rattle.xml_machine.specs.Machine.{char, behind, in_tag, shut, step}
-use Rattle.xml_machine.specs.Tokens.{Rec, rec, unless0, over, Marks, marking, naming, marks_by}
-use Rattle.xml_machine.proofs.Stays.{Takes, takes}
-use Rattle.xml_complete.proofs.Spaces.{space-ascii, spaces-read, end-space}
-use Rattle.xml_complete.proofs.Names.{Begins, name-here}
-use Rattle.xml_complete.proofs.TagsTold.{to-shut, ending-stays, slash-ends, name-ends, name-spaces, space-ends}
+use Rattle.xml_tokens.specs.of_table.Kinds as kind
+use Rattle.xml_tokens.specs.of_xml_chars.Chars.{crosses}
+use Rattle.xml_tokens.specs.of_xml_chars.Bytes.{utf8, whole}
+use Rattle.xml_tokens.specs.of_xml_grammar.Grammar.{no_char, a-char, Spaces, Name, Attributes}
+use Rattle.xml_tokens.specs.of_xml_machine.State as state
+use Rattle.xml_tokens.specs.of_xml_machine.State.{State, text, lt, tag, ending, Act, NameStart, Start, inside, b0, InTag, name, gap, slash, value_end}
+use Rattle.xml_tokens.specs.of_xml_machine.Machine.{char, behind, in_tag, shut, step}
+use Rattle.xml_tokens.specs.of_xml_machine.Tokens.{Rec, rec, unless0, over, Marks, marking, naming, marks_by}
+use Rattle.xml_tokens.proofs.of_xml_machine.Stays.{Takes, takes}
+use Rattle.xml_tokens.proofs.of_xml_complete.Spaces.{space-ascii, spaces-read, end-space}
+use Rattle.xml_tokens.proofs.of_xml_complete.Names.{Begins, name-here}
+use Rattle.xml_tokens.proofs.of_xml_complete.TagsTold.{to-shut, ending-stays, slash-ends, name-ends, name-spaces, space-ends}
 use Rattle.xml_places.specs.Places.{size, tag_at, attributes_at, numbered}
 use Rattle.xml_places.proofs.Going.{size-ascii, spot, Goes, goes_then, goes_to, goes_with, goes_as, goes-reads, goes-here, goes-byte}
 use Rattle.xml_places.proofs.Putting.{Puts, puts_then, puts-to, puts-byte, puts-mark, puts-reads, over-piece}

@@ -1,6 +1,6 @@
 -- What is due in the first bytes of a document, against the records of the whole. Definitions only.
 use Rattle.std.specs.Prelude.{ℕ, ◌+◌, ◌≡◌, List, [], ◌∷◌, ◌++◌}
-use Rattle.xml_machine.specs.Tokens.{Rec, rec, Due, nothing, event, attribute}
+use Rattle.xml_tokens.specs.of_xml_machine.Tokens.{Rec, rec, Due, nothing, event, attribute}
 use Rattle.xml_tokens.specs.Due.{events_due, attributes_due}
 
 -- a run of text that is broken off is the beginning of one Text, or all of it

@@ -1,12 +1,12 @@
 -- The records of a derivation whose first byte stands at `at`: each event, key and value with its place and its length in bytes, the place
 -- 0 where the length is 0 (rules N3 and N4). Definitions only.
 use Rattle.std.specs.Prelude.{ℕ, ◌+◌, List, [], ◌∷◌, ◌++◌, length}
-use Rattle.table.specs.Kinds as kind
-use Rattle.xml_chars.specs.Bytes.{utf8}
-use Rattle.xml_grammar.specs.Grammar.{Attributes, no-attribute, attribute, Misc, comment, instruction, Miscs, last-space, misc, Beside, reference, section}
-use Rattle.xml_grammar.specs.Grammar.{aside, Element, empty, pair, Content, last-data, child, beside, Prolog, undeclared, declared, Document, document}
-use Rattle.xml_grammar.specs.Documents.{WellFormed}
-use Rattle.xml_machine.specs.Tokens.{Rec, rec, unless0, flat}
+use Rattle.xml_tokens.specs.of_table.Kinds as kind
+use Rattle.xml_tokens.specs.of_xml_chars.Bytes.{utf8}
+use Rattle.xml_tokens.specs.of_xml_grammar.Grammar.{Attributes, no-attribute, attribute, Misc, comment, instruction, Miscs, last-space, misc, Beside, reference, section}
+use Rattle.xml_tokens.specs.of_xml_grammar.Grammar.{aside, Element, empty, pair, Content, last-data, child, beside, Prolog, undeclared, declared, Document, document}
+use Rattle.xml_tokens.specs.of_xml_grammar.Documents.{WellFormed}
+use Rattle.xml_tokens.specs.of_xml_machine.Tokens.{Rec, rec, unless0, flat}
 
 -- the bytes that characters take
 abbrev pub size : List ℕ → ℕ

@@ -2,13 +2,17 @@
 #![tactic(auto)]
 
 ghost use Rattle.std.specs.Prelude.{◌≡◌, ◌≤◌};
-ghost use Rattle.xml_state.specs.inside.Puts.{stepped, turned, fresh_of, settled_of, shut_mode, act_text, act_start, act_empty, act_end, act_ref, act_between, act_on};
+ghost use Rattle.xml_acts.specs.of_xml_state.inside.Puts.{stepped, turned, fresh_of, settled_of, shut_mode, act_text, act_start, act_empty, act_end, act_ref, act_between, act_on};
 
-use area::wide;
-use tree_record::{field, put_field};
+pub use xml_acts as the_xml_acts;
+use xml_acts::the_area::wide;
+use xml_acts::the_tree_record::{field, put_field};
+use xml_acts::the_xml_state::{Move, State, Step, mode};
+pub use xml_acts::{the_area, the_refusal, the_xml_state};
 use xml_acts::{acted, named};
-use xml_checks::{has_room, less};
-use xml_state::{Move, State, Step, mode};
+pub use xml_write as the_xml_write;
+pub use xml_write::the_xml_checks;
+use xml_write::the_xml_checks::{has_room, less};
 use xml_write::{act_value, put_over, put_sized, put_tag};
 
 // In the mode, with a new run behind byte `at`.

@@ -5,13 +5,13 @@ use mathlib.Core.List.{List}
 use mathlib.Core.Bool.{true, ◌||◌}
 use borrow.Author.Tests.{eqb-true}
 use lib.Dec.{eqb}
-use Rattle.xml_chars.proofs.CharLaws.{or_cases}
-use Rattle.xml_state.specs.declared.Move.{Move}
-use Rattle.xml_state.specs.declared.State.{State}
-use Rattle.xml_state.specs.declared.Step.TheVariants.{Go}
-use Rattle.xml_state.specs.inside.Rows as row
-use Rattle.xml_state.specs.inside.Acts.{acted_of}
-use Rattle.xml_state.specs.inside.Puts.{turned, act_on}
+use Rattle.xml_checks.proofs.of_xml_chars.CharLaws.{or_cases}
+use Rattle.xml_checks.specs.of_xml_state.declared.Move.{Move}
+use Rattle.xml_checks.specs.of_xml_state.declared.State.{State}
+use Rattle.xml_checks.specs.of_xml_state.declared.Step.TheVariants.{Go}
+use Rattle.xml_checks.specs.of_xml_state.inside.Rows as row
+use Rattle.xml_checks.specs.of_xml_state.inside.Acts.{acted_of}
+use Rattle.xml_checks.specs.of_xml_state.inside.Puts.{turned, act_on}
 use Rattle.xml_quick.specs.inside.Quick.{quick_act, quick_of}
 
 module _ (s : State) (m : Move) (b at : ℕ) (src events attributes : List ℕ) where

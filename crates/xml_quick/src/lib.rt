@@ -5,7 +5,7 @@ ghost use Rattle.std.specs.Prelude.{◌≡◌, ◌≤◌};
 ghost use Rattle.xml_quick.specs.inside.Quick.{quick_act, quick_of};
 
 use xml_checks::less;
-use xml_state::{Move, State};
+use xml_checks::the_xml_state::{Move, State};
 
 pub fn is_quick(act: u8) -> bool
     ensures { result ≡ quick_act act }

@@ -7,16 +7,16 @@ use native.Mathlib.Omega.{arith}
 use borrow.Author.Tests.{ne_eqb}
 use lib.Dec.{ltb}
 use lib.ListN.{length, get_or, set, length-set}
-use Rattle.table.specs.Kinds as kind
-use Rattle.xml_machine.specs.Tokens.{Rec, rec, unless0, over, nothing, event, attribute, text_due, Kept, keep}
-use Rattle.xml_stack.specs.Stack.{Range, range, Stacked}
-use Rattle.xml_stack.proofs.Stack.{append, push, Popped, pop, none_open}
-use Rattle.xml_state.specs.declared.State.{State}
-use Rattle.xml_state.specs.declared.Step.TheVariants.{Go}
-use Rattle.xml_state.specs.inside.Rows as row
-use Rattle.xml_state.specs.inside.Registers.{in_mode, with_kept, with_count}
-use Rattle.xml_state.specs.inside.Acts.{record_at}
-use Rattle.xml_state.specs.inside.Puts.{stepped, put_over, fresh_of, settled_of, shut_mode, act_text, act_start, act_empty, act_end, act_value}
+use Rattle.xml_rep.specs.of_table.Kinds as kind
+use Rattle.xml_rep.specs.of_xml_machine.Tokens.{Rec, rec, unless0, over, nothing, event, attribute, text_due, Kept, keep}
+use Rattle.xml_rep.specs.of_xml_stack.Stack.{Range, range, Stacked}
+use Rattle.xml_rep.proofs.of_xml_stack.Stack.{append, push, Popped, pop, none_open}
+use Rattle.xml_rep.specs.of_xml_state.declared.State.{State}
+use Rattle.xml_rep.specs.of_xml_state.declared.Step.TheVariants.{Go}
+use Rattle.xml_rep.specs.of_xml_state.inside.Rows as row
+use Rattle.xml_rep.specs.of_xml_state.inside.Registers.{in_mode, with_kept, with_count}
+use Rattle.xml_rep.specs.of_xml_state.inside.Acts.{record_at}
+use Rattle.xml_rep.specs.of_xml_state.inside.Puts.{stepped, put_over, fresh_of, settled_of, shut_mode, act_text, act_start, act_empty, act_end, act_value}
 use Rattle.xml_rep.specs.inside.Agree.{shut_in}
 use Rattle.xml_records.specs.inside.Holding.{Holds}
 use Rattle.xml_records.proofs.Putting.{Does, Adds, put-event, put-attribute}

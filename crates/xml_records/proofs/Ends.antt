@@ -7,23 +7,23 @@ use native.Mathlib.Omega.{arith}
 use borrow.Author.Tests.{eqb-true}
 use lib.Dec.{leb, ltb, eqb}
 use lib.ListN.{length, drop}
-use Rattle.names.specs.Bytes.{bytes}
-use Rattle.refusal.specs.Refusal.{nowhere}
-use Rattle.table.specs.Kinds as kind
-use Rattle.xml_chars.specs.Chars.{begins}
-use Rattle.xml_machine.specs.Tokens.{rec, over, Due, nothing, event, text_due, Room, Kept, Out, read, refuse, keep, close, rooms, room_of, laid_out, Result, resulting}
-use Rattle.xml_stack.specs.Stack.{Range, put_at}
-use Rattle.xml_stack.proofs.Stack.{none_open, length-put}
-use Rattle.xml_state.specs.Answer.{result}
-use Rattle.xml_state.specs.declared.State.{State}
-use Rattle.xml_state.specs.declared.Step.{Step}
-use Rattle.xml_state.specs.declared.Step.TheVariants.{Go, Full, Bad}
-use Rattle.xml_state.specs.declared.Tokenized.{Tokenized}
-use Rattle.xml_state.specs.declared.Tokenized.TheVariants.{Table, Refused}
-use Rattle.xml_state.specs.inside.Rows as row
-use Rattle.xml_state.specs.inside.Registers.{with_count}
-use Rattle.xml_state.specs.inside.Puts.{stepped, room_for, putting, put_over, fresh_of, act_text}
-use Rattle.xml_state.specs.inside.Turns.{cleared, run_mode, broken_of, refused_of, Ended, ended, eof_by, eof_of, finish_by, finish_of}
+use Rattle.xml_rep.specs.of_names.Bytes.{bytes}
+use Rattle.xml_rep.specs.of_refusal.Refusal.{nowhere}
+use Rattle.xml_rep.specs.of_table.Kinds as kind
+use Rattle.xml_rep.specs.of_xml_chars.Chars.{begins}
+use Rattle.xml_rep.specs.of_xml_machine.Tokens.{rec, over, Due, nothing, event, text_due, Room, Kept, Out, read, refuse, keep, close, rooms, room_of, laid_out, Result, resulting}
+use Rattle.xml_rep.specs.of_xml_stack.Stack.{Range, put_at}
+use Rattle.xml_rep.proofs.of_xml_stack.Stack.{none_open, length-put}
+use Rattle.xml_rep.specs.of_xml_state.Answer.{result}
+use Rattle.xml_rep.specs.of_xml_state.declared.State.{State}
+use Rattle.xml_rep.specs.of_xml_state.declared.Step.{Step}
+use Rattle.xml_rep.specs.of_xml_state.declared.Step.TheVariants.{Go, Full, Bad}
+use Rattle.xml_rep.specs.of_xml_state.declared.Tokenized.{Tokenized}
+use Rattle.xml_rep.specs.of_xml_state.declared.Tokenized.TheVariants.{Table, Refused}
+use Rattle.xml_rep.specs.of_xml_state.inside.Rows as row
+use Rattle.xml_rep.specs.of_xml_state.inside.Registers.{with_count}
+use Rattle.xml_rep.specs.of_xml_state.inside.Puts.{stepped, room_for, putting, put_over, fresh_of, act_text}
+use Rattle.xml_rep.specs.of_xml_state.inside.Turns.{cleared, run_mode, broken_of, refused_of, Ended, ended, eof_by, eof_of, finish_by, finish_of}
 use Rattle.xml_records.specs.inside.Holding.{Holds, Puts, Refuses}
 use Rattle.xml_records.proofs.Rooms.{room-law}
 use Rattle.xml_records.proofs.Acts.{over-puts, text-puts}

@@ -9,26 +9,26 @@ use borrow.Author.Tests.{lt-ltb, le-ltb, eq-eqb, ne_eqb}
 use lib.Dec.{eqb}
 use lib.ListN.{length, get_or, drop, replicate}
 use lib.Seq.{drop-cons, drop-length}
-use Rattle.names.specs.Bytes.{bytes}
-use Rattle.refusal.specs.Refusal.{nowhere}
-use Rattle.xml_chars.specs.Chars.{begins}
-use Rattle.xml_machine.specs.State.{State, fresh, Next, no}
-use Rattle.xml_machine.specs.Machine.{step, done}
-use Rattle.xml_machine.specs.Runs.{at_bang}
-use Rattle.xml_machine.specs.Tokens.{Marks, no_marks, Due, open_run, Room, Kept, nothing_kept, Out, refuse, keep, close, onward, records, rooms, Result, resulting, laid_out, tokens}
-use Rattle.xml_stack.specs.Stack.{Stacked}
-use Rattle.xml_stack.proofs.Stack as stack
-use Rattle.xml_state.specs.Answer.{result}
-use Rattle.xml_state.specs.declared.Move.{Move}
-use Rattle.xml_state.specs.declared.State.{State as Registers}
-use Rattle.xml_state.specs.declared.Step.{Step}
-use Rattle.xml_state.specs.declared.Step.TheVariants.{Go, Full, Bad}
-use Rattle.xml_state.specs.declared.Tokenized.{Tokenized}
-use Rattle.xml_state.specs.declared.Tokenized.TheVariants.{Table, Refused}
-use Rattle.xml_state.specs.inside.Rows as row
-use Rattle.xml_state.specs.inside.Registers.{in_mode, beginning}
-use Rattle.xml_state.specs.inside.Puts.{Turned, turned, act_on}
-use Rattle.xml_state.specs.inside.Turns.{cleared, refused_of, Ended, ended, finish_of}
+use Rattle.xml_rep.specs.of_names.Bytes.{bytes}
+use Rattle.xml_rep.specs.of_refusal.Refusal.{nowhere}
+use Rattle.xml_rep.specs.of_xml_chars.Chars.{begins}
+use Rattle.xml_rep.specs.of_xml_machine.State.{State, fresh, Next, no}
+use Rattle.xml_rep.specs.of_xml_machine.Machine.{step, done}
+use Rattle.xml_rep.specs.of_xml_machine.Runs.{at_bang}
+use Rattle.xml_rep.specs.of_xml_machine.Tokens.{Marks, no_marks, Due, open_run, Room, Kept, nothing_kept, Out, refuse, keep, close, onward, records, rooms, Result, resulting, laid_out, tokens}
+use Rattle.xml_rep.specs.of_xml_stack.Stack.{Stacked}
+use Rattle.xml_rep.proofs.of_xml_stack.Stack as stack
+use Rattle.xml_rep.specs.of_xml_state.Answer.{result}
+use Rattle.xml_rep.specs.of_xml_state.declared.Move.{Move}
+use Rattle.xml_rep.specs.of_xml_state.declared.State.{State as Registers}
+use Rattle.xml_rep.specs.of_xml_state.declared.Step.{Step}
+use Rattle.xml_rep.specs.of_xml_state.declared.Step.TheVariants.{Go, Full, Bad}
+use Rattle.xml_rep.specs.of_xml_state.declared.Tokenized.{Tokenized}
+use Rattle.xml_rep.specs.of_xml_state.declared.Tokenized.TheVariants.{Table, Refused}
+use Rattle.xml_rep.specs.of_xml_state.inside.Rows as row
+use Rattle.xml_rep.specs.of_xml_state.inside.Registers.{in_mode, beginning}
+use Rattle.xml_rep.specs.of_xml_state.inside.Puts.{Turned, turned, act_on}
+use Rattle.xml_rep.specs.of_xml_state.inside.Turns.{cleared, refused_of, Ended, ended, finish_of}
 use Rattle.xml_rep.specs.inside.Agree.{turn_by}
 use Rattle.xml_rep.proofs.Laws.{at_first, mode-range, bang-law, run-law, done-law, done_none}
 use Rattle.xml_records.specs.inside.Holding.{Leads, Refuses}

@@ -6,12 +6,12 @@ use mathlib.Core.Bool.{Bool, true, false, cond}
 use native.Mathlib.Omega.{arith}
 use lib.Dec.{ltb}
 use lib.ListN.{length, length-append}
-use Rattle.xml_machine.specs.Tokens.{Rec, rec, Due, event, attribute, Kept, keep, rooms, room_of}
-use Rattle.xml_stack.specs.Stack.{Range, Stacked, put_at}
-use Rattle.xml_state.specs.declared.State.{State}
-use Rattle.xml_state.specs.declared.Step.TheVariants.{Go, Full}
-use Rattle.xml_state.specs.inside.Registers.{with_kept, with_count}
-use Rattle.xml_state.specs.inside.Puts.{Stepped, stepped, room_for, putting}
+use Rattle.xml_rep.specs.of_xml_machine.Tokens.{Rec, rec, Due, event, attribute, Kept, keep, rooms, room_of}
+use Rattle.xml_rep.specs.of_xml_stack.Stack.{Range, Stacked, put_at}
+use Rattle.xml_rep.specs.of_xml_state.declared.State.{State}
+use Rattle.xml_rep.specs.of_xml_state.declared.Step.TheVariants.{Go, Full}
+use Rattle.xml_rep.specs.of_xml_state.inside.Registers.{with_kept, with_count}
+use Rattle.xml_rep.specs.of_xml_state.inside.Puts.{Stepped, stepped, room_for, putting}
 use Rattle.xml_records.specs.inside.Holding.{Holds, Puts}
 use Rattle.xml_records.proofs.Rooms.{room-law, room_fits, laid_more, fits_more}
 

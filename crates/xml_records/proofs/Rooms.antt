@@ -7,11 +7,11 @@ use native.Mathlib.Omega.{arith}
 use borrow.Author.Tests.{lt-ltb, le-ltb, ltb-true, ltb-false}
 use lib.Dec.{ltb}
 use lib.ListN.{length, replicate, length-append}
-use Rattle.area.specs.Limits.{most_entries}
-use Rattle.xml_machine.specs.Tokens.{Rec, rec, laid_out, room_of}
-use Rattle.xml_stack.specs.Stack.{chained, none, Stacked, put_at}
-use Rattle.xml_stack.proofs.Stack.{append, none_open, nothing, length-put}
-use Rattle.xml_state.specs.inside.Puts.{room_for}
+use Rattle.xml_rep.specs.of_area.Limits.{most_entries}
+use Rattle.xml_rep.specs.of_xml_machine.Tokens.{Rec, rec, laid_out, room_of}
+use Rattle.xml_rep.specs.of_xml_stack.Stack.{chained, none, Stacked, put_at}
+use Rattle.xml_rep.proofs.of_xml_stack.Stack.{append, none_open, nothing, length-put}
+use Rattle.xml_rep.specs.of_xml_state.inside.Puts.{room_for}
 
 -- the code's test is the definition's
 pub room-law : (n words : ℕ) → ltb n (room_of words) ≡ room_for n words

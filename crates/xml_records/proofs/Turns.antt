@@ -3,18 +3,18 @@ use Prim.Native.Nat.{ℕ, ◌+◌, ◌-◌}
 use mathlib.Core.Path.{◌≡◌, refl, sym, ap, ◌∙◌, subst}
 use mathlib.Core.List.{List, ◌∷◌}
 use lib.ListN.{length, get_or}
-use Rattle.table.specs.Kinds as kind
-use Rattle.xml_machine.specs.State.{State, Act, Next, no, go}
-use Rattle.xml_machine.specs.Tokens.{rec, unless0, over, Marks, marks_by, Due, nothing, event, attribute, text_due, due, Room, Kept, Out, keep, rooms, onward}
-use Rattle.xml_stack.specs.Stack.{Range, range, Stacked}
-use Rattle.xml_stack.proofs.Stack.{pop}
-use Rattle.xml_state.specs.declared.Move.{Move}
-use Rattle.xml_state.specs.declared.State.{State as Registers}
-use Rattle.xml_state.specs.declared.Step.{Step}
-use Rattle.xml_state.specs.declared.Step.TheVariants.{Go, Full, Bad}
-use Rattle.xml_state.specs.inside.Registers.{in_mode, at_mark_of, with_name}
-use Rattle.xml_state.specs.inside.Acts.{closing_of}
-use Rattle.xml_state.specs.inside.Puts.{Turned, turned, fresh_of}
+use Rattle.xml_rep.specs.of_table.Kinds as kind
+use Rattle.xml_rep.specs.of_xml_machine.State.{State, Act, Next, no, go}
+use Rattle.xml_rep.specs.of_xml_machine.Tokens.{rec, unless0, over, Marks, marks_by, Due, nothing, event, attribute, text_due, due, Room, Kept, Out, keep, rooms, onward}
+use Rattle.xml_rep.specs.of_xml_stack.Stack.{Range, range, Stacked}
+use Rattle.xml_rep.proofs.of_xml_stack.Stack.{pop}
+use Rattle.xml_rep.specs.of_xml_state.declared.Move.{Move}
+use Rattle.xml_rep.specs.of_xml_state.declared.State.{State as Registers}
+use Rattle.xml_rep.specs.of_xml_state.declared.Step.{Step}
+use Rattle.xml_rep.specs.of_xml_state.declared.Step.TheVariants.{Go, Full, Bad}
+use Rattle.xml_rep.specs.of_xml_state.inside.Registers.{in_mode, at_mark_of, with_name}
+use Rattle.xml_rep.specs.of_xml_state.inside.Acts.{closing_of}
+use Rattle.xml_rep.specs.of_xml_state.inside.Puts.{Turned, turned, fresh_of}
 use Rattle.xml_rep.specs.inside.Rep.{Rep}
 use Rattle.xml_rep.specs.inside.Agree.{turn_by, Agree, wrong, quietly, closing, texting, starting, emptying, closed, between, valuing}
 use Rattle.xml_records.specs.inside.Holding.{Puts, Stands, Leads}

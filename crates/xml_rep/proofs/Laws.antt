@@ -6,18 +6,18 @@ use mathlib.Core.Bool.{Bool, true, false, cond, ◌&&◌, ◌||◌}
 use native.Mathlib.Omega.{arith}
 use lib.Dec.{leb, ltb, eqb}
 use borrow.Author.Tests.{leb-true, ltb-true}
-use Rattle.table.specs.Kinds as kind
-use Rattle.xml_chars.specs.Chars.{single, double}
-use Rattle.xml_chars.specs.Bytes.{Part, whole, part}
-use Rattle.xml_machine.specs.State.{Brackets, b0, b1, b2, Letters, x0, x1, x2, x3, Place, before, after, inside}
-use Rattle.xml_machine.specs.State.{State, fresh, marked, lt_first, heading, decl, literal, prolog, epilog, text, lt, misc, section, ref, tag, ending, end_space}
-use Rattle.xml_machine.specs.State.{InMisc, bang, dash, remark0, remark1, remark2, target, named, pi_data, pi_query, pi_close, InRef, ampersand, ref_name, hash, digits, hash_x, hexes}
-use Rattle.xml_machine.specs.State.{version, encoding, standalone, InDecl, opening, equals, quoting, point, digit, letters, choice, chosen, valued, between}
-use Rattle.xml_machine.specs.State.{InTag, name, gap, slash, key, key_eq, quote, value, value_end}
-use Rattle.xml_machine.specs.Machine.{done}
-use Rattle.xml_machine.specs.Runs.{at_bang}
-use Rattle.xml_machine.specs.Tokens.{Marks, no_marks, Due, nothing, event, over, text_due, open_run}
-use Rattle.xml_stack.specs.Stack.{Range}
+use Rattle.xml_state.specs.of_table.Kinds as kind
+use Rattle.xml_state.specs.of_xml_chars.Chars.{single, double}
+use Rattle.xml_state.specs.of_xml_chars.Bytes.{Part, whole, part}
+use Rattle.xml_state.specs.of_xml_machine.State.{Brackets, b0, b1, b2, Letters, x0, x1, x2, x3, Place, before, after, inside}
+use Rattle.xml_state.specs.of_xml_machine.State.{State, fresh, marked, lt_first, heading, decl, literal, prolog, epilog, text, lt, misc, section, ref, tag, ending, end_space}
+use Rattle.xml_state.specs.of_xml_machine.State.{InMisc, bang, dash, remark0, remark1, remark2, target, named, pi_data, pi_query, pi_close, InRef, ampersand, ref_name, hash, digits, hash_x, hexes}
+use Rattle.xml_state.specs.of_xml_machine.State.{version, encoding, standalone, InDecl, opening, equals, quoting, point, digit, letters, choice, chosen, valued, between}
+use Rattle.xml_state.specs.of_xml_machine.State.{InTag, name, gap, slash, key, key_eq, quote, value, value_end}
+use Rattle.xml_state.specs.of_xml_machine.Machine.{done}
+use Rattle.xml_state.specs.of_xml_machine.Runs.{at_bang}
+use Rattle.xml_state.specs.of_xml_machine.Tokens.{Marks, no_marks, Due, nothing, event, over, text_due, open_run}
+use Rattle.xml_state.specs.of_xml_stack.Stack.{Range}
 use Rattle.xml_state.specs.declared.State.{State as Registers}
 use Rattle.xml_state.specs.inside.Rows as row
 use Rattle.xml_state.specs.inside.Registers.{beginning}

@@ -5,25 +5,25 @@ use mathlib.Core.List.{List, [], ◌∷◌}
 use mathlib.Core.Bool.{true, false, false≢true}
 use native.Mathlib.Omega.{arith}
 use borrow.Author.Tests.{ne_eqb}
-use Rattle.utf8.specs.Characters.{encode}
-use Rattle.xml_chars.specs.Chars.{is_in, any_char, Quote, single, double}
-use Rattle.xml_chars.specs.Bytes.{whole, part}
-use Rattle.xml_chars.proofs.CharLaws.{in-scalar}
-use Rattle.xml_machine.specs.State as state
-use Rattle.xml_machine.specs.State.{b0, b1, b2, Letters, x0, x1, x2, x3, Place, before, after, inside, Stay}
-use Rattle.xml_machine.specs.State.{State, fresh, marked, lt_first, heading, decl, literal, prolog, epilog, text, lt, misc, section, ref, tag, ending, end_space}
-use Rattle.xml_machine.specs.State.{InMisc, bang, dash, remark0, remark1, remark2, target, named, pi_data, pi_query, pi_close, InRef, ampersand, ref_name, hash, digits, hash_x, hexes}
-use Rattle.xml_machine.specs.State.{version, encoding, standalone, InDecl, opening, equals, quoting, point, digit, letters, choice, chosen, valued, between}
-use Rattle.xml_machine.specs.State.{name, gap, slash, key, key_eq, quote, value, value_end}
-use Rattle.xml_machine.specs.Machine.{char, in_text, in_section, in_misc, in_tag, step}
-use Rattle.xml_machine.specs.Tokens.{Marks}
-use Rattle.xml_machine.proofs.Stays.{Stays, takes-stays}
-use Rattle.xml_machine.proofs.Characters.{char-takes}
-use Rattle.xml_machine.proofs.Carries.{text-carries, section-carries, misc-carries, tag-carries}
-use Rattle.xml_stack.specs.Stack.{Range}
-use Rattle.xml_state.specs.declared.State.{State as Registers}
-use Rattle.xml_rep.specs.inside.Modes.{head_mode, lt_mode, misc_mode, ref_mode, end_mode}
-use Rattle.xml_rep.specs.inside.Rep.{DeclModed, Moded, Placed}
+use Rattle.xml_agree.specs.of_utf8.Characters.{encode}
+use Rattle.xml_agree.specs.of_xml_chars.Chars.{is_in, any_char, Quote, single, double}
+use Rattle.xml_agree.specs.of_xml_chars.Bytes.{whole, part}
+use Rattle.xml_agree.proofs.of_xml_chars.CharLaws.{in-scalar}
+use Rattle.xml_agree.specs.of_xml_machine.State as state
+use Rattle.xml_agree.specs.of_xml_machine.State.{b0, b1, b2, Letters, x0, x1, x2, x3, Place, before, after, inside, Stay}
+use Rattle.xml_agree.specs.of_xml_machine.State.{State, fresh, marked, lt_first, heading, decl, literal, prolog, epilog, text, lt, misc, section, ref, tag, ending, end_space}
+use Rattle.xml_agree.specs.of_xml_machine.State.{InMisc, bang, dash, remark0, remark1, remark2, target, named, pi_data, pi_query, pi_close, InRef, ampersand, ref_name, hash, digits, hash_x, hexes}
+use Rattle.xml_agree.specs.of_xml_machine.State.{version, encoding, standalone, InDecl, opening, equals, quoting, point, digit, letters, choice, chosen, valued, between}
+use Rattle.xml_agree.specs.of_xml_machine.State.{name, gap, slash, key, key_eq, quote, value, value_end}
+use Rattle.xml_agree.specs.of_xml_machine.Machine.{char, in_text, in_section, in_misc, in_tag, step}
+use Rattle.xml_agree.specs.of_xml_machine.Tokens.{Marks}
+use Rattle.xml_agree.proofs.of_xml_machine.Stays.{Stays, takes-stays}
+use Rattle.xml_agree.proofs.of_xml_machine.Characters.{char-takes}
+use Rattle.xml_agree.proofs.of_xml_machine.Carries.{text-carries, section-carries, misc-carries, tag-carries}
+use Rattle.xml_agree.specs.of_xml_stack.Stack.{Range}
+use Rattle.xml_checks.specs.of_xml_state.declared.State.{State as Registers}
+use Rattle.xml_agree.specs.of_xml_rep.inside.Modes.{head_mode, lt_mode, misc_mode, ref_mode, end_mode}
+use Rattle.xml_agree.specs.of_xml_rep.inside.Rep.{DeclModed, Moded, Placed}
 use Rattle.xml_skip.specs.inside.Passes.{loose}
 
 -- their states

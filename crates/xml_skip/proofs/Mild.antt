@@ -8,9 +8,9 @@ use native.Mathlib.Decide.{dec_lt}
 use borrow.Author.Tests.{ltb-true, eqb-true}
 use lib.Dec.{ltb, eqb}
 use lib.ListN.{length, get_or}
-use Rattle.xml_chars.specs.Chars.{crosses}
-use Rattle.xml_chars.proofs.CharLaws.{or_cases}
-use Rattle.xml_state.specs.inside.Rows as row
+use Rattle.xml_agree.specs.of_xml_chars.Chars.{crosses}
+use Rattle.xml_agree.proofs.of_xml_chars.CharLaws.{or_cases}
+use Rattle.xml_checks.specs.of_xml_state.inside.Rows as row
 use Rattle.xml_calm.specs.inside.Calm.{mild, stop_of, Calm}
 use Rattle.xml_skip.specs.inside.Passes.{Passes}
 use Rattle.xml_skip.proofs.Passing.{pass-nothing, pass-byte}

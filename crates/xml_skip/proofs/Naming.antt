@@ -5,12 +5,12 @@ use mathlib.Core.List.{List}
 use native.Mathlib.Omega.{arith}
 use borrow.Author.Tests.{lt-ltb, eq-eqb}
 use lib.ListN.{length, get_or}
-use Rattle.xml_state.specs.declared.State.{State as Registers}
-use Rattle.xml_state.specs.declared.Step.{Step}
-use Rattle.xml_state.specs.declared.Step.TheVariants.{Go}
-use Rattle.xml_state.specs.inside.Rows as row
-use Rattle.xml_state.specs.inside.Acts.{wanted_of, acted_of}
-use Rattle.xml_state.specs.inside.Puts.{turned, act_on}
+use Rattle.xml_checks.specs.of_xml_state.declared.State.{State as Registers}
+use Rattle.xml_checks.specs.of_xml_state.declared.Step.{Step}
+use Rattle.xml_checks.specs.of_xml_state.declared.Step.TheVariants.{Go}
+use Rattle.xml_checks.specs.of_xml_state.inside.Rows as row
+use Rattle.xml_checks.specs.of_xml_state.inside.Acts.{wanted_of, acted_of}
+use Rattle.xml_checks.specs.of_xml_state.inside.Puts.{turned, act_on}
 use Rattle.xml_agree.proofs.Whole.{agrees}
 use Rattle.xml_records.specs.inside.Loop.{At}
 use Rattle.xml_records.proofs.Loop.{go_on}

@@ -4,10 +4,10 @@ use mathlib.Core.Path.{◌≡◌, refl, sym, ap, subst, ◌∙◌}
 use mathlib.Core.List.{List}
 use native.Mathlib.Omega.{arith}
 use lib.ListN.{length, get_or}
-use Rattle.xml_state.specs.declared.Move.{Move}
-use Rattle.xml_state.specs.declared.State.{State as Registers}
-use Rattle.xml_state.specs.inside.Rows as row
-use Rattle.xml_state.specs.inside.Registers.{in_mode}
+use Rattle.xml_checks.specs.of_xml_state.declared.Move.{Move}
+use Rattle.xml_checks.specs.of_xml_state.declared.State.{State as Registers}
+use Rattle.xml_checks.specs.of_xml_state.inside.Rows as row
+use Rattle.xml_checks.specs.of_xml_state.inside.Registers.{in_mode}
 use Rattle.xml_agree.proofs.Whole.{agrees}
 use Rattle.xml_records.specs.inside.Loop.{At}
 use Rattle.xml_records.proofs.Loop.{stay-on}

@@ -10,15 +10,15 @@ use borrow.Author.Tests.{ltb-true}
 use lib.Dec.{ltb}
 use lib.ListN.{length, get_or, drop}
 use lib.Seq.{drop-cons}
-use Rattle.utf8.specs.Characters.{encode}
-use Rattle.xml_chars.specs.Chars.{crosses, is_in, any_char}
-use Rattle.xml_chars.proofs.CharLaws.{or_cases, or_left, or_right, in-crosses, in-scalar}
-use Rattle.xml_chars.proofs.Encoding.{two_bytes, three-bytes, four_bytes}
-use Rattle.xml_machine.specs.State as state
-use Rattle.xml_machine.specs.State.{State, Stay}
-use Rattle.xml_machine.specs.Machine.{step}
-use Rattle.xml_machine.specs.Tokens.{Marks, Room, Kept, keep, records, rooms}
-use Rattle.xml_machine.proofs.Stays.{Stays, there, stay}
+use Rattle.xml_agree.specs.of_utf8.Characters.{encode}
+use Rattle.xml_agree.specs.of_xml_chars.Chars.{crosses, is_in, any_char}
+use Rattle.xml_agree.proofs.of_xml_chars.CharLaws.{or_cases, or_left, or_right, in-crosses, in-scalar}
+use Rattle.xml_agree.proofs.of_xml_chars.Encoding.{two_bytes, three-bytes, four_bytes}
+use Rattle.xml_agree.specs.of_xml_machine.State as state
+use Rattle.xml_agree.specs.of_xml_machine.State.{State, Stay}
+use Rattle.xml_agree.specs.of_xml_machine.Machine.{step}
+use Rattle.xml_agree.specs.of_xml_machine.Tokens.{Marks, Room, Kept, keep, records, rooms}
+use Rattle.xml_agree.proofs.of_xml_machine.Stays.{Stays, there, stay}
 use Rattle.xml_skip.specs.inside.Passes.{loose, Wide, further, two_bytes_of, three_bytes, four_bytes_of}
 use Rattle.xml_skip.proofs.Passing.{pass-nothing}
 use Rattle.xml_skip.proofs.Loose.{is-loose, loose-stays, loose-placed}

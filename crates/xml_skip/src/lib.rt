@@ -2,15 +2,16 @@
 #![tactic(auto)]
 
 ghost use Rattle.std.specs.Prelude.{◌≡◌, ◌+◌, ◌≤◌, ◌<◌, length, get_or};
-ghost use Rattle.xml_state.specs.inside.Tables.{class_table, next_table, act_table};
-ghost use Rattle.xml_state.specs.inside.Rows.{move_of};
+ghost use Rattle.xml_checks.specs.of_xml_state.inside.Tables.{class_table, next_table, act_table};
+ghost use Rattle.xml_checks.specs.of_xml_state.inside.Rows.{move_of};
 ghost use Rattle.xml_skip.specs.inside.Passes.{Passes, Keeps, loose, Wide, two_bytes_of, three_bytes, four_bytes_of};
 
-use area::wide;
+use xml_agree::the_area::wide;
 use xml_calm::calm_end;
+use xml_checks::the_xml_state::{Move, State, mode};
 use xml_checks::{byte_at, less};
+pub use xml_moves as the_xml_moves;
 use xml_moves::move_at;
-use xml_state::{Move, State, mode};
 
 // Modes in which any character beyond ASCII may stand, and leaves the mode as it is.
 fn is_loose(mode: u8) -> bool

@@ -6,8 +6,8 @@ use native.Mathlib.Omega.{arith}
 use native.Mathlib.Decide.{dec_lt}
 use lib.Dec.{leb, ltb, eqb}
 use borrow.Author.Tests.{ne_eqb, eqb-true, ltb-true}
-use Rattle.xml_chars.specs.Chars.{is_in, any_char, name_start, lower, Quote, single, double, mark}
-use Rattle.xml_chars.proofs.CharLaws.{lower-least}
+use Rattle.xml_grammar.specs.of_xml_chars.Chars.{is_in, any_char, name_start, lower, Quote, single, double, mark}
+use Rattle.xml_grammar.proofs.of_xml_chars.CharLaws.{lower-least}
 use Rattle.xml_grammar.specs.Grammar.{in_value, in_data_of, in_remark_of}
 
 and-true : {x y : Bool} → x ≡ true → y ≡ true → (x && y) ≡ true

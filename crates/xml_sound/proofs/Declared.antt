@@ -5,9 +5,9 @@ use mathlib.Core.List.{List, [], ◌∷◌, ◌++◌, map, append_assoc}
 use mathlib.Core.Bool.{true, and-eq-true_iff}
 use lib.Dec.{ltb, eqb}
 use borrow.Author.Tests.{eqb-true}
-use Rattle.names.specs.Bytes.{bytes}
-use Rattle.xml_chars.specs.Chars.{is_space, is_digit, lower, Quote, mark}
-use Rattle.xml_chars.proofs.CharLaws.{digit_low}
+use Rattle.xml_grammar.specs.of_names.Bytes.{bytes}
+use Rattle.xml_grammar.specs.of_xml_chars.Chars.{is_space, is_digit, lower, Quote, mark}
+use Rattle.xml_grammar.proofs.of_xml_chars.CharLaws.{digit_low}
 use Rattle.xml_grammar.specs.Grammar as grammar
 use Rattle.xml_grammar.specs.Grammar.{Many, no_char, a-char, chars, Declares, declares, absent, present, Version, Encoding, yes-alone, no-alone, Miscs, Prolog, declared, declaration}
 use Rattle.xml_machine.specs.State.{Stay, decl, Item, version, encoding, standalone, InDecl, opening, equals, quoting, point, digit, letters, choice, chosen, valued, between}

@@ -5,7 +5,7 @@ use mathlib.Core.List.{List, [], ◌∷◌, ◌++◌}
 use mathlib.Core.Bool.{true}
 use native.Mathlib.Omega.{arith}
 use borrow.Author.Tests.{ne_eqb}
-use Rattle.names.specs.Bytes.{bytes}
+use Rattle.xml_grammar.specs.of_names.Bytes.{bytes}
 use Rattle.xml_grammar.specs.Grammar.{lacks}
 use Rattle.xml_machine.specs.State.{Brackets, b0, b1, b2}
 use Rattle.xml_machine.specs.Machine.{more}

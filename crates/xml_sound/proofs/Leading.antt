@@ -6,11 +6,11 @@ use mathlib.Core.Bool.{Bool, true, false, cond, ◌&&◌, and-eq-true_iff}
 use native.Mathlib.Omega.{arith}
 use lib.Dec.{leb, ltb, eqb}
 use borrow.Author.Tests.{ltb-true, ltb-false, leb-true, eqb-true, eqb-false}
-use Rattle.utf8.specs.Characters.{encode, is_scalar}
-use Rattle.xml_chars.specs.Chars.{Range, meets, is_in, is_space}
-use Rattle.xml_chars.specs.Bytes.{Left, one, two, three, Part, whole, part, fits}
-use Rattle.xml_chars.proofs.CharLaws.{pick, pick-in, space-low}
-use Rattle.xml_chars.proofs.Encoding.{tail, Inside, encode-1, two_bytes, three-bytes, four_bytes}
+use Rattle.xml_grammar.specs.of_utf8.Characters.{encode, is_scalar}
+use Rattle.xml_grammar.specs.of_xml_chars.Chars.{Range, meets, is_in, is_space}
+use Rattle.xml_grammar.specs.of_xml_chars.Bytes.{Left, one, two, three, Part, whole, part, fits}
+use Rattle.xml_grammar.proofs.of_xml_chars.CharLaws.{pick, pick-in, space-low}
+use Rattle.xml_grammar.proofs.of_xml_chars.Encoding.{tail, Inside, encode-1, two_bytes, three-bytes, four_bytes}
 use Rattle.xml_machine.specs.State as state
 use Rattle.xml_machine.specs.State.{State, Act, Stay, Next}
 use Rattle.xml_machine.specs.Machine.{begun, char, follow}

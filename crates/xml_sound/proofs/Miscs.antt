@@ -4,9 +4,9 @@ use mathlib.Core.Path.{◌≡◌, refl, sym, subst}
 use mathlib.Core.List.{List, [], ◌∷◌, ◌++◌, append_assoc}
 use mathlib.Core.Bool.{true, false}
 use lib.Dec.{eqb}
-use Rattle.names.specs.Bytes.{bytes}
-use Rattle.xml_chars.specs.Chars.{crosses, is_in, any_char, name_start, name_char, is_space, lower}
-use Rattle.xml_chars.proofs.CharLaws.{in-scalar, start-scalar, name-scalar, start-name}
+use Rattle.xml_grammar.specs.of_names.Bytes.{bytes}
+use Rattle.xml_grammar.specs.of_xml_chars.Chars.{crosses, is_in, any_char, name_start, name_char, is_space, lower}
+use Rattle.xml_grammar.proofs.of_xml_chars.CharLaws.{in-scalar, start-scalar, name-scalar, start-name}
 use Rattle.xml_grammar.specs.Grammar as grammar
 use Rattle.xml_grammar.specs.Grammar.{Many, no_char, a-char, chars, name_of, in_remark_of, Remark, no-remark, plain, dashed, is_xml, Target, target-of, Misc, comment, instruction, aside}
 use Rattle.xml_machine.specs.State.{Stay, Place, before, after, inside, misc, InMisc, bang, dash, remark0, remark1, remark2, target, named, pi_data, pi_query, pi_close, Letters, x0, x1, x2, x3}

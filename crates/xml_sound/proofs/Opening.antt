@@ -3,10 +3,10 @@ use Prim.Native.Nat.{ℕ, ◌<◌}
 use mathlib.Core.Path.{◌≡◌, refl, sym, ap, ◌∙◌, subst}
 use mathlib.Core.List.{List, [], ◌∷◌, ◌++◌, append_assoc}
 use mathlib.Core.Bool.{true}
-use Rattle.utf8.specs.Characters.{encode}
-use Rattle.xml_chars.specs.Chars.{is_in, name_start}
-use Rattle.xml_chars.specs.Bytes.{utf8}
-use Rattle.xml_chars.proofs.CharLaws.{start-scalar}
+use Rattle.xml_grammar.specs.of_utf8.Characters.{encode}
+use Rattle.xml_grammar.specs.of_xml_chars.Chars.{is_in, name_start}
+use Rattle.xml_grammar.specs.of_xml_chars.Bytes.{utf8}
+use Rattle.xml_grammar.proofs.of_xml_chars.CharLaws.{start-scalar}
 use Rattle.xml_grammar.specs.Grammar.{Spaces, Name, name_of, data_of, Attributes, Element, empty, pair, Content, last-data, child, beside}
 use Rattle.xml_machine.specs.State.{Here, Next, tag, name, b0}
 use Rattle.xml_machine.specs.Machine.{char}

@@ -3,7 +3,7 @@ use Prim.Native.Nat.{ℕ}
 use mathlib.Core.Path.{◌≡◌, refl, ap}
 use mathlib.Core.List.{List, [], ◌∷◌, ◌++◌}
 use mathlib.Core.Bool.{true}
-use Rattle.xml_chars.specs.Chars.{is_space, lower}
+use Rattle.xml_grammar.specs.of_xml_chars.Chars.{is_space, lower}
 use Rattle.xml_grammar.specs.Grammar.{no_char, a-char, Miscs, last-space, undeclared}
 use Rattle.xml_grammar.specs.Grammar as grammar
 use Rattle.xml_grammar.specs.Documents as documents

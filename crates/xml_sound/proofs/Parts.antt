@@ -4,8 +4,8 @@ use mathlib.Core.Path.{◌≡◌}
 use mathlib.Core.List.{List, [], ◌∷◌, ◌++◌, map}
 use mathlib.Core.Bool.{Bool, true, ◌&&◌}
 use lib.Dec.{ltb, eqb}
-use Rattle.names.specs.Bytes.{bytes}
-use Rattle.xml_chars.specs.Chars.{is_in, any_char, name_char, is_space, is_digit, is_hex, lower, Quote, mark}
+use Rattle.xml_grammar.specs.of_names.Bytes.{bytes}
+use Rattle.xml_grammar.specs.of_xml_chars.Chars.{is_in, any_char, name_char, is_space, is_digit, is_hex, lower, Quote, mark}
 use Rattle.xml_grammar.specs.Grammar.{Many, lacks, Spaces, Referred, Value, Attributes, in_data_of, Remark, Misc, Beside, Element, Content, Declares, Maybe, Version, Encoding, Standalone, Prolog}
 use Rattle.xml_machine.specs.State.{Brackets, b0, b1, b2, Letters, x0, x1, x2, x3, Place, before, after, inside, InMisc, bang, dash, remark0, remark1, remark2, target, named, pi_data, pi_query, pi_close, InRef, ampersand, ref_name, hash, digits, hash_x, hexes}
 use Rattle.xml_machine.specs.State.{Item, version, encoding, standalone, InDecl, opening, equals, quoting, point, digit, letters, choice, chosen, valued, between}

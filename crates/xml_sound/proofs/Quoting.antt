@@ -3,7 +3,7 @@ use Prim.Native.Nat.{ℕ}
 use mathlib.Core.Path.{◌≡◌, refl}
 use mathlib.Core.List.{List, ◌∷◌}
 use mathlib.Core.Bool.{true}
-use Rattle.xml_chars.specs.Chars.{is_space, Quote, single, double, mark}
+use Rattle.xml_grammar.specs.of_xml_chars.Chars.{is_space, Quote, single, double, mark}
 use Rattle.xml_grammar.specs.Grammar.{no_char, a-char}
 use Rattle.xml_machine.specs.State.{State, Act, no}
 use Rattle.xml_machine.specs.Machine.{spaced, only, quoted}

@@ -3,9 +3,9 @@ use Prim.Native.Nat.{ℕ}
 use mathlib.Core.Path.{◌≡◌, refl}
 use mathlib.Core.List.{List, [], ◌∷◌}
 use mathlib.Core.Bool.{Bool, true}
-use Rattle.xml_chars.specs.Chars.{is_in, name_start, name_char, is_digit, is_hex}
-use Rattle.xml_chars.specs.Bytes.{whole}
-use Rattle.xml_chars.proofs.CharLaws.{start-scalar, name-scalar, digit_low, hex-low}
+use Rattle.xml_grammar.specs.of_xml_chars.Chars.{is_in, name_start, name_char, is_digit, is_hex}
+use Rattle.xml_grammar.specs.of_xml_chars.Bytes.{whole}
+use Rattle.xml_grammar.proofs.of_xml_chars.CharLaws.{start-scalar, name-scalar, digit_low, hex-low}
 use Rattle.xml_grammar.specs.Grammar.{Many, no_char, a-char, chars, name_of, entity, decimal, hexadecimal}
 use Rattle.xml_machine.specs.State.{Stay, Host, content, attribute, ref, InRef, ampersand, ref_name, hash, digits, hash_x, hexes}
 use Rattle.xml_machine.specs.Machine.{only, ref_end, in_ref}

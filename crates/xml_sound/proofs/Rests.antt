@@ -3,9 +3,9 @@ use Prim.Native.Nat.{ℕ}
 use mathlib.Core.Path.{◌≡◌}
 use mathlib.Core.List.{List, [], ◌∷◌, ◌++◌}
 use mathlib.Core.Bool.{true}
-use Rattle.xml_chars.specs.Chars.{Range, is_in, name_char}
-use Rattle.xml_chars.specs.Bytes.{utf8, Left, Part, whole, part}
-use Rattle.xml_chars.proofs.Encoding.{tail, Inside}
+use Rattle.xml_grammar.specs.of_xml_chars.Chars.{Range, is_in, name_char}
+use Rattle.xml_grammar.specs.of_xml_chars.Bytes.{utf8, Left, Part, whole, part}
+use Rattle.xml_grammar.proofs.of_xml_chars.Encoding.{tail, Inside}
 use Rattle.xml_grammar.specs.Grammar.{Many, Spaces, Attributes, Miscs, Element, Prolog}
 use Rattle.xml_grammar.specs.Documents.{Mark}
 use Rattle.xml_machine.specs.State.{State, fresh, marked, lt_first, heading, decl, literal, prolog, epilog, text, lt, misc, section, ref, tag, ending, end_space, Brackets, b0, Place, before, after, inside, Host, content, attribute}

@@ -3,8 +3,8 @@ use Prim.Native.Nat.{ℕ}
 use mathlib.Core.Path.{◌≡◌, refl}
 use mathlib.Core.List.{List, ◌∷◌}
 use mathlib.Core.Bool.{true}
-use Rattle.xml_chars.specs.Chars.{crosses, is_in, any_char}
-use Rattle.xml_chars.proofs.CharLaws.{in-scalar}
+use Rattle.xml_grammar.specs.of_xml_chars.Chars.{crosses, is_in, any_char}
+use Rattle.xml_grammar.proofs.of_xml_chars.CharLaws.{in-scalar}
 use Rattle.xml_grammar.specs.Grammar.{no_char, a-char, Beside}
 use Rattle.xml_grammar.specs.Grammar as grammar
 use Rattle.xml_machine.specs.State.{Stay, section, Brackets, b0, b1, b2}

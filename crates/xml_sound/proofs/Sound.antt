@@ -3,7 +3,7 @@ use Prim.Native.Nat.{ℕ}
 use mathlib.Core.Path.{◌≡◌, refl, ap, ◌∙◌}
 use mathlib.Core.List.{List, [], ◌∷◌, ◌++◌, append-nil}
 use mathlib.Core.Bool.{true, false≢true}
-use Rattle.xml_chars.specs.Bytes.{utf8, whole, part}
+use Rattle.xml_grammar.specs.of_xml_chars.Bytes.{utf8, whole, part}
 use Rattle.xml_grammar.specs.Grammar.{Miscs, no_char, last-space, Element, Prolog, Document, document}
 use Rattle.xml_grammar.specs.Documents.{Mark, WellFormed}
 use Rattle.xml_machine.specs.State as state

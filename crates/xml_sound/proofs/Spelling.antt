@@ -5,8 +5,8 @@ use mathlib.Core.List.{List, [], ◌∷◌, ◌++◌, append_assoc, append-nil}
 use mathlib.Core.Bool.{true, and-eq-true_iff}
 use lib.Dec.{ltb}
 use borrow.Author.Tests.{ltb-true}
-use Rattle.utf8.specs.Characters.{encode}
-use Rattle.xml_chars.specs.Bytes.{utf8}
+use Rattle.xml_grammar.specs.of_utf8.Characters.{encode}
+use Rattle.xml_grammar.specs.of_xml_chars.Bytes.{utf8}
 use Rattle.xml_sound.proofs.Then.{Then, upto, take-char, take-byte, each}
 use Rattle.xml_sound.proofs.Parts.{ascii}
 use Rattle.xml_sound.proofs.Rests.{Spelt, spelt}

@@ -3,11 +3,11 @@ use Prim.Native.Nat.{ℕ, ◌<◌}
 use mathlib.Core.Path.{◌≡◌, refl, sym, ap, ◌∙◌, subst}
 use mathlib.Core.List.{List, [], ◌∷◌, ◌++◌, append_assoc, append-nil}
 use mathlib.Core.Bool.{true}
-use Rattle.utf8.specs.Characters.{encode}
-use Rattle.xml_chars.specs.Chars.{Range, is_in, any_char, name_start, name_char, is_space, Quote, single, double, mark}
-use Rattle.xml_chars.specs.Bytes.{utf8, Left, Part, whole, part}
-use Rattle.xml_chars.proofs.CharLaws.{in-scalar, start-scalar, name-scalar}
-use Rattle.xml_chars.proofs.Encoding.{tail}
+use Rattle.xml_grammar.specs.of_utf8.Characters.{encode}
+use Rattle.xml_grammar.specs.of_xml_chars.Chars.{Range, is_in, any_char, name_start, name_char, is_space, Quote, single, double, mark}
+use Rattle.xml_grammar.specs.of_xml_chars.Bytes.{utf8, Left, Part, whole, part}
+use Rattle.xml_grammar.proofs.of_xml_chars.CharLaws.{in-scalar, start-scalar, name-scalar}
+use Rattle.xml_grammar.proofs.of_xml_chars.Encoding.{tail}
 use Rattle.xml_grammar.specs.Grammar.{no_char, a-char, chars, name_of, Referred, in_value, no_value, value-char, value-ref, Attributes, no-attribute, attribute}
 use Rattle.xml_machine.specs.State.{Act, Stay, Mark, Here, Name, NameStart, Start, Key, no, tag, InTag, name, gap, slash, key, key_eq, quote, value, value_end}
 use Rattle.xml_machine.specs.Machine.{shut, only, spaced, behind, in_tag, grown, follow}

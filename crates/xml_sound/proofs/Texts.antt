@@ -3,9 +3,9 @@ use Prim.Native.Nat.{ℕ}
 use mathlib.Core.Path.{◌≡◌, refl}
 use mathlib.Core.List.{List, [], ◌∷◌, ◌++◌}
 use mathlib.Core.Bool.{true}
-use Rattle.names.specs.Bytes.{bytes}
-use Rattle.xml_chars.specs.Chars.{crosses, any_char}
-use Rattle.xml_chars.proofs.CharLaws.{in-scalar}
+use Rattle.xml_grammar.specs.of_names.Bytes.{bytes}
+use Rattle.xml_grammar.specs.of_xml_chars.Chars.{crosses, any_char}
+use Rattle.xml_grammar.proofs.of_xml_chars.CharLaws.{in-scalar}
 use Rattle.xml_grammar.specs.Grammar.{Referred, no_char, a-char, lacks, in_data_of, Beside, reference, Element}
 use Rattle.xml_machine.specs.State.{Stay, text, Brackets, b0, b1, b2, inside}
 use Rattle.xml_machine.specs.Machine.{more, angle, in_text}

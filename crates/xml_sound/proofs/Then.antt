@@ -5,9 +5,9 @@ use mathlib.Core.List.{List, [], ◌∷◌, ◌++◌, append_assoc}
 use mathlib.Core.Bool.{true}
 use lib.Dec.{ltb}
 use borrow.Author.Tests.{ltb-true}
-use Rattle.utf8.specs.Characters.{encode}
-use Rattle.xml_chars.specs.Bytes.{utf8}
-use Rattle.xml_chars.proofs.Encoding.{encode-1, utf8_append}
+use Rattle.xml_grammar.specs.of_utf8.Characters.{encode}
+use Rattle.xml_grammar.specs.of_xml_chars.Bytes.{utf8}
+use Rattle.xml_grammar.proofs.of_xml_chars.Encoding.{encode-1, utf8_append}
 
 pub data Then (P R : List ℕ → Type 0) (t : List ℕ) : Type 0 where
   upto : (s u : List ℕ) → P s → t ≡ utf8 s ++ u → R u → Then P R t

@@ -1,6 +1,6 @@
 -- The tokenizer's answer and the two areas that it leaves, as `tokens` has them. Definitions only.
 use Rattle.std.specs.Prelude.{ℕ, List}
-use Rattle.xml_machine.specs.Tokens.{Result, Answer, done-with, refused}
+use Rattle.xml_stack.specs.of_xml_machine.Tokens.{Result, Answer, done-with, refused}
 use Rattle.xml_state.specs.declared.Tokenized.{Tokenized}
 use Rattle.xml_state.specs.declared.Tokenized.TheVariants.{Table, Refused}
 

@@ -1,6 +1,8 @@
 // What the tokenizer keeps between two bytes, and what its parts answer.
 #![tactic(auto)]
 
+pub use xml_stack::{the_area, the_refusal};
+
 pub mod class;
 pub mod mode;
 

@@ -8,13 +8,13 @@ use borrow.Author.Tests.{ltb-true, ltb-false}
 use lib.Dec.{ltb, eqb-suc-zero}
 use lib.ListN.{length, take, drop, length-append, length-drop, length-map}
 use lib.Seq.{drop-append-le, take-append-le, drop-length, take_all}
-use Rattle.table.specs.Kinds as kind
-use Rattle.table.specs.Event as table
-use Rattle.table.specs.Event.{Event, Tag, Piece, part, event_of}
-use Rattle.xml_grammar.specs.Events.{numbered}
-use Rattle.xml_machine.specs.State.{Act, Stay, Mark, Here, EndText, TextMark, Name, NameStart, NameEnd, Start, Empty, End, Key, Value, Ref, Comment, Pi, CData}
-use Rattle.xml_machine.specs.Tokens.{Rec, rec, unless0, over, Marks, marking, marks_by, nothing, event, attribute, due, Kept}
-use Rattle.xml_machine.specs.inside.Saying.{Said, less, text_said, marks, tells, saying}
+use Rattle.xml_complete.specs.of_table.Kinds as kind
+use Rattle.xml_complete.specs.of_table.Event as table
+use Rattle.xml_complete.specs.of_table.Event.{Event, Tag, Piece, part, event_of}
+use Rattle.xml_complete.specs.of_xml_grammar.Events.{numbered}
+use Rattle.xml_complete.specs.of_xml_machine.State.{Act, Stay, Mark, Here, EndText, TextMark, Name, NameStart, NameEnd, Start, Empty, End, Key, Value, Ref, Comment, Pi, CData}
+use Rattle.xml_complete.specs.of_xml_machine.Tokens.{Rec, rec, unless0, over, Marks, marking, marks_by, nothing, event, attribute, due, Kept}
+use Rattle.xml_complete.specs.of_xml_machine.inside.Saying.{Said, less, text_said, marks, tells, saying}
 use Rattle.xml_tokens.specs.Due.{attributes_in}
 use Rattle.xml_tokens.proofs.Rooms.{put, put_count}
 use Rattle.xml_tokens.proofs.Flat.{attribute_of, event_from, Each, EventIn, each_append}

@@ -8,11 +8,11 @@ use native.Mathlib.Omega.{arith}
 use borrow.Author.Tests.{ltb-true, ltb-false, leb-true, leb-false}
 use lib.Dec.{leb, ltb}
 use lib.ListN.{length}
-use Rattle.refusal.specs.Refusal.{nowhere}
-use Rattle.area.specs.Limits.{most_bytes}
-use Rattle.xml_machine.specs.State.{fresh}
-use Rattle.xml_machine.specs.Runs.{Verdict, accepted, bad, doctype, verdict}
-use Rattle.xml_machine.specs.Tokens.{no_marks, Room, Kept, nothing_kept, Out, read, refuse, records, refused, Result, resulting, room_of, rooms, tokens}
+use Rattle.xml_complete.specs.of_refusal.Refusal.{nowhere}
+use Rattle.xml_complete.specs.of_area.Limits.{most_bytes}
+use Rattle.xml_complete.specs.of_xml_machine.State.{fresh}
+use Rattle.xml_complete.specs.of_xml_machine.Runs.{Verdict, accepted, bad, doctype, verdict}
+use Rattle.xml_complete.specs.of_xml_machine.Tokens.{no_marks, Room, Kept, nothing_kept, Out, read, refuse, records, refused, Result, resulting, room_of, rooms, tokens}
 use Rattle.xml_tokens.specs.Due.{events_due, attributes_due}
 use Rattle.xml_tokens.proofs.Rooms.{all_due, fits, ended, fitted, kept_of, run-fitted}
 

@@ -3,10 +3,10 @@ use Prim.Native.Nat.{ℕ}
 use mathlib.Core.Path.{◌≡◌, refl}
 use mathlib.Core.List.{List, [], ◌∷◌, ◌++◌}
 use lib.ListN.{length}
-use Rattle.names.specs.Bytes.{bytes}
-use Rattle.xml_chars.specs.Chars.{crosses, lower}
-use Rattle.xml_chars.specs.Bytes.{fits}
-use Rattle.xml_machine.specs.Machine.{begun, char, follow, in_text, in_section, in_ref, in_target, in_misc, in_heading, in_decl, behind, in_tag, in_lt, step}
+use Rattle.xml_complete.specs.of_names.Bytes.{bytes}
+use Rattle.xml_complete.specs.of_xml_chars.Chars.{crosses, lower}
+use Rattle.xml_complete.specs.of_xml_chars.Bytes.{fits}
+use Rattle.xml_complete.specs.of_xml_machine.Machine.{begun, char, follow, in_text, in_section, in_ref, in_target, in_misc, in_heading, in_decl, behind, in_tag, in_lt, step}
 use Rattle.xml_tokens.specs.Due.{due_from, due_in_of, events_due, attributes_due}
 
 -- the events that are due in each of these

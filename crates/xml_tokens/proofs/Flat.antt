@@ -9,14 +9,14 @@ use borrow.Author.Tests.{le-leb, eq-eqb}
 use lib.Dec.{leb, eqb, eqb-suc-zero}
 use lib.ListN.{length, get_or, take, drop, replicate}
 use lib.Seq.{take_at, drop_at, drop-drop, drop-nil}
-use Rattle.refusal.specs.Refusal.{nowhere}
-use Rattle.area.specs.Limits.{most_entries, most_bytes}
-use Rattle.table.specs.Event.{Attribute, Event, part, attribute_at, attributes_from, event_of, event_at, resolve_from, resolve}
-use Rattle.table.specs.Table.{word, count_of, good_attribute, good_shape, bad_from, check_event, and_then, check_from, good_sizes, check_of}
-use Rattle.table.specs.declared.Checked.{Checked}
-use Rattle.table.specs.declared.Checked.TheVariants.{Good, Bad}
-use Rattle.table.proofs.Words.{word_at}
-use Rattle.xml_machine.specs.Tokens.{Rec, rec, flat, laid_out}
+use Rattle.xml_complete.specs.of_refusal.Refusal.{nowhere}
+use Rattle.xml_complete.specs.of_area.Limits.{most_entries, most_bytes}
+use Rattle.xml_complete.specs.of_table.Event.{Attribute, Event, part, attribute_at, attributes_from, event_of, event_at, resolve_from, resolve}
+use Rattle.xml_complete.specs.of_table.Table.{word, count_of, good_attribute, good_shape, bad_from, check_event, and_then, check_from, good_sizes, check_of}
+use Rattle.xml_complete.specs.of_table.declared.Checked.{Checked}
+use Rattle.xml_complete.specs.of_table.declared.Checked.TheVariants.{Good, Bad}
+use Rattle.xml_complete.proofs.of_table.Words.{word_at}
+use Rattle.xml_complete.specs.of_xml_machine.Tokens.{Rec, rec, flat, laid_out}
 
 -- ---- words
 pub flat-length : (rs : List Rec) → length (flat rs) ≡ length rs * 5

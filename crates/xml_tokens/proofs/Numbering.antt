@@ -4,8 +4,8 @@ use mathlib.Core.Path.{◌≡◌, refl, sym, ap, ◌∙◌}
 use mathlib.Core.List.{List, [], ◌∷◌, ◌++◌}
 use native.Mathlib.Omega.{arith}
 use lib.ListN.{length}
-use Rattle.table.specs.Event.{Event, Tag, Piece, Eof, Fault}
-use Rattle.xml_grammar.specs.Events.{numbered}
+use Rattle.xml_complete.specs.of_table.Event.{Event, Tag, Piece, Eof, Fault}
+use Rattle.xml_complete.specs.of_xml_grammar.Events.{numbered}
 use Rattle.xml_tokens.specs.Due.{attributes_in}
 
 pub numbered-append : (j : ℕ) (es fs : List Event) → numbered j (es ++ fs) ≡ numbered j es ++ numbered (j + attributes_in es) fs

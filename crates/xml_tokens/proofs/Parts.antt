@@ -7,9 +7,9 @@ use native.Mathlib.Omega.{arith}
 use lib.Dec.{eqb-suc-zero}
 use lib.ListN.{length, take, drop, length-take, length-drop}
 use lib.Seq.{take-add, take-take, drop-drop}
-use Rattle.table.specs.Event.{part}
-use Rattle.xml_machine.specs.Tokens.{unless0}
-use Rattle.xml_machine.specs.inside.Saying.{less}
+use Rattle.xml_complete.specs.of_table.Event.{part}
+use Rattle.xml_complete.specs.of_xml_machine.Tokens.{unless0}
+use Rattle.xml_complete.specs.of_xml_machine.inside.Saying.{less}
 
 module _ (source : List ℕ) where
   pub part-grows : (mark at b : ℕ) (t : List ℕ) → mark ≤ at → drop at source ≡ b ∷ t → part source mark (at + 1 - mark) ≡ part source mark (at - mark) ++ (b ∷ [])

@@ -7,13 +7,13 @@ use mathlib.Core.Logic.{inl, inr}
 use native.Mathlib.Omega.{arith}
 use lib.Dec.{ltb, eqb-suc-zero}
 use lib.ListN.{length}
-use Rattle.table.specs.Kinds as kind
-use Rattle.xml_machine.specs.State as state
-use Rattle.xml_machine.specs.State.{State, fresh, marked, lt_first, heading, decl, literal, prolog, epilog, text, lt, misc, section, ref, tag, ending, end_space}
-use Rattle.xml_machine.specs.State.{Act, Stay, Mark, Here, EndText, TextMark, Name, NameStart, NameEnd, Start, Empty, End, Key, Value, Ref, Comment, Pi, CData, Next}
-use Rattle.xml_machine.specs.Machine.{step}
-use Rattle.xml_machine.specs.Runs.{Verdict, accepted, bad, doctype, verdict}
-use Rattle.xml_machine.specs.Tokens.{Rec, rec, unless0, over, Marks, no_marks, marks_by, Due, nothing, event, attribute, text_due, due, open_run}
+use Rattle.xml_complete.specs.of_table.Kinds as kind
+use Rattle.xml_complete.specs.of_xml_machine.State as state
+use Rattle.xml_complete.specs.of_xml_machine.State.{State, fresh, marked, lt_first, heading, decl, literal, prolog, epilog, text, lt, misc, section, ref, tag, ending, end_space}
+use Rattle.xml_complete.specs.of_xml_machine.State.{Act, Stay, Mark, Here, EndText, TextMark, Name, NameStart, NameEnd, Start, Empty, End, Key, Value, Ref, Comment, Pi, CData, Next}
+use Rattle.xml_complete.specs.of_xml_machine.Machine.{step}
+use Rattle.xml_complete.specs.of_xml_machine.Runs.{Verdict, accepted, bad, doctype, verdict}
+use Rattle.xml_complete.specs.of_xml_machine.Tokens.{Rec, rec, unless0, over, Marks, no_marks, marks_by, Due, nothing, event, attribute, text_due, due, open_run}
 use Rattle.xml_tokens.specs.Due.{counted, due_by, due_from, events_due, attributes_due}
 use Rattle.xml_tokens.proofs.Rooms.{last_due, all_due}
 use Rattle.xml_tokens.proofs.Flat.{Each, AttributeIn, EventIn}

@@ -7,13 +7,13 @@ use native.Mathlib.Omega.{arith}
 use borrow.Author.Tests.{ltb-true, ltb-false, le-leb, lt-leb}
 use lib.Dec.{leb, ltb}
 use lib.ListN.{length, length-append}
-use Rattle.refusal.specs.Refusal.{nowhere}
-use Rattle.table.specs.Kinds as kind
-use Rattle.xml_machine.specs.State as state
-use Rattle.xml_machine.specs.State.{State, fresh, Next}
-use Rattle.xml_machine.specs.Machine.{step, done}
-use Rattle.xml_machine.specs.Runs.{Verdict, accepted, bad, doctype, is_doctype, blame, ahead, judge, verdict}
-use Rattle.xml_machine.specs.Tokens.{rec, Marks, no_marks, marks_by, Due, nothing, event, attribute, due, open_run, Room, Kept, nothing_kept, Out, read, refuse, keep, close, blamed, onward, records}
+use Rattle.xml_complete.specs.of_refusal.Refusal.{nowhere}
+use Rattle.xml_complete.specs.of_table.Kinds as kind
+use Rattle.xml_complete.specs.of_xml_machine.State as state
+use Rattle.xml_complete.specs.of_xml_machine.State.{State, fresh, Next}
+use Rattle.xml_complete.specs.of_xml_machine.Machine.{step, done}
+use Rattle.xml_complete.specs.of_xml_machine.Runs.{Verdict, accepted, bad, doctype, is_doctype, blame, ahead, judge, verdict}
+use Rattle.xml_complete.specs.of_xml_machine.Tokens.{rec, Marks, no_marks, marks_by, Due, nothing, event, attribute, due, open_run, Room, Kept, nothing_kept, Out, read, refuse, keep, close, blamed, onward, records}
 use Rattle.xml_tokens.specs.Due.{counted, due_by, due_from, due_in_of, events_due, attributes_due}
 
 -- Eof ends the table of a document alone

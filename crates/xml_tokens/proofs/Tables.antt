@@ -8,16 +8,16 @@ use native.Mathlib.Omega.{arith}
 use borrow.Author.Tests.{ltb-true, ltb-false}
 use lib.Dec.{ltb}
 use lib.ListN.{length, take, length-map}
-use Rattle.area.specs.Limits.{most_entries, most_bytes}
-use Rattle.table.specs.Event.{Eof, resolve}
-use Rattle.table.specs.Table.{check_of}
-use Rattle.table.specs.declared.Checked.TheVariants.{Good}
-use Rattle.xml_grammar.specs.Events.{numbered, document_of}
-use Rattle.xml_grammar.specs.Documents.{WellFormed, events_of}
-use Rattle.xml_machine.specs.State.{epilog}
-use Rattle.xml_machine.specs.Runs.{Verdict, accepted, bad, doctype, verdict}
-use Rattle.xml_machine.specs.Tokens.{Rec, read, done-with, Result, resulting, room_of, flat, tokens}
-use Rattle.xml_machine.specs.inside.Saying.{text_said}
+use Rattle.xml_complete.specs.of_area.Limits.{most_entries, most_bytes}
+use Rattle.xml_complete.specs.of_table.Event.{Eof, resolve}
+use Rattle.xml_complete.specs.of_table.Table.{check_of}
+use Rattle.xml_complete.specs.of_table.declared.Checked.TheVariants.{Good}
+use Rattle.xml_complete.specs.of_xml_grammar.Events.{numbered, document_of}
+use Rattle.xml_complete.specs.of_xml_grammar.Documents.{WellFormed, events_of}
+use Rattle.xml_complete.specs.of_xml_machine.State.{epilog}
+use Rattle.xml_complete.specs.of_xml_machine.Runs.{Verdict, accepted, bad, doctype, verdict}
+use Rattle.xml_complete.specs.of_xml_machine.Tokens.{Rec, read, done-with, Result, resulting, room_of, flat, tokens}
+use Rattle.xml_complete.specs.of_xml_machine.inside.Saying.{text_said}
 use Rattle.xml_complete.proofs.Complete.{complete}
 use Rattle.xml_tokens.specs.Due.{events_due, attributes_due, attributes_in}
 use Rattle.xml_tokens.proofs.Rooms.{all_due, ended, kept_of}

@@ -8,14 +8,14 @@ use native.Mathlib.Omega.{arith}
 use lib.Dec.{ltb}
 use lib.ListN.{length, drop}
 use lib.Seq.{drop-drop}
-use Rattle.table.specs.Kinds as kind
-use Rattle.table.specs.Event.{Eof, event_of}
-use Rattle.xml_machine.specs.State as state
-use Rattle.xml_machine.specs.State.{State, fresh, marked, lt_first, heading, decl, literal, prolog, epilog, text, lt, misc, section, ref, tag, ending, end_space, Next}
-use Rattle.xml_machine.specs.Machine.{step, done}
-use Rattle.xml_machine.specs.Runs.{Verdict, accepted, bad, blame, ahead, judge, verdict}
-use Rattle.xml_machine.specs.Tokens.{Rec, rec, over, Marks, no_marks, marks_by, Due, nothing, event, text_due, due, open_run, Kept, nothing_kept}
-use Rattle.xml_machine.specs.inside.Saying.{Said, unsaid, text_said, saying, Telling, telling, onto, tell, told}
+use Rattle.xml_complete.specs.of_table.Kinds as kind
+use Rattle.xml_complete.specs.of_table.Event.{Eof, event_of}
+use Rattle.xml_complete.specs.of_xml_machine.State as state
+use Rattle.xml_complete.specs.of_xml_machine.State.{State, fresh, marked, lt_first, heading, decl, literal, prolog, epilog, text, lt, misc, section, ref, tag, ending, end_space, Next}
+use Rattle.xml_complete.specs.of_xml_machine.Machine.{step, done}
+use Rattle.xml_complete.specs.of_xml_machine.Runs.{Verdict, accepted, bad, blame, ahead, judge, verdict}
+use Rattle.xml_complete.specs.of_xml_machine.Tokens.{Rec, rec, over, Marks, no_marks, marks_by, Due, nothing, event, text_due, due, open_run, Kept, nothing_kept}
+use Rattle.xml_complete.specs.of_xml_machine.inside.Saying.{Said, unsaid, text_said, saying, Telling, telling, onto, tell, told}
 use Rattle.xml_tokens.specs.Due.{counted, due_by, due_from, due_in_of, attributes_in}
 use Rattle.xml_tokens.proofs.Rooms.{last_due, put, put_all, put_then, put-none, put_count, kept_of}
 use Rattle.xml_tokens.proofs.Ranges.{over-in, fresh-bounded}

@@ -1,10 +1,10 @@
 -- The records of a source as they come due, each at the last byte of what it tells of, closing mark included, whatever the rooms (rule N9).
 -- Definitions only.
 use Rattle.std.specs.Prelude.{ℕ, ◌+◌, List, [], ◌∷◌, length}
-use Rattle.table.specs.Event.{Event, Tag, Piece, Eof, Fault}
-use Rattle.xml_machine.specs.State.{State, fresh, Next, no, go}
-use Rattle.xml_machine.specs.Machine.{step}
-use Rattle.xml_machine.specs.Tokens.{Rec, Marks, no_marks, marks_by, Due, nothing, event, attribute, due, open_run}
+use Rattle.xml_complete.specs.of_table.Event.{Event, Tag, Piece, Eof, Fault}
+use Rattle.xml_complete.specs.of_xml_machine.State.{State, fresh, Next, no, go}
+use Rattle.xml_complete.specs.of_xml_machine.Machine.{step}
+use Rattle.xml_complete.specs.of_xml_machine.Tokens.{Rec, Marks, no_marks, marks_by, Due, nothing, event, attribute, due, open_run}
 
 -- the number of attributes, with what is due
 abbrev pub counted : ℕ → Due → ℕ

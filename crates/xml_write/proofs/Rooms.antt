@@ -5,8 +5,8 @@ use mathlib.Core.Bool.{Bool, true, false, ◌&&◌}
 use native.Mathlib.Omega.{arith}
 use borrow.Author.Tests.{ltb-true}
 use lib.Dec.{ltb}
-use Rattle.area.specs.Limits.{most_entries}
-use Rattle.xml_state.specs.inside.Puts.{room_for}
+use Rattle.xml_checks.specs.of_area.Limits.{most_entries}
+use Rattle.xml_checks.specs.of_xml_state.inside.Puts.{room_for}
 
 pub room_small : (n words : ℕ) → room_for n words ≡ true → n < 65536
 unfolding room_for

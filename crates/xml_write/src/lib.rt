@@ -2,14 +2,15 @@
 #![tactic(auto)]
 
 ghost use Rattle.std.specs.Prelude.{◌≡◌, ◌+◌, ◌<◌};
-ghost use Rattle.xml_stack.specs.Stack.{put_at};
-ghost use Rattle.xml_state.specs.inside.Registers.{with_count};
-ghost use Rattle.xml_state.specs.inside.Puts.{stepped, putting, put_over, put_tag, act_value};
+ghost use Rattle.xml_checks.specs.of_xml_stack.Stack.{put_at};
+ghost use Rattle.xml_checks.specs.of_xml_state.inside.Registers.{with_count};
+ghost use Rattle.xml_checks.specs.of_xml_state.inside.Puts.{stepped, putting, put_over, put_tag, act_value};
 
-use area::wide;
 use tree_record::put_field;
+pub use xml_checks as the_xml_checks;
+use xml_checks::the_area::wide;
+use xml_checks::the_xml_state::{State, Step};
 use xml_checks::{has_room, less, unless0};
-use xml_state::{State, Step};
 
 fn put_record(area: &mut [u32], n: u32, a: u32, b: u32, c: u32, d: u32, e: u32)
     ensures { area.new ≡ put_at area.old n a b c d e }

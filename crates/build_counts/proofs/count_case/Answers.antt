@@ -1,6 +1,6 @@
 use Rattle.build_counts.proofs.Counting.{counted_of}
 use Rattle.build_draft.specs.Parts.{counts_at}
-use Rattle.tree_counts.specs.Counts.{case_counts}
+use Rattle.build_draft.specs.of_tree_counts.Counts.{case_counts}
 use mathlib.Core.Path.{refl}
 use Rattle.build_counts.proofs.count_case.Goals as goal
 

@@ -1,6 +1,6 @@
 use mathlib.Core.Path.{refl}
 use borrow.Author.Tests.{eq-eqb, ne_eqb}
-use Rattle.refusal.specs.Refusal.{nowhere}
+use Rattle.tree_counts.specs.of_refusal.Refusal.{nowhere}
 use Rattle.build_draft.proofs.last_open.Goals as goal
 
 pub returns-then-b-eq-NOWHERE : goal.returns-then-b-eq-NOWHERE

@@ -1,9 +1,9 @@
 use Rattle.build_elements.proofs.Opening.{case_marks, case-refused, case-stopped, case-went}
 use Rattle.build_elements.proofs.Steps.{not_taken, was-taken}
-use Rattle.build_draft.specs.Calls.{marks}
-use Rattle.build_draft.specs.Draft.{Draft}
-use Rattle.tree_record.specs.Kinds as kind
-use Rattle.refusal.specs.Refusal.{nowhere}
+use Rattle.build_kinds.specs.of_build_draft.Calls.{marks}
+use Rattle.build_kinds.specs.of_build_draft.Draft.{Draft}
+use Rattle.build_kinds.specs.of_tree_record.Kinds as kind
+use Rattle.build_kinds.specs.of_refusal.Refusal.{nowhere}
 use Prim.Native.Nat.{ℕ}
 use mathlib.Core.Path.{ap, ◌∙◌}
 use mathlib.Core.Bool.{not}

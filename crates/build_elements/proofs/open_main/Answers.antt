@@ -1,6 +1,6 @@
 use Rattle.build_elements.proofs.Opening.{main_marks, main-stopped, no_main, main-went}
 use Rattle.build_elements.proofs.Steps.{not_taken, was-taken}
-use Rattle.build_draft.specs.Calls.{marks, main_kind}
+use Rattle.build_kinds.specs.of_build_draft.Calls.{marks, main_kind}
 use Prim.Native.Nat.{ℕ}
 use mathlib.Core.Path.{refl, ap, ◌∙◌}
 use Rattle.build_elements.proofs.open_main.Goals as goal

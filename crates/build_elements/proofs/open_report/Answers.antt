@@ -1,6 +1,6 @@
 use Rattle.build_elements.proofs.Opening.{report_marks, report-said}
 use Rattle.build_elements.proofs.Steps.{not_taken, was-taken}
-use Rattle.tree_record.specs.Kinds as kind
+use Rattle.build_kinds.specs.of_tree_record.Kinds as kind
 use mathlib.Core.Path.{◌∙◌}
 use Rattle.build_elements.proofs.open_report.Goals as goal
 

@@ -3,7 +3,7 @@ use mathlib.Core.Path.{refl}
 use Rattle.build_fields.proofs.Answering.{fails, passes}
 use Rattle.build_draft.proofs.Places.{record-back}
 use Rattle.build_draft.specs.Calls.{set_uuid}
-use Rattle.tree_put.specs.Put.{put_uuid}
+use Rattle.tree_values.specs.of_tree_put.Put.{put_uuid}
 use mathlib.Core.Path.{ap}
 use mathlib.Core.Bool.{not}
 use Rattle.build_fields.proofs.identify.Goals as goal

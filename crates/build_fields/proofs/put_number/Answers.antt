@@ -3,7 +3,7 @@ use mathlib.Core.Path.{refl, ap, ◌∙◌}
 use Rattle.build_fields.proofs.Answering.{fails, passes}
 use Rattle.build_draft.proofs.Places.{record-back}
 use Rattle.build_draft.specs.Parts.{put_number}
-use Rattle.tree_record.specs.Record.{marked}
+use Rattle.tree_values.specs.of_tree_record.Record.{marked}
 use mathlib.Core.Bool.{not}
 use Rattle.build_fields.proofs.put_number.Goals as goal
 

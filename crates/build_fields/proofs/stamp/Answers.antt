@@ -1,7 +1,7 @@
 use Rattle.build_draft.specs.Draft.{asks, draft_of}
 use Rattle.build_fields.proofs.Answering.{fails, passes}
 use Rattle.build_draft.proofs.Places.{record-back}
-use Rattle.tree_put.specs.Put.{put_moment}
+use Rattle.tree_values.specs.of_tree_put.Put.{put_moment}
 use mathlib.Core.Path.{refl}
 use mathlib.Core.Path.{ap}
 use mathlib.Core.Bool.{not}

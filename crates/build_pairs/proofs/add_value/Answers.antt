@@ -1,6 +1,6 @@
 use Rattle.build_pairs.proofs.Adding.{value-fits}
 use Rattle.build_pairs.specs.inside.Adding.{putting_kept}
-use Rattle.build_draft.proofs.Steps.{then-refused, then-done}
+use Rattle.build_kinds.proofs.of_build_draft.Steps.{then-refused, then-done}
 use mathlib.Core.Path.{◌∙◌}
 use Rattle.build_pairs.proofs.add_value.Goals as goal
 

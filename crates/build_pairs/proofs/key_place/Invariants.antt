@@ -1,4 +1,4 @@
-use Rattle.build_draft.specs.Parts.{key_place}
+use Rattle.build_kinds.specs.of_build_draft.Parts.{key_place}
 use mathlib.Core.Path.{◌≡◌}
 use Prim.Native.Nat.{◌-◌}
 use Rattle.build_pairs.proofs.key_place.Given as goal

@@ -1,7 +1,7 @@
-use Rattle.build_draft.proofs.Places.{record-back}
-use Rattle.tree_put.specs.Put.{put_text}
-use Rattle.tree_record.specs.Bits as bit
-use Rattle.tree_record.specs.Words as word
+use Rattle.build_kinds.proofs.of_build_draft.Places.{record-back}
+use Rattle.build_kinds.specs.of_tree_put.Put.{put_text}
+use Rattle.list_values.specs.of_tree_record.Bits as bit
+use Rattle.list_values.specs.of_tree_record.Words as word
 use mathlib.Core.Path.{ap, ◌∙◌}
 use Rattle.build_pairs.proofs.put_both.Goals as goal
 

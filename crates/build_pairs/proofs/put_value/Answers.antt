@@ -1,6 +1,6 @@
-use Rattle.build_draft.proofs.Places.{record-back}
-use Rattle.tree_put.specs.Put.{put_pair}
-use Rattle.tree_record.specs.Words as word
+use Rattle.build_kinds.proofs.of_build_draft.Places.{record-back}
+use Rattle.build_kinds.specs.of_tree_put.Put.{put_pair}
+use Rattle.list_values.specs.of_tree_record.Words as word
 use Rattle.build_pairs.proofs.put_value.Goals as goal
 
 pub returns : goal.returns

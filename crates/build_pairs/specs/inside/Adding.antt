@@ -1,12 +1,12 @@
 -- A property or extra whose texts are stored. Definitions only.
 use Rattle.std.specs.Prelude.{ℕ, ◌-◌, cond, take, drop, ltb}
-use Rattle.refusal.specs.Refusal.{Outcome, accepted}
-use Rattle.tree_record.specs.Words as word
-use Rattle.tree_put.specs.Put.{put_pair}
-use Rattle.build_draft.specs.declared.Builder.{Builder}
-use Rattle.build_draft.specs.Draft.{Draft, next, on_record_of, with_words}
-use Rattle.build_draft.specs.Parts.{taking, place_for}
-use Rattle.build_draft.specs.Calls.{old_place, put_pair_in}
+use Rattle.list_values.specs.of_refusal.Refusal.{Outcome, accepted}
+use Rattle.list_values.specs.of_tree_record.Words as word
+use Rattle.build_kinds.specs.of_tree_put.Put.{put_pair}
+use Rattle.build_kinds.specs.of_build_draft.declared.Builder.{Builder}
+use Rattle.build_kinds.specs.of_build_draft.Draft.{Draft, next, on_record_of, with_words}
+use Rattle.build_kinds.specs.of_build_draft.Parts.{taking, place_for}
+use Rattle.build_kinds.specs.of_build_draft.Calls.{old_place, put_pair_in}
 
 -- what the draft f becomes, which holds the key from the end of b's texts to before y and the value behind it
 abbrev pub putting_kept : ℕ → Builder → ℕ → Draft → Outcome Draft

@@ -1,5 +1,5 @@
 use Rattle.build_runs.proofs.Families.{family-runs, family-none}
-use Rattle.build_draft.proofs.Places.{record-part}
+use Rattle.build_records.proofs.of_build_draft.Places.{record-part}
 use Rattle.build_runs.proofs.family_of.Goals as goal
 
 pub returns-then-b : goal.returns-then-b

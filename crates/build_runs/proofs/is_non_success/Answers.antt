@@ -1,4 +1,4 @@
-use Rattle.build_draft.specs.Calls.{is_non_success}
+use Rattle.build_records.specs.of_build_draft.Calls.{is_non_success}
 use mathlib.Core.Path.{refl}
 use Rattle.build_runs.proofs.is_non_success.Goals as goal
 

@@ -1,7 +1,7 @@
-use Rattle.tree_record.specs.Record.{unmarked}
-use Rattle.tree_record.specs.Bits as bit
+use Rattle.build_records.specs.of_tree_record.Record.{unmarked}
+use Rattle.build_records.specs.of_tree_record.Bits as bit
 use Rattle.build_runs.proofs.Families.{no_main, to-main}
-use Rattle.build_draft.proofs.Places.{record-back}
+use Rattle.build_records.proofs.of_build_draft.Places.{record-back}
 use mathlib.Core.Path.{ap}
 use mathlib.Core.Bool.{not}
 use Rattle.build_runs.proofs.take_run.Goals as goal

@@ -1,4 +1,4 @@
-use Rattle.build_draft.specs.Parts.{turned_kind}
+use Rattle.build_records.specs.of_build_draft.Parts.{turned_kind}
 use lib.ListN.{set}
 use mathlib.Core.Path.{ap, ◌∙◌}
 use Rattle.build_runs.proofs.turn.Goals as goal

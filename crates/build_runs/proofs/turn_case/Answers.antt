@@ -1,6 +1,6 @@
 use Rattle.build_runs.proofs.Settings.{few-records, turns-none, turns-runs, turns-flag}
-use Rattle.build_draft.proofs.Places.{record-back}
-use Rattle.build_draft.specs.Calls.{flagged}
+use Rattle.build_records.proofs.of_build_draft.Places.{record-back}
+use Rattle.build_records.specs.of_build_draft.Calls.{flagged}
 use mathlib.Core.List.{[]}
 use mathlib.Core.Path.{ap}
 use mathlib.Core.Bool.{not}

@@ -1,6 +1,6 @@
 use Rattle.build_runs.proofs.Turning.{turning-start, turning-more, turning-done}
-use Rattle.build_draft.proofs.Places.{record-back}
-use Rattle.build_draft.specs.Parts.{turned}
+use Rattle.build_records.proofs.of_build_draft.Places.{record-back}
+use Rattle.build_records.specs.of_build_draft.Parts.{turned}
 use Prim.Native.Nat.{◌-◌}
 use Rattle.build_runs.proofs.turn_runs.Goals as goal
 

@@ -1,15 +1,15 @@
 -- A run of a case that has a main status element. Definitions only.
 use Rattle.std.specs.Prelude.{Bool, cond}
-use Rattle.refusal.specs.Refusal.{Outcome}
-use Rattle.refusal.specs.declared.Cause.TheVariants as cause
-use Rattle.tree_record.specs.Bits as bit
-use Rattle.tree_record.specs.Record.{unmarked}
-use Rattle.build_draft.specs.declared.NonSuccessKind.{NonSuccessKind}
-use Rattle.build_draft.specs.declared.FlakyOrRerun.{FlakyOrRerun}
-use Rattle.build_draft.specs.declared.FlakyOrRerun.TheVariants.{Flaky, Rerun}
-use Rattle.build_draft.specs.Draft.{Draft, asks, on_record_of, with_words}
-use Rattle.build_draft.specs.Parts.{taking, run_kind}
-use Rattle.build_draft.specs.Calls.{is_non_success, family_of}
+use Rattle.build_records.specs.of_refusal.Refusal.{Outcome}
+use Rattle.build_records.specs.of_refusal.declared.Cause.TheVariants as cause
+use Rattle.build_records.specs.of_tree_record.Bits as bit
+use Rattle.build_records.specs.of_tree_record.Record.{unmarked}
+use Rattle.build_records.specs.of_build_draft.declared.NonSuccessKind.{NonSuccessKind}
+use Rattle.build_records.specs.of_build_draft.declared.FlakyOrRerun.{FlakyOrRerun}
+use Rattle.build_records.specs.of_build_draft.declared.FlakyOrRerun.TheVariants.{Flaky, Rerun}
+use Rattle.build_records.specs.of_build_draft.Draft.{Draft, asks, on_record_of, with_words}
+use Rattle.build_records.specs.of_build_draft.Parts.{taking, run_kind}
+use Rattle.build_records.specs.of_build_draft.Calls.{is_non_success, family_of}
 
 abbrev pub family_by : Bool → FlakyOrRerun
 family_by is_flaky = cond is_flaky Flaky Rerun

@@ -1,5 +1,5 @@
 use Rattle.build_text.proofs.Putting.{put-nothing, record-behind, record-back}
-use Rattle.tree_put.specs.Put.{put_text}
+use Rattle.build_draft.specs.of_tree_put.Put.{put_text}
 use Rattle.build_text.proofs.put_into.Goals as goal
 
 pub returns-then-records-at : goal.returns-then-records-at

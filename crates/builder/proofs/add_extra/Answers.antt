@@ -1,6 +1,6 @@
-use Rattle.build_draft.proofs.Settling.{ends}
+use Rattle.build_elements.proofs.of_build_draft.Settling.{ends}
 use Rattle.builder.proofs.Ending.{of-kind}
-use Rattle.build_draft.specs.Calls.{add_extra}
+use Rattle.build_elements.specs.of_build_draft.Calls.{add_extra}
 use Rattle.builder.proofs.add_extra.Goals as goal
 
 pub returns : goal.returns

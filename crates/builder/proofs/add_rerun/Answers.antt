@@ -1,4 +1,4 @@
-use Rattle.build_draft.proofs.Settling.{ends}
+use Rattle.build_elements.proofs.of_build_draft.Settling.{ends}
 use mathlib.Core.Path.{refl}
 use Rattle.builder.proofs.add_rerun.Goals as goal
 

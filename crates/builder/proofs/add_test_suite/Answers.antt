@@ -1,7 +1,7 @@
-use Rattle.build_draft.proofs.Settling.{ends}
+use Rattle.build_elements.proofs.of_build_draft.Settling.{ends}
 use Rattle.builder.proofs.Ending.{behind}
-use Rattle.build_draft.specs.Calls.{add_test_suite}
-use Rattle.build_draft.specs.Parts.{naming}
+use Rattle.build_elements.specs.of_build_draft.Calls.{add_test_suite}
+use Rattle.build_elements.specs.of_build_draft.Parts.{naming}
 use mathlib.Core.Path.{◌∙◌}
 use Rattle.builder.proofs.add_test_suite.Goals as goal
 

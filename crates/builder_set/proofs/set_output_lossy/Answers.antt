@@ -1,4 +1,4 @@
-use Rattle.build_draft.proofs.Settling.{ends}
+use Rattle.build_text.proofs.of_build_draft.Settling.{ends}
 use Rattle.builder_set.proofs.set_output_lossy.Goals as goal
 
 pub returns : goal.returns

@@ -1,5 +1,5 @@
-use Rattle.build_draft.proofs.Settling.{ends}
-use Rattle.build_draft.specs.Calls.{set_timestamp}
+use Rattle.build_text.proofs.of_build_draft.Settling.{ends}
+use Rattle.build_text.specs.of_build_draft.Calls.{set_timestamp}
 use mathlib.Core.Path.{refl}
 use Rattle.builder_set.proofs.set_timestamp.Goals as goal
 

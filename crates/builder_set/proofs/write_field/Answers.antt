@@ -1,5 +1,5 @@
 use Rattle.builder_set.proofs.Writing.{apt-by, field-lacking, field_put}
-use Rattle.build_draft.specs.Draft.{Draft}
+use Rattle.build_text.specs.of_build_draft.Draft.{Draft}
 use mathlib.Core.Path.{ap}
 use mathlib.Core.Bool.{not}
 use Rattle.builder_set.proofs.write_field.Goals as goal

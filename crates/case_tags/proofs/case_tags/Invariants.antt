@@ -1,5 +1,5 @@
 use Prim.Native.Nat.{◌-◌}
-use Rattle.table.specs.Table.{count_of}
+use Rattle.table_events.specs.of_table.Table.{count_of}
 use Rattle.case_tags.proofs.Counting.{Counted}
 use Rattle.case_tags.proofs.case_tags.Given as goal
 

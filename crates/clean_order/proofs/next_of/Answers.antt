@@ -4,7 +4,7 @@ use mathlib.Core.Path.{refl, sym}
 use lib.Seq.{length-take-le}
 use native.Mathlib.Omega.{arith}
 use borrow.Author.Rules.{rules}
-use Rattle.text.proofs.Pieces.{piece_moves}
+use Rattle.text_key.proofs.of_text.Pieces.{piece_moves}
 use Rattle.clean_order.proofs.Passing.{passing-start, passing-done, passing-within, passing-more, passing-byte}
 use Rattle.clean_order.proofs.next_of.Goals as goal
 

@@ -1,7 +1,7 @@
 -- The order of attributes by their keys, or by what would be stored for these. Definitions only.
 use Rattle.std.specs.Prelude.{ℕ, List, Bool, cond}
-use Rattle.text.specs.Value.{value_text}
-use Rattle.table.specs.Event.{key_at}
+use Rattle.text_key.specs.of_text.Value.{value_text}
+use Rattle.key_order.specs.of_table.Event.{key_at}
 use Rattle.key_order.specs.inside.KeyOrder.{Comes, comes}
 
 -- the key of attribute j, or what would be stored for it

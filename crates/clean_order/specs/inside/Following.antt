@@ -1,6 +1,6 @@
 -- The bytes that would be stored for a key, one after the other. Definitions only.
 use Rattle.std.specs.Prelude.{ℕ, ◌≤◌, ◌<◌, ◌≡◌, List, ◌∷◌, length, drop}
-use Rattle.text.specs.Value.{value_text}
+use Rattle.text_key.specs.of_text.Value.{value_text}
 use Rattle.clean_order.specs.declared.Next.{Next}
 
 -- what is left at a place

@@ -1,6 +1,6 @@
 use lib.ListN.{length}
 use Rattle.area.proofs.Laying.{fits-put}
-use Rattle.refusal.specs.declared.Cause.TheVariants as cause
+use Rattle.area.specs.of_refusal.declared.Cause.TheVariants as cause
 use Rattle.copying.proofs.copy_into.Goals as goal
 
 pub returns : goal.returns

@@ -1,8 +1,8 @@
 use mathlib.Core.Path.{ap, ◌∙◌}
 use lib.ListN.{length}
-use Rattle.area.specs.Area.{placing, laid}
+use Rattle.utf8.specs.of_area.Area.{placing, laid}
 use Rattle.digits.proofs.Printing.{spelt}
-use Rattle.refusal.specs.declared.Cause.TheVariants as cause
+use Rattle.utf8.specs.of_refusal.declared.Cause.TheVariants as cause
 use Rattle.digits.proofs.write_digits.Goals as goal
 
 pub returns : goal.returns

@@ -1,9 +1,9 @@
 -- How the events of a written report come back from its XML document: with white space before tags, a text in pieces and with its Indent
 -- joined to it, other numbers of first attributes, and the last newline before Eof. Definitions only.
 use Rattle.std.specs.Prelude.{ℕ, ◌≡◌, List, [], ◌∷◌, ◌++◌, Bool, true, false, ◌||◌, eqb}
-use Rattle.area.specs.Answer.{gives}
-use Rattle.table.specs.Event.{Attribute, TagKind, Start, Empty, End, PieceKind, Text, Other, Indent, Event, Tag, Piece, Eof}
-use Rattle.tree_report.specs.Encode.{every}
+use Rattle.read_content.specs.of_area.Answer.{gives}
+use Rattle.read_content.specs.of_table.Event.{Attribute, TagKind, Start, Empty, End, PieceKind, Text, Other, Indent, Event, Tag, Piece, Eof}
+use Rattle.read_content.specs.of_tree_report.Encode.{every}
 use Rattle.read_content.specs.Content.{piece_of}
 
 -- newlines and the spaces of levels (rule W17)

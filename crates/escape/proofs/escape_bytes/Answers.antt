@@ -5,11 +5,11 @@ use mathlib.Core.List.{[], ◌∷◌}
 use mathlib.Core.Logic.{⊎_elim}
 use native.Mathlib.Omega.{arith}
 use lib.ListN.{get_or}
-use Rattle.area.proofs.Laying.{laying-start, laying_on, laying-put, laying-done, laying-full}
+use Rattle.copying.proofs.of_area.Laying.{laying-start, laying_on, laying-put, laying-done, laying-full}
 use Rattle.escape.specs.Escape.{letter, listed}
 use Rattle.escape.proofs.Spelling.{Coming, coming, spelled-end}
 use Rattle.escape.proofs.Escaping.{listed-marked, listed_plain}
-use Rattle.refusal.specs.declared.Cause.TheVariants as cause
+use Rattle.copying.specs.of_refusal.declared.Cause.TheVariants as cause
 use Rattle.escape.proofs.escape_bytes.Goals as goal
 use Rattle.escape.proofs.escape_bytes.Goals.{After-is_marked, Joined-is_marked, then-is_marked+else-out-k, else-is_marked}
 

@@ -1,6 +1,6 @@
 use Prim.Native.Nat.{◌-◌, ◌≤◌}
 use lib.ListN.{length, drop}
-use Rattle.area.proofs.Laying.{Laying}
+use Rattle.copying.proofs.of_area.Laying.{Laying}
 use Rattle.escape.specs.Escape.{escaped}
 use Rattle.escape.proofs.escape_bytes.Given as goal
 

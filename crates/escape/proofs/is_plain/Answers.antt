@@ -1,6 +1,6 @@
 use Prim.Native.Nat.{◌-◌}
 use mathlib.Core.Path.{refl}
-use Rattle.area.proofs.Sifting.{sifting-start, sifting-more, sifting-done}
+use Rattle.copying.proofs.of_area.Sifting.{sifting-start, sifting-more, sifting-done}
 use Rattle.escape.specs.Escape.{marked}
 use Rattle.escape.specs.inside.Plain.{plain}
 use Rattle.escape.proofs.is_plain.Goals as goal

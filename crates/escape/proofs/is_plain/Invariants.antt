@@ -1,6 +1,6 @@
 use Prim.Native.Nat.{◌-◌}
 use lib.ListN.{length}
-use Rattle.area.proofs.Sifting.{Sifting}
+use Rattle.copying.proofs.of_area.Sifting.{Sifting}
 use Rattle.escape.specs.inside.Plain.{plain}
 use Rattle.escape.proofs.is_plain.Given as goal
 

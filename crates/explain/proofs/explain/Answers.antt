@@ -1,7 +1,7 @@
 use mathlib.Core.Path.{◌≡◌, ap, ◌∙◌}
 use borrow.Author.Rules.{rules}
 use lib.ListN.{length}
-use Rattle.area.specs.Area.{zeros}
+use Rattle.explain_sentence.specs.of_area.Area.{zeros}
 use Rattle.explain.proofs.Answered.{whole-line, short-line}
 use Rattle.explain.proofs.explain.Goals as goal
 

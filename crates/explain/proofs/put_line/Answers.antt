@@ -1,5 +1,5 @@
 use mathlib.Core.Path.{◌∙◌}
-use Rattle.list_text.proofs.Putting.{more, other}
+use Rattle.explain_sentence.proofs.of_list_text.Putting.{more, other}
 use Rattle.explain.proofs.Line.{line-parts}
 use Rattle.explain.proofs.put_line.Goals as goal
 

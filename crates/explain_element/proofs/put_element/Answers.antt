@@ -1,5 +1,5 @@
 use mathlib.Core.Path.{sym, ◌∙◌}
-use Rattle.list_text.proofs.Putting.{more, other}
+use Rattle.explain_name.proofs.of_list_text.Putting.{more, other}
 use Rattle.explain_element.proofs.Parts.{with-name, with-attribute, plain}
 use Rattle.explain_element.proofs.put_element.Goals as goal
 

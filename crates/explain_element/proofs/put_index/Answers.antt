@@ -1,4 +1,4 @@
-use Rattle.list_text.proofs.Putting.{more, other, puts_none}
+use Rattle.explain_name.proofs.of_list_text.Putting.{more, other, puts_none}
 use Rattle.explain_element.proofs.Parts.{index-shown, index-none}
 use Rattle.explain_element.proofs.put_index.Goals as goal
 

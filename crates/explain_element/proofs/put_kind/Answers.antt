@@ -1,7 +1,7 @@
 use Prim.Native.Nat.{ℕ}
 use mathlib.Core.Path.{ap, ◌∙◌}
-use Rattle.list_text.proofs.Putting.{other}
-use Rattle.explain_lines.specs.Lines.{line_in}
+use Rattle.explain_name.proofs.of_list_text.Putting.{other}
+use Rattle.explain_name.specs.of_explain_lines.Lines.{line_in}
 use Rattle.explain_element.proofs.Parts.{kind_table, kind-at}
 use Rattle.explain_element.proofs.put_kind.Goals as goal
 

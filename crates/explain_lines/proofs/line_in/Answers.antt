@@ -3,7 +3,7 @@ use mathlib.Core.Path.{sym}
 use native.Mathlib.Omega.{arith}
 use lib.Seq.{length-take-le}
 use lib.ListN.{length, take, drop}
-use Rattle.area.proofs.Seeking.{first-within}
+use Rattle.table.proofs.of_area.Seeking.{first-within}
 use Rattle.explain_lines.proofs.Passing.{newline-within, passing-start, passing-more, passing-done}
 use Rattle.explain_lines.proofs.line_in.Goals as goal
 

@@ -1,8 +1,8 @@
 use Prim.Native.Nat.{ℕ}
 use mathlib.Core.List.{List}
 use mathlib.Core.Path.{ap, ◌∙◌}
-use Rattle.names.specs.Names.{same_bytes}
-use Rattle.names.specs.Bytes.{bytes}
+use Rattle.table_events.specs.of_names.Names.{same_bytes}
+use Rattle.table_events.specs.of_names.Bytes.{bytes}
 use Rattle.explain_name.proofs.is_name.Goals as goal
 
 pub returns : goal.returns

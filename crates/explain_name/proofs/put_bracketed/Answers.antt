@@ -1,5 +1,5 @@
 use mathlib.Core.Path.{sym, ◌∙◌}
-use Rattle.list_text.proofs.Putting.{more, other}
+use Rattle.explain_text.proofs.of_list_text.Putting.{more, other}
 use Rattle.explain_name.proofs.Showing.{not-shown, shown}
 use Rattle.explain_name.proofs.put_bracketed.Goals as goal
 

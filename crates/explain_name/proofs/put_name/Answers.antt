@@ -1,7 +1,7 @@
 use Prim.Native.Nat.{ℕ}
 use mathlib.Core.List.{List}
 use mathlib.Core.Path.{sym, ap, ◌∙◌}
-use Rattle.list_text.proofs.Putting.{other, puts_none}
+use Rattle.explain_text.proofs.of_list_text.Putting.{other, puts_none}
 use Rattle.explain_text.specs.Explanation.{text_of, bracketed}
 use Rattle.explain_name.proofs.Naming.{no_name, name-found, name-none}
 use Rattle.explain_name.proofs.put_name.Goals as goal

@@ -1,8 +1,8 @@
 -- The attribute whose key is `name`, by its number. Definitions only.
 use Rattle.std.specs.Prelude.{ℕ, zero, suc, ◌+◌, List, cond}
-use Rattle.names.specs.Bytes.{bytes}
-use Rattle.names.specs.Names.{same_bytes}
-use Rattle.table.specs.Event.{key_at}
+use Rattle.table_events.specs.of_names.Bytes.{bytes}
+use Rattle.table_events.specs.of_names.Names.{same_bytes}
+use Rattle.table_events.specs.of_table.Event.{key_at}
 
 -- of n attributes from number j on, the first with that key, or the number behind them
 unfoldable pub named_from : List ℕ → List ℕ → ℕ → ℕ → ℕ

@@ -1,6 +1,6 @@
 use Prim.Native.Nat.{◌-◌, ◌<◌, ◌≤◌}
 use native.Mathlib.Omega.{arith}
-use Rattle.list_text.proofs.Putting.{other}
+use Rattle.explain_element.proofs.of_list_text.Putting.{other}
 use Rattle.explain_place.proofs.Walking.{goes_on, at_most, walking_start, walking-more, walking-stop, whole-path}
 use Rattle.explain_place.proofs.put_path.Goals as goal
 use Rattle.explain_place.proofs.put_path.Goals.{In-loop-i}

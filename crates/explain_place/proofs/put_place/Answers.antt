@@ -1,4 +1,4 @@
-use Rattle.list_text.proofs.Putting.{more, other, puts_none}
+use Rattle.explain_element.proofs.of_list_text.Putting.{more, other, puts_none}
 use Rattle.explain_place.proofs.Placing.{no-event, event-alone, event-attribute}
 use Rattle.explain_place.proofs.put_place.Goals as goal
 

@@ -1,8 +1,8 @@
 use Prim.Native.Nat.{ℕ}
 use mathlib.Core.List.{List, ◌++◌}
 use mathlib.Core.Path.{ap}
-use Rattle.list_text.proofs.Putting.{more, other}
-use Rattle.explain_text.specs.Explanation.{element_text}
+use Rattle.explain_element.proofs.of_list_text.Putting.{more, other}
+use Rattle.explain_element.specs.of_explain_text.Explanation.{element_text}
 use Rattle.explain_place.proofs.Walking.{first-mark, other-mark}
 use Rattle.explain_place.proofs.put_step.Goals as goal
 

@@ -1,6 +1,6 @@
 -- What stands before a path element. Definitions only.
 use Rattle.std.specs.Prelude.{ℕ, List, cond, eqb}
-use Rattle.names.specs.Bytes.{bytes}
+use Rattle.explain_element.specs.of_names.Bytes.{bytes}
 
 -- the element with i before it
 abbrev pub mark_at : ℕ → List ℕ

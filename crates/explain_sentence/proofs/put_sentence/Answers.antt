@@ -1,6 +1,6 @@
 use Prim.Native.Nat.{ℕ}
 use mathlib.Core.Path.{ap, ◌∙◌}
-use Rattle.list_text.proofs.Putting.{other}
+use Rattle.explain_text.proofs.of_list_text.Putting.{other}
 use Rattle.explain_text.specs.Sentences.{sentence}
 use Rattle.explain_lines.specs.Lines.{line_in}
 use Rattle.explain_sentence.specs.inside.Place.{place_by}

@@ -1,11 +1,11 @@
 -- The places of the sentences in the code's table. Definitions only.
 use Rattle.std.specs.Prelude.{ℕ, cond, ◌&&◌, leb, eqb}
-use Rattle.area.specs.Limits.{most_words, most_bytes}
-use Rattle.refusal.specs.declared.Cause.{Cause}
-use Rattle.refusal.specs.declared.Cause.TheVariants.{XmlFault, EofInSkip, NotUtf8, BadInteger, BadTimestamp, BadTime, BadUuid, MissingAttribute, MissingReport, EofInElement, StatusRule}
-use Rattle.refusal.specs.declared.Cause.TheVariants.{UnknownEntity, FaultyAttribute, RepeatedKey, BadReference, BadTable, RecordsSpent}
-use Rattle.refusal.specs.declared.Cause.TheVariants.{TextFull, ScratchFull, NotLayout, OutputFull, CountLimit, TooManyCases, NoSuchReport}
-use Rattle.refusal.specs.declared.Cause.TheVariants.{TooManyReports, TimeLimit}
+use Rattle.explain_text.specs.of_area.Limits.{most_words, most_bytes}
+use Rattle.explain_text.specs.of_refusal.declared.Cause.{Cause}
+use Rattle.explain_text.specs.of_refusal.declared.Cause.TheVariants.{XmlFault, EofInSkip, NotUtf8, BadInteger, BadTimestamp, BadTime, BadUuid, MissingAttribute, MissingReport, EofInElement, StatusRule}
+use Rattle.explain_text.specs.of_refusal.declared.Cause.TheVariants.{UnknownEntity, FaultyAttribute, RepeatedKey, BadReference, BadTable, RecordsSpent}
+use Rattle.explain_text.specs.of_refusal.declared.Cause.TheVariants.{TextFull, ScratchFull, NotLayout, OutputFull, CountLimit, TooManyCases, NoSuchReport}
+use Rattle.explain_text.specs.of_refusal.declared.Cause.TheVariants.{TooManyReports, TimeLimit}
 
 abbrev pub place_of : Cause → ℕ
 place_of XmlFault = 0

@@ -1,6 +1,6 @@
 use mathlib.Core.Path.{ap, ◌∙◌}
 use lib.ListN.{length}
-use Rattle.area.specs.Area.{zeros}
+use Rattle.explain_spot.specs.of_area.Area.{zeros}
 use Rattle.explain_xml.proofs.Answered.{whole-line, short-line}
 use Rattle.explain_xml.proofs.explain_xml.Goals as goal
 

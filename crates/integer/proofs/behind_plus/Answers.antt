@@ -1,5 +1,5 @@
 use mathlib.Core.Path.{◌∙◌}
-use Rattle.area.proofs.Parts.{rest_part}
+use Rattle.names.proofs.of_area.Parts.{rest_part}
 use Rattle.integer.proofs.Integers.{unsigned-none, unsigned-plus, unsigned-bare}
 use borrow.Author.Rules.{rules}
 use Rattle.integer.proofs.behind_plus.Goals as goal

@@ -1,6 +1,6 @@
 use mathlib.Core.Path.{sym, ◌∙◌}
-use Rattle.list_text.proofs.Putting.{more, other}
-use Rattle.list_sums.specs.inside.Rows.{records_in}
+use Rattle.list_status.proofs.of_list_text.Putting.{more, other}
+use Rattle.list_status.specs.of_list_sums.inside.Rows.{records_in}
 use Rattle.list_case.proofs.Lines.{case-parts, skipped-parts}
 use Rattle.list_case.proofs.put_case.Goals as goal
 

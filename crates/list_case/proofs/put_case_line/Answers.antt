@@ -1,5 +1,5 @@
 use mathlib.Core.List.{[]}
-use Rattle.list_text.proofs.Putting.{more, other}
+use Rattle.list_status.proofs.of_list_text.Putting.{more, other}
 use Rattle.list_case.proofs.Lines.{opened-parts}
 use Rattle.list_case.proofs.put_case_line.Goals as goal
 

@@ -1,4 +1,4 @@
-use Rattle.list_text.proofs.Putting.{more, other}
+use Rattle.list_status.proofs.of_list_text.Putting.{more, other}
 use Rattle.list_case.proofs.Lines.{run-parts}
 use Rattle.list_case.proofs.put_run.Goals as goal
 

@@ -1,4 +1,4 @@
-use Rattle.list_text.proofs.Putting.{other}
+use Rattle.list_status.proofs.of_list_text.Putting.{other}
 use Rattle.list_case.proofs.Lines.{run-failure, run-error}
 use Rattle.list_case.proofs.put_run_kind.Goals as goal
 

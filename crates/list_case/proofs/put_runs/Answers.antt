@@ -5,11 +5,11 @@ use mathlib.Core.Path.{◌≡◌, sym, ◌∙◌}
 use native.Mathlib.Omega.{arith}
 use borrow.Author.Rules.{rules}
 use lib.ListN.{length, take, drop}
-use Rattle.list_text.specs.Listing.{run_text}
-use Rattle.list_sums.specs.inside.Rows.{stands, records_in}
-use Rattle.list_sums.specs.inside.Summed.{run_listed}
+use Rattle.list_status.specs.of_list_text.Listing.{run_text}
+use Rattle.list_status.specs.of_list_sums.inside.Rows.{stands, records_in}
+use Rattle.list_status.specs.of_list_sums.inside.Summed.{run_listed}
 use Rattle.list_case.specs.inside.Shown.{runs_shown}
-use Rattle.list_sums.proofs.Records.{stands-room}
+use Rattle.list_status.proofs.of_list_sums.Records.{stands-room}
 use Rattle.list_case.proofs.Going.{goes_on, going_start, going-stop, going_end, going-pass, going-puts}
 use Rattle.list_case.proofs.Unrolling.{runs-over, runs-end, runs-run, runs_other}
 use Rattle.list_case.proofs.put_runs.Goals as goal

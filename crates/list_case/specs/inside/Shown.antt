@@ -1,12 +1,12 @@
 -- What is shown of a case, from its record and those behind it. Definitions only.
 use Rattle.std.specs.Prelude.{ℕ, List, [], ◌∷◌, ◌++◌, map}
-use Rattle.names.specs.Bytes.{bytes}
-use Rattle.tree_record.specs.Words as word
-use Rattle.tree_record.specs.Record.{text_at}
-use Rattle.tree_report.specs.Fields.{is_run, second, time}
-use Rattle.tree_report.specs.ReportOf.{only, case_of}
-use Rattle.list_text.specs.Listing.{public_case, quoted, or_dash, timed, fields, run_word, run_texts, case_text}
-use Rattle.list_sums.specs.inside.Summed.{own, run_kind_of, run_listed}
+use Rattle.list_status.specs.of_names.Bytes.{bytes}
+use Rattle.list_status.specs.of_tree_record.Words as word
+use Rattle.list_status.specs.of_tree_record.Record.{text_at}
+use Rattle.list_status.specs.of_tree_report.Fields.{is_run, second, time}
+use Rattle.list_status.specs.of_tree_report.ReportOf.{only, case_of}
+use Rattle.list_status.specs.of_list_text.Listing.{public_case, quoted, or_dash, timed, fields, run_word, run_texts, case_text}
+use Rattle.list_status.specs.of_list_sums.inside.Summed.{own, run_kind_of, run_listed}
 
 -- ---- runs
 -- the runs of a case, from the records behind it

@@ -1,7 +1,7 @@
-use Rattle.digits.specs.Digits.{decimal}
-use Rattle.list_text.specs.Listing.{status_word, kind_word}
+use Rattle.list_values.specs.of_digits.Digits.{decimal}
+use Rattle.list_values.specs.of_list_text.Listing.{status_word, kind_word}
 use Rattle.list_sums.specs.inside.Summed.{status_by, kind_by, runs_by}
-use Rattle.list_text.proofs.Putting.{more, other}
+use Rattle.list_values.proofs.of_list_text.Putting.{more, other}
 use Rattle.list_values.proofs.Joining.{three-parts}
 use Rattle.list_status.proofs.put_status.Goals as goal
 

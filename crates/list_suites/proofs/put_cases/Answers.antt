@@ -6,9 +6,9 @@ use native.Mathlib.Omega.{arith}
 use borrow.Author.Tests.{eq-eqb, ne_eqb}
 use borrow.Author.Rules.{rules}
 use lib.ListN.{length, take, drop, get_or}
-use Rattle.list_sums.specs.inside.Rows.{stands, records_in}
+use Rattle.list_case.specs.of_list_sums.inside.Rows.{stands, records_in}
 use Rattle.list_case.specs.inside.Shown.{case_shown}
-use Rattle.list_sums.proofs.Records.{records-behind, stands-room}
+use Rattle.list_case.proofs.of_list_sums.Records.{records-behind, stands-room}
 use Rattle.list_case.proofs.Going.{goes_on, going_start, going-stop, going_end, going-pass, going-puts}
 use Rattle.list_suites.specs.inside.Shown.{cases_shown}
 use Rattle.list_suites.proofs.Unrolling.{cases-over, cases_end, cases-case, cases_other}

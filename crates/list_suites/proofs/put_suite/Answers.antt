@@ -1,5 +1,5 @@
-use Rattle.list_text.proofs.Putting.{more, other}
-use Rattle.list_sums.specs.inside.Rows.{records_in}
+use Rattle.list_case.proofs.of_list_text.Putting.{more, other}
+use Rattle.list_case.specs.of_list_sums.inside.Rows.{records_in}
 use Rattle.list_suites.proofs.Lines.{suite-parts}
 use Rattle.list_suites.proofs.put_suite.Goals as goal
 

@@ -6,8 +6,8 @@ use native.Mathlib.Omega.{arith}
 use borrow.Author.Tests.{eq-eqb, ne_eqb}
 use borrow.Author.Rules.{rules}
 use lib.ListN.{length, take, drop, get_or}
-use Rattle.list_sums.specs.inside.Rows.{stands, records_in}
-use Rattle.list_sums.proofs.Records.{records-behind, stands-room}
+use Rattle.list_case.specs.of_list_sums.inside.Rows.{stands, records_in}
+use Rattle.list_case.proofs.of_list_sums.Records.{records-behind, stands-room}
 use Rattle.list_case.proofs.Going.{goes_on, going_start, going-stop, going-pass, going-puts}
 use Rattle.list_suites.specs.inside.Shown.{suite_shown, suites_shown}
 use Rattle.list_suites.proofs.Unrolling.{suites-over, suites-suite, suites-other}

@@ -1,8 +1,8 @@
 -- What is shown of suites, from their records and those behind them. Definitions only.
 use Rattle.std.specs.Prelude.{ℕ, List, map}
-use Rattle.tree_report.specs.Fields.{is_suite, is_case}
-use Rattle.tree_report.specs.ReportOf.{until, branches, case_of, suite_of}
-use Rattle.list_text.specs.Listing.{public_case, public_suite, case_texts, suite_text, suite_texts}
+use Rattle.list_case.specs.of_tree_report.Fields.{is_suite, is_case}
+use Rattle.list_case.specs.of_tree_report.ReportOf.{until, branches, case_of, suite_of}
+use Rattle.list_case.specs.of_list_text.Listing.{public_case, public_suite, case_texts, suite_text, suite_texts}
 
 module _ (text : List ℕ) where
   -- the cases of a suite, from the records behind it: those before the next suite

@@ -1,7 +1,7 @@
 -- Words, as the records that stand in them. Definitions only.
 use Rattle.std.specs.Prelude.{ℕ, ◌/◌, List, Bool, not, ◌&&◌, length, leb, eqb}
-use Rattle.tree_record.specs.Record.{kind_of}
-use Rattle.tree_report.specs.Layout.{records_from}
+use Rattle.list_text.specs.of_tree_record.Record.{kind_of}
+use Rattle.list_text.specs.of_tree_report.Layout.{records_from}
 
 -- words begin with a record: records stop at the first whose kind is 0
 abbrev pub stands : List ℕ → Bool

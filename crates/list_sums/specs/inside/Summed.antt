@@ -1,11 +1,11 @@
 -- What a case's status elements come to, found by going along its records once. Definitions only.
 use Rattle.std.specs.Prelude.{ℕ, ◌+◌, List, [], ◌∷◌, Bool, true, false, cond, ◌&&◌, ◌||◌, length, leb, eqb}
-use Rattle.tree_record.specs.Bits as bit
-use Rattle.tree_record.specs.Kinds as kind
-use Rattle.tree_record.specs.Record.{kind_of, has_bit}
-use Rattle.tree_report.specs.Fields.{is_suite, is_case, is_main, is_run, time}
-use Rattle.tree_report.specs.Report.{NonSuccessKind, failure, error}
-use Rattle.tree_report.specs.ReportOf.{only, until}
+use Rattle.list_text.specs.of_tree_record.Bits as bit
+use Rattle.list_text.specs.of_tree_record.Kinds as kind
+use Rattle.list_text.specs.of_tree_record.Record.{kind_of, has_bit}
+use Rattle.list_text.specs.of_tree_report.Fields.{is_suite, is_case, is_main, is_run, time}
+use Rattle.list_text.specs.of_tree_report.Report.{NonSuccessKind, failure, error}
+use Rattle.list_text.specs.of_tree_report.ReportOf.{only, until}
 use Rattle.list_text.specs.Listing.{Status, is_success, is_failure, is_error, is_skipped, RunKind, no_kind, flaky_kind, rerun_kind, PublicRun}
 use Rattle.list_sums.specs.declared.Summary.{Summary}
 

@@ -1,5 +1,5 @@
 use native.Mathlib.Omega.{arith}
-use Rattle.digits.specs.Digits.{decimal}
+use Rattle.time_text.specs.of_digits.Digits.{decimal}
 use Rattle.list_text.proofs.Putting.{full-stays, lent-put, lent-full, lent-most}
 use Rattle.list_text.proofs.put_decimal.Goals as goal
 

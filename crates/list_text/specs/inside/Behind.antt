@@ -1,10 +1,10 @@
 -- Texts put one behind the other into an output area. Definitions only.
 use Rattle.std.specs.Prelude.{ℕ, ◌+◌, ◌-◌, ◌≡◌, List, ◌++◌, Bool, true, false, cond, length, take, drop, leb}
-use Rattle.area.specs.Answer.{Answer, gives, refuses}
-use Rattle.area.specs.Area.{stored_answer, laid}
-use Rattle.area.specs.declared.Stored.{Stored}
-use Rattle.area.specs.declared.Stored.TheVariants.{Put, Full}
-use Rattle.refusal.specs.declared.Cause.TheVariants as cause
+use Rattle.time_text.specs.of_area.Answer.{Answer, gives, refuses}
+use Rattle.time_text.specs.of_area.Area.{stored_answer, laid}
+use Rattle.time_text.specs.of_area.declared.Stored.{Stored}
+use Rattle.time_text.specs.of_area.declared.Stored.TheVariants.{Put, Full}
+use Rattle.time_text.specs.of_refusal.declared.Cause.TheVariants as cause
 
 -- an area: how many bytes of it are in use, or 16 once a text didn't fit, and its contents
 abbrev pub Filled : Type 0

@@ -1,4 +1,4 @@
-use Rattle.tree_report.specs.Fields.{counts}
+use Rattle.list_text.specs.of_tree_report.Fields.{counts}
 use Rattle.list_text.proofs.Putting.{more, other}
 use Rattle.list_values.proofs.Joining.{counts-parts}
 use Rattle.list_values.proofs.put_counts.Goals as goal

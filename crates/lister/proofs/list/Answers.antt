@@ -1,6 +1,6 @@
 use mathlib.Core.Path.{sym, ◌∙◌}
 use lib.ListN.{length}
-use Rattle.list_text.proofs.Answering.{no-listing}
+use Rattle.list_suites.proofs.of_list_text.Answering.{no-listing}
 use Rattle.lister.proofs.Answered.{refused-whole}
 use Rattle.lister.proofs.list.Goals as goal
 

@@ -3,10 +3,10 @@ use native.Mathlib.Nat.{min-le_left}
 use native.Mathlib.Omega.{arith}
 use lib.Seq.{length-take-le}
 use lib.ListN.{length}
-use Rattle.area.specs.Limits.{most_words, most_bytes}
-use Rattle.area.specs.Area.{zeros}
-use Rattle.list_text.proofs.Putting.{other}
-use Rattle.list_text.proofs.Answering.{whole-listing, short-listing}
+use Rattle.tree_layout.specs.of_area.Limits.{most_words, most_bytes}
+use Rattle.tree_layout.specs.of_area.Area.{zeros}
+use Rattle.list_suites.proofs.of_list_text.Putting.{other}
+use Rattle.list_suites.proofs.of_list_text.Answering.{whole-listing, short-listing}
 use Rattle.lister.proofs.Used.{used-shown}
 use Rattle.lister.proofs.Answered.{refused-whole, listed-whole}
 use borrow.Author.Rules.{rules}

@@ -5,10 +5,10 @@ use mathlib.Core.Path.{◌≡◌, sym, ap, ◌∙◌}
 use native.Mathlib.Omega.{arith}
 use borrow.Author.Tests.{lt-ltb, le-ltb}
 use lib.ListN.{length, take, drop, get_or}
-use Rattle.area.specs.declared.Stored.TheVariants.{Put}
-use Rattle.list_sums.specs.inside.Rows.{stands, records_in}
-use Rattle.list_sums.proofs.Records.{records-behind, stands-room}
-use Rattle.list_case.proofs.Going.{seeking-start, seeking-pass, seeking-found, seeking-none}
+use Rattle.tree_layout.specs.of_area.declared.Stored.TheVariants.{Put}
+use Rattle.list_suites.specs.of_list_sums.inside.Rows.{stands, records_in}
+use Rattle.list_suites.proofs.of_list_sums.Records.{records-behind, stands-room}
+use Rattle.list_suites.proofs.of_list_case.Going.{seeking-start, seeking-pass, seeking-found, seeking-none}
 use Rattle.lister.specs.inside.Shown.{report_shown}
 use Rattle.lister.proofs.Unrolling.{report-over, report-dead, report-live}
 use Rattle.lister.proofs.put_report.Goals as goal

@@ -1,6 +1,6 @@
 use Prim.Native.Nat.{◌-◌}
 use lib.ListN.{length}
-use Rattle.list_case.proofs.Going.{Seeking}
+use Rattle.list_suites.proofs.of_list_case.Going.{Seeking}
 use Rattle.lister.specs.inside.Shown.{report_shown}
 use Rattle.lister.proofs.put_report.Given as goal
 

@@ -1,5 +1,5 @@
-use Rattle.list_text.proofs.Putting.{more, other}
-use Rattle.list_sums.specs.inside.Rows.{records_in}
+use Rattle.list_suites.proofs.of_list_text.Putting.{more, other}
+use Rattle.list_suites.specs.of_list_sums.inside.Rows.{records_in}
 use Rattle.lister.proofs.Lines.{whole_parts}
 use Rattle.lister.proofs.put_whole.Goals as goal
 

@@ -1,8 +1,8 @@
 -- What is shown of the report, from its record and those behind it. Definitions only.
 use Rattle.std.specs.Prelude.{ℕ, List, ◌++◌}
-use Rattle.tree_report.specs.Fields.{live, first, counts}
-use Rattle.tree_report.specs.ReportOf.{only, report_from}
-use Rattle.list_text.specs.Listing.{header, ending, rendered_or}
+use Rattle.tree_layout.specs.of_tree_report.Fields.{live, first, counts}
+use Rattle.tree_layout.specs.of_tree_report.ReportOf.{only, report_from}
+use Rattle.list_suites.specs.of_list_text.Listing.{header, ending, rendered_or}
 use Rattle.list_suites.specs.inside.Shown.{suites_shown}
 
 module _ (text : List ℕ) where

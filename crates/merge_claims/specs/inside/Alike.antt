@@ -1,9 +1,9 @@
 -- Two records that a report can't tell apart. Definitions only.
 use Rattle.std.specs.Prelude.{ℕ, ◌≡◌, true, List}
-use Rattle.tree_record.specs.Bits as bit
-use Rattle.schema.specs.Schema.{suite, case, skipped, run, property}
-use Rattle.schema.specs.Texts.{fields_of}
-use Rattle.tree_report.specs.Fields.{kind_of, has_bit, is_suite, is_case, is_suite_property, is_case_property, is_main, is_run, is_suite_extra, is_case_extra}
+use Rattle.tree_merge.specs.of_tree_record.Bits as bit
+use Rattle.tree_merge.specs.of_schema.Schema.{suite, case, skipped, run, property}
+use Rattle.tree_merge.specs.of_schema.Texts.{fields_of}
+use Rattle.tree_merge.specs.of_tree_report.Fields.{kind_of, has_bit, is_suite, is_case, is_suite_property, is_case_property, is_main, is_run, is_suite_extra, is_case_extra}
 
 -- the same kind and flaky bit: all that the order of records reads
 pub record Like (r s : List ℕ) : Type 0 where

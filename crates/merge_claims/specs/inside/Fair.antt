@@ -1,8 +1,8 @@
 -- What a layout says of its report's own fields. Definitions only.
 use Rattle.std.specs.Prelude.{◌≡◌, true}
-use Rattle.schema.specs.Schema.{text, time, timestamp, may}
-use Rattle.schema.specs.Texts.{stored, sound_slot}
-use Rattle.tree_report.specs.Report.{Report}
+use Rattle.tree_merge.specs.of_schema.Schema.{text, time, timestamp, may}
+use Rattle.tree_merge.specs.of_schema.Texts.{stored, sound_slot}
+use Rattle.tree_merge.specs.of_tree_report.Report.{Report}
 use Rattle.merge_claims.specs.inside.Stands.{Clean}
 
 -- the name is such as a layout may have, timestamp and time are in their ranges (rule M10)

@@ -1,9 +1,9 @@
 -- Texts that stand in a text area. Definitions only.
 use Rattle.std.specs.Prelude.{ℕ, ◌≡◌, true, false, List, ◌++◌, eqb, length}
-use Rattle.utf8.specs.Utf8.{utf8}
-use Rattle.text_filter.specs.Filter.{unfiltered}
-use Rattle.tree_report.specs.Fields.{kind_of, live}
-use Rattle.tree_report.specs.Layout.{good_record}
+use Rattle.tree_merge.specs.of_utf8.Utf8.{utf8}
+use Rattle.tree_merge.specs.of_text_filter.Filter.{unfiltered}
+use Rattle.tree_merge.specs.of_tree_report.Fields.{kind_of, live}
+use Rattle.tree_merge.specs.of_tree_report.Layout.{good_record}
 
 -- such as a layout may have (rule M10)
 abbrev pub Clean : List ℕ → Type 0

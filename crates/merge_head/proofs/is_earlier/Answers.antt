@@ -1,6 +1,6 @@
 use Rattle.merge_head.specs.inside.Head.{is_earlier}
-use Rattle.span.specs.inside.Span.{sooner}
-use Rattle.instant.specs.Instant.{instant_of}
+use Rattle.tree_merge.specs.of_span.inside.Span.{sooner}
+use Rattle.tree_merge.specs.of_instant.Instant.{instant_of}
 use mathlib.Core.Path.{ap, ap₂, ◌∙◌}
 use Rattle.merge_head.proofs.is_earlier.Goals as goal
 

@@ -1,5 +1,5 @@
 use Rattle.merge_head.specs.inside.Head.{put_name, put_start, put_total, head_of}
-use Rattle.build_draft.specs.Parts.{put_counts}
+use Rattle.build_counts.specs.of_build_draft.Parts.{put_counts}
 use mathlib.Core.Path.{ap, ◌∙◌}
 use Rattle.merge_head.proofs.put_head.Goals as goal
 

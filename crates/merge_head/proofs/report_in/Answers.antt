@@ -1,5 +1,5 @@
 use Rattle.merge_head.proofs.Finding.{finding-start, finding-found, finding-pass, finding-over, alive, gone}
-use Rattle.list_sums.proofs.Records.{stands-room}
+use Rattle.tree_merge.proofs.of_list_sums.Records.{stands-room}
 use lib.ListN.{take, drop}
 use native.Mathlib.Omega.{arith}
 use mathlib.Core.Path.{sym, ◌∙◌}

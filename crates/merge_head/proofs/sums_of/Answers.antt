@@ -1,5 +1,5 @@
-use Rattle.tree_counts.specs.declared.Counts.{Counts}
-use Rattle.tree_counts.specs.Counts.{counted_from, with_suite}
+use Rattle.tree_merge.specs.of_tree_counts.declared.Counts.{Counts}
+use Rattle.tree_merge.specs.of_tree_counts.Counts.{counted_from, with_suite}
 use mathlib.Core.Path.{ap₂, ◌∙◌}
 use Rattle.merge_head.proofs.sums_of.Goals as goal
 

@@ -1,15 +1,15 @@
 -- The record of a merged report by the words of two. Definitions only.
 use Rattle.std.specs.Prelude.{ℕ, ◌+◌, ◌*◌, ◌/◌, ◌%◌, List, [], ◌∷◌, Bool, cond, not, ◌&&◌, ◌||◌, get_or, set}
-use Rattle.instant.specs.Instant.{instant_of}
-use Rattle.span.specs.inside.Span.{sooner}
-use Rattle.tree_record.specs.Words as word
-use Rattle.tree_record.specs.Bits as bit
-use Rattle.tree_record.specs.Kinds as kind
-use Rattle.tree_record.specs.Record.{has_bit}
-use Rattle.tree_stamp.specs.Stamp.{cut_moment}
-use Rattle.tree_put.specs.Put.{put_text, put_moment, put_time}
-use Rattle.tree_counts.specs.declared.Counts.{Counts}
-use Rattle.build_draft.specs.Parts.{put_counts}
+use Rattle.tree_merge.specs.of_instant.Instant.{instant_of}
+use Rattle.tree_merge.specs.of_span.inside.Span.{sooner}
+use Rattle.tree_values.specs.of_tree_record.Words as word
+use Rattle.tree_values.specs.of_tree_record.Bits as bit
+use Rattle.tree_values.specs.of_tree_record.Kinds as kind
+use Rattle.tree_values.specs.of_tree_record.Record.{has_bit}
+use Rattle.tree_merge.specs.of_tree_stamp.Stamp.{cut_moment}
+use Rattle.tree_values.specs.of_tree_put.Put.{put_text, put_moment, put_time}
+use Rattle.tree_merge.specs.of_tree_counts.declared.Counts.{Counts}
+use Rattle.build_counts.specs.of_build_draft.Parts.{put_counts}
 
 abbrev pub first_of : List (List ℕ) → List ℕ
 first_of [] = []

@@ -1,7 +1,7 @@
 -- What a step of merging answers, and the room for a merged tree. Definitions only.
 use Rattle.std.specs.Prelude.{ℕ, ◌/◌, cond, leb, ltb}
 use Rattle.area.specs.Answer.{Answer, gives, refuses}
-use Rattle.refusal.specs.declared.Cause.TheVariants as cause
+use Rattle.area.specs.of_refusal.declared.Cause.TheVariants as cause
 use Rattle.merge_limits.specs.declared.Step.{Step}
 use Rattle.merge_limits.specs.declared.Step.TheVariants.{Done, Not}
 

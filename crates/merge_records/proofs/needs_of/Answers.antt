@@ -1,5 +1,5 @@
 use Rattle.merge_records.proofs.Counting.{here, below-kind, counting-start, counting_more, counting-pass, counting-done, counting-most}
-use Rattle.list_sums.proofs.Records.{stands-room}
+use Rattle.merge_rows.proofs.of_list_sums.Records.{stands-room}
 use native.Mathlib.Omega.{arith}
 use mathlib.Core.Path.{sym, ◌∙◌}
 use Prim.Native.Nat.{◌-◌}

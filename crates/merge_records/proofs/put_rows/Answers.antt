@@ -1,6 +1,6 @@
 use Rattle.merge_records.proofs.Copying.{copying-start, copying-more, copying-pass, word_room, text-room, same_length as same_row, next-done, fill_done, out-done, bytes-done}
 use Rattle.merge_records.proofs.Counting.{here, below-kind}
-use Rattle.list_sums.proofs.Records.{stands-room}
+use Rattle.merge_rows.proofs.of_list_sums.Records.{stands-room}
 use native.Mathlib.Omega.{arith}
 use mathlib.Core.Path.{sym, ◌∙◌}
 use Prim.Native.Nat.{◌-◌}

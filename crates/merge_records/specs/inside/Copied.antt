@@ -1,9 +1,9 @@
 -- Records copied one behind the other, by their presence bits. Definitions only.
 use Rattle.std.specs.Prelude.{ℕ, ◌+◌, ◌*◌, ◌≤◌, List, [], ◌∷◌, ◌++◌, length}
-use Rattle.area.specs.Limits.{most_bytes}
-use Rattle.list_sums.specs.inside.Rows.{records_in}
-use Rattle.tree_report.specs.ReportOf.{only}
-use Rattle.tree_merge.specs.Answer.{is_below}
+use Rattle.merge_rows.specs.of_area.Limits.{most_bytes}
+use Rattle.merge_rows.specs.of_list_sums.inside.Rows.{records_in}
+use Rattle.merge_rows.specs.of_tree_report.ReportOf.{only}
+use Rattle.merge_rows.specs.of_tree_merge.Answer.{is_below}
 use Rattle.merge_rows.specs.inside.Slots.{row_texts, row_moved_of, sizes_of}
 use Rattle.merge_records.specs.declared.Mark.{Mark}
 

@@ -1,7 +1,7 @@
 use Rattle.merge_rows.proofs.Steps.{copied, row-split, row_fits, row-rows}
 use Rattle.merge_rows.proofs.Splicing.{first_fits, same_size, second_fits, two, two_size}
 use Rattle.merge_rows.specs.inside.Slots.{text_bits, front_texts, back_texts}
-use Rattle.schema.specs.Stores.{splice}
+use Rattle.write_bytes.specs.of_schema.Stores.{splice}
 use lib.ListN.{length}
 use native.Mathlib.Omega.{arith}
 use mathlib.Core.Path.{sym, ap, ◌∙◌}

@@ -1,6 +1,6 @@
 use Rattle.merge_rows.proofs.Steps.{part-here, none_here, start-here, start_none}
 use Rattle.merge_rows.proofs.Splicing.{splice-none}
-use Rattle.schema.specs.Stores.{splice}
+use Rattle.write_bytes.specs.of_schema.Stores.{splice}
 use lib.ListN.{length}
 use native.Mathlib.Omega.{arith}
 use native.Mathlib.Nat.{add-zero}

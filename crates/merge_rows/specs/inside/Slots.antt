@@ -1,8 +1,8 @@
 -- The texts of a record by its presence bits, the kind saying which of these tell of texts. Definitions only.
 use Rattle.std.specs.Prelude.{ℕ, ◌+◌, ◌/◌, ◌%◌, List, [], ◌++◌, Bool, cond, ◌&&◌, length, get_or, set, leb, eqb}
-use Rattle.tree_record.specs.Kinds as kind
-use Rattle.tree_record.specs.Record.{kind_of, has_bit}
-use Rattle.tree_record.specs.Record as words
+use Rattle.write_bytes.specs.of_tree_record.Kinds as kind
+use Rattle.write_bytes.specs.of_tree_record.Record.{kind_of, has_bit}
+use Rattle.write_bytes.specs.of_tree_record.Record as words
 
 -- the values of the presence bits that tell of texts, added
 unfoldable pub text_bits : ℕ → ℕ

@@ -1,5 +1,5 @@
 use Rattle.merger.proofs.Known.{known-sized, known-zero, known}
-use Rattle.area.specs.Limits.{most_words, most_bytes}
+use Rattle.clearing.specs.of_area.Limits.{most_words, most_bytes}
 use lib.Seq.{length-take-le}
 use lib.ListN.{length}
 use native.Mathlib.Omega.{arith}

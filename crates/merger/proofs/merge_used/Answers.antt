@@ -1,9 +1,9 @@
 use Rattle.merger.proofs.Steps.{report-is, sums-good, sums-bad, sums_are, used-counts, used-time, used-room, left-zero}
 use Rattle.merger.specs.inside.Whole.{report_in, left_by, tree_words, tree_texts}
 use Rattle.merge_head.specs.inside.Head.{nanos_in}
-use Rattle.build_draft.specs.Parts.{counts_in}
-use Rattle.tree_counts.specs.Counts.{with_suite, counted_from}
-use Rattle.area.specs.Answer.{Answer}
+use Rattle.merge_head.specs.of_build_draft.Parts.{counts_in}
+use Rattle.merge_records.specs.of_tree_counts.Counts.{with_suite, counted_from}
+use Rattle.clearing.specs.of_area.Answer.{Answer}
 use lib.ListN.{length}
 use lib.Dec.{leb}
 use borrow.Author.Tests.{leb-false}

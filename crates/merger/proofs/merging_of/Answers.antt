@@ -1,7 +1,7 @@
 use Rattle.merge_limits.specs.inside.Limits.{step_answer}
 use Rattle.merge_limits.specs.declared.Step.{Step}
 use Rattle.merger.specs.Answer.{merging_from}
-use Rattle.tree_merge.specs.Answer.{outcome_of}
+use Rattle.merge_head.specs.of_tree_merge.Answer.{outcome_of}
 use mathlib.Core.Path.{sym, ap, ◌∙◌}
 use Rattle.merger.proofs.merging_of.Goals as goal
 

@@ -1,6 +1,6 @@
 use Rattle.merger.proofs.Steps.{name-here, name-none}
-use Rattle.merge_rows.proofs.Splicing.{splice-none}
-use Rattle.schema.specs.Stores.{splice}
+use Rattle.merge_records.proofs.of_merge_rows.Splicing.{splice-none}
+use Rattle.merge_records.specs.of_schema.Stores.{splice}
 use lib.ListN.{length}
 use native.Mathlib.Omega.{arith}
 use mathlib.Core.Path.{sym, ap, ◌∙◌}

@@ -1,7 +1,7 @@
 use Rattle.merger.proofs.Steps.{report-is, head-enough, tree-put}
 use Rattle.merger.specs.inside.Whole.{name_text, rows_for}
 use Rattle.merge_head.specs.inside.Head.{head_of}
-use Rattle.schema.specs.Stores.{splice}
+use Rattle.merge_records.specs.of_schema.Stores.{splice}
 use lib.Seq.{length-take-le}
 use lib.ListN.{length, take}
 use native.Mathlib.Omega.{arith}

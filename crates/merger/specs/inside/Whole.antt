@@ -1,16 +1,16 @@
 -- The merged tree by the words of two, as the code finds it. Definitions only.
 use Rattle.std.specs.Prelude.{ℕ, ◌+◌, ◌*◌, ◌≤◌, cond, List, [], ◌++◌, ◌≡◌, leb, length}
-use Rattle.area.specs.Answer.{Answer, gives, refuses}
-use Rattle.area.specs.Area.{zeros}
-use Rattle.area.specs.Limits.{most_words, most_bytes}
-use Rattle.refusal.specs.declared.Cause.TheVariants as cause
-use Rattle.schema.specs.Stores.{splice}
-use Rattle.list_sums.specs.inside.Rows.{records_in}
-use Rattle.tree_record.specs.Record.{live, has_bit, text_at}
-use Rattle.tree_report.specs.ReportOf.{only}
-use Rattle.tree_counts.specs.declared.Counts.{Counts}
-use Rattle.tree_counts.specs.Counts.{added, are_counts}
-use Rattle.build_draft.specs.Parts.{counts_in}
+use Rattle.clearing.specs.of_area.Answer.{Answer, gives, refuses}
+use Rattle.clearing.specs.of_area.Area.{zeros}
+use Rattle.clearing.specs.of_area.Limits.{most_words, most_bytes}
+use Rattle.clearing.specs.of_refusal.declared.Cause.TheVariants as cause
+use Rattle.merge_records.specs.of_schema.Stores.{splice}
+use Rattle.merge_records.specs.of_list_sums.inside.Rows.{records_in}
+use Rattle.merge_records.specs.of_tree_record.Record.{live, has_bit, text_at}
+use Rattle.merge_records.specs.of_tree_report.ReportOf.{only}
+use Rattle.merge_records.specs.of_tree_counts.declared.Counts.{Counts}
+use Rattle.merge_records.specs.of_tree_counts.Counts.{added, are_counts}
+use Rattle.merge_head.specs.of_build_draft.Parts.{counts_in}
 use Rattle.merge_head.specs.inside.Head.{first_of, nanos_in, name_size, head_of}
 use Rattle.merge_limits.specs.inside.Limits.{room_by}
 use Rattle.merge_records.specs.inside.Copied.{below_in, sizes_in, texts_for, records_for}

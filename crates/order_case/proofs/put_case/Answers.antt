@@ -1,7 +1,7 @@
 use mathlib.Core.Path.{sym, ap, ◌∙◌}
 use Rattle.order_report.proofs.Items.{failure-items, error-items, skipped-items, flaky-items, plain-items}
 use Rattle.order_report.specs.inside.Items.{case_items}
-use Rattle.write_table.proofs.Writing.{said}
+use Rattle.write_entries.proofs.of_write_table.Writing.{said}
 use Rattle.order_case.proofs.put_case.Goals as goal
 
 pub returns-in-Failure : goal.returns-in-Failure

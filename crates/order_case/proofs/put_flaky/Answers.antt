@@ -1,5 +1,5 @@
 use mathlib.Core.Path.{◌∙◌}
-use Rattle.write_table.proofs.Writing.{then}
+use Rattle.write_entries.proofs.of_write_table.Writing.{then}
 use Rattle.order_case.proofs.put_flaky.Goals as goal
 
 pub shape_of-events : goal.shape_of-events

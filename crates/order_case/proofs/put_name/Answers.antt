@@ -1,6 +1,6 @@
-use Rattle.list_text.proofs.Putting.{more}
-use Rattle.names.specs.Keys as key
-use Rattle.write_items.specs.inside.Values.{key_name}
+use Rattle.write_entries.proofs.of_list_text.Putting.{more}
+use Rattle.write_entries.specs.of_names.Keys as key
+use Rattle.order_report.specs.of_write_items.inside.Values.{key_name}
 use Rattle.order_report.specs.Rehearsal.{case_name}
 use Rattle.order_case.proofs.put_name.Goals as goal
 

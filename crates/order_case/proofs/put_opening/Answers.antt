@@ -1,4 +1,4 @@
-use Rattle.write_table.proofs.Writing.{then}
+use Rattle.write_entries.proofs.of_write_table.Writing.{then}
 use Rattle.order_case.proofs.put_opening.Goals as goal
 
 pub returns : goal.returns

@@ -1,11 +1,11 @@
 -- What is put of an order, in the parts in which the code puts it. Definitions only.
 use Rattle.std.specs.Prelude.{ℕ, List, [], ◌∷◌, ◌++◌}
-use Rattle.names.specs.Tags as tag
-use Rattle.names.specs.Keys as key
-use Rattle.digits.specs.Digits.{decimal}
-use Rattle.table.specs.Kinds as event
-use Rattle.write_report.specs.Written.{each, declaration, serialize_test_case}
-use Rattle.write_table.specs.Laid.{Item, entry, pair, items_of}
+use Rattle.write_answer.specs.of_names.Tags as tag
+use Rattle.write_answer.specs.of_names.Keys as key
+use Rattle.write_answer.specs.of_digits.Digits.{decimal}
+use Rattle.write_answer.specs.of_table.Kinds as event
+use Rattle.write_answer.specs.of_write_report.Written.{each, declaration, serialize_test_case}
+use Rattle.write_answer.specs.of_write_table.Laid.{Item, entry, pair, items_of}
 use Rattle.write_items.specs.inside.Values.{tag_name, key_name}
 use Rattle.order_report.specs.declared.Order.{Order}
 use Rattle.order_report.specs.declared.Kind.{Kind}

@@ -1,4 +1,4 @@
-use Rattle.refusal.specs.declared.Verdict.TheVariants.{Refused}
+use Rattle.port_refusal.specs.of_refusal.declared.Verdict.TheVariants.{Refused}
 use Rattle.port_refusal.specs.Port.{port_refusal}
 use Rattle.port_refusal.specs.declared.KRefusal.{KRefusal}
 use mathlib.Core.Path.{ap, ◌∙◌}

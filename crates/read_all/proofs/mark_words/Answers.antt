@@ -2,7 +2,7 @@ use mathlib.Core.Path.{ap, ◌∙◌}
 use native.Mathlib.Omega.{arith}
 use Prim.Native.Nat.{◌-◌}
 use lib.ListN.{length, length-drop}
-use Rattle.area.proofs.Parts.{rest_part, rest_back}
+use Rattle.read_indexed.proofs.of_area.Parts.{rest_part, rest_back}
 use Rattle.read_all.proofs.Marked.{marks-none, marked-front, marked-rest, text-back}
 use Rattle.read_all.proofs.mark_words.Goals as goal
 

@@ -1,4 +1,4 @@
-use Rattle.read_plain.proofs.Plainly.{plain-none}
+use Rattle.read_indexed.proofs.of_read_plain.Plainly.{plain-none}
 use Rattle.read_all.proofs.plain_of.Goals as goal
 
 pub returns-then-few : goal.returns-then-few

@@ -5,7 +5,7 @@ use native.Mathlib.Omega.{arith}
 use lib.Dec.{ltb, eqb}
 use lib.ListN.{length, take}
 use lib.Seq.{length-take-le}
-use Rattle.read_each.proofs.HeldBounds.{held-fill}
+use Rattle.read_indexed.proofs.of_read_each.HeldBounds.{held-fill}
 use Rattle.read_all.proofs.Wider.{front-held, rest-zero, behind, many}
 use Rattle.read_all.proofs.read_all.Goals as goal
 

@@ -1,8 +1,8 @@
 use Prim.Native.Nat.{◌+◌, ◌-◌, ◌*◌}
 use native.Mathlib.Omega.{arith}
 use lib.ListN.{length, take, drop}
-use Rattle.area.proofs.Parts.{rest_back}
-use Rattle.read_element.specs.inside.Refines.{tagged, areas}
+use Rattle.read_indexed.proofs.of_area.Parts.{rest_back}
+use Rattle.read_indexed.specs.of_read_element.inside.Refines.{tagged, areas}
 use Rattle.read_all.proofs.Wider.{front-held, rest-zero, cleared}
 use Rattle.read_all.proofs.Marked.{text-zero, begun, within_same}
 use Rattle.read_all.proofs.read_cleared.Goals as goal

@@ -1,5 +1,5 @@
 use Rattle.read_attribute.specs.inside.Steps.{gave_step}
-use Rattle.read_extra_record.specs.declared.Gave.{Gave}
+use Rattle.read_extras.specs.of_read_extra_record.declared.Gave.{Gave}
 use mathlib.Core.Path.{sym, ap, ◌∙◌}
 use Rattle.read_attribute.proofs.gave.Goals as goal
 

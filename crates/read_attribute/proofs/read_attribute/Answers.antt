@@ -1,12 +1,12 @@
-use Rattle.read_keys.specs.declared.Role.TheVariants as role
+use Rattle.read_repeats.specs.of_read_keys.declared.Role.TheVariants as role
 use mathlib.Core.Path.{◌≡◌, sym, ap, subst, ◌∙◌}
 use denote.Enum.Declared.{tag_of}
 use native.Mathlib.Omega.{arith}
-use Rattle.read_keys.specs.contracts.Role.{the_type}
-use Rattle.names.specs.Keys.{key_of}
+use Rattle.read_repeats.specs.of_read_keys.contracts.Role.{the_type}
+use Rattle.read_repeats.specs.of_names.Keys.{key_of}
 use Rattle.read_repeats.specs.inside.Words.{attribute_in}
 use Rattle.read_role.specs.inside.Roles.{RoleFits}
-use Rattle.read_element.specs.Attributes.{numbered}
+use Rattle.read_repeats.specs.of_read_element.Attributes.{numbered}
 use Rattle.read_attribute.proofs.Matching.{value-step, extra-step, other-role}
 use Rattle.read_repeats.proofs.Keys.{part-told}
 use Rattle.read_attribute.proofs.RoleKeys.{key-small, role-fits}

@@ -1,6 +1,6 @@
 use Prim.Native.Nat.{◌-◌}
-use Rattle.table.specs.Event.{attributes_from}
-use Rattle.read_element.specs.inside.Held.{keys_of}
+use Rattle.read_repeats.specs.of_table.Event.{attributes_from}
+use Rattle.read_repeats.specs.of_read_element.inside.Held.{keys_of}
 use Rattle.read_attribute.proofs.Matching.{step-faulty, step-repeated, step-on, hint-lent}
 use Rattle.read_attribute.proofs.step_attribute.Goals as goal
 

@@ -1,5 +1,5 @@
 use Rattle.read_attribute.specs.inside.Steps.{taken_step}
-use Rattle.read_values.specs.declared.Took.{Took}
+use Rattle.read_role.specs.of_read_values.declared.Took.{Took}
 use mathlib.Core.Path.{sym, ap}
 use Rattle.read_attribute.proofs.taken.Goals as goal
 

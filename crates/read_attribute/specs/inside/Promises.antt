@@ -1,18 +1,18 @@
 -- What the calls promise. Definitions only.
 use Rattle.std.specs.Prelude.{ℕ, ◌-◌, ◌≡◌, Bool, true, false, not, length}
-use Rattle.text.specs.Value.{value_text}
-use Rattle.refusal.specs.Refusal.{Outcome}
-use Rattle.table.specs.Event.{Attribute, mark_at, key_at, attribute_at, attributes_from}
-use Rattle.read_element.specs.Outcome.{Place, Rooms, need}
-use Rattle.read_element.specs.Attributes.{Given, among, numbered}
-use Rattle.read_element.specs.inside.Held.{keys_of, Held, Roomy}
-use Rattle.read_element.specs.inside.Refines.{Table, Areas}
-use Rattle.read_extra_record.specs.declared.Given.{Given as Counted}
+use Rattle.read_repeats.specs.of_text.Value.{value_text}
+use Rattle.read_repeats.specs.of_refusal.Refusal.{Outcome}
+use Rattle.read_repeats.specs.of_table.Event.{Attribute, mark_at, key_at, attribute_at, attributes_from}
+use Rattle.read_repeats.specs.of_read_element.Outcome.{Place, Rooms, need}
+use Rattle.read_repeats.specs.of_read_element.Attributes.{Given, among, numbered}
+use Rattle.read_repeats.specs.of_read_element.inside.Held.{keys_of, Held, Roomy}
+use Rattle.read_repeats.specs.of_read_element.inside.Refines.{Table, Areas}
+use Rattle.read_extras.specs.of_read_extra_record.declared.Given.{Given as Counted}
 use Rattle.read_extras.specs.inside.Hinted.{Hinted}
 use Rattle.read_attribute.specs.declared.Range.{Range}
 use Rattle.read_fault.specs.declared.Step.{Step}
 use Rattle.read_attribute.specs.inside.Steps.{by_key_of, Matches}
-use Rattle.refusal.specs.declared.Cause.TheVariants as cause
+use Rattle.read_repeats.specs.of_refusal.declared.Cause.TheVariants as cause
 
 -- reads attribute j by its key, which is good and isn't repeated
 abbrev pub ReadsAttribute : ℕ → Attribute → ℕ → ℕ → Counted → Areas → Areas → Step → Type 0

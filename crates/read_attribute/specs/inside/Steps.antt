@@ -1,18 +1,18 @@
 -- An attribute's answer, against the outcome of the definitions. Definitions only.
 use Rattle.std.specs.Prelude.{ℕ, List}
-use Rattle.refusal.specs.Refusal.{Refused, Outcome}
-use Rattle.names.specs.Keys.{key_of}
-use Rattle.table.specs.Event.{Attribute}
-use Rattle.read_keys.specs.Roles.{role_of}
-use Rattle.read_element.specs.Outcome.{Place, Rooms, path_to}
-use Rattle.read_element.specs.Attributes.{Given, by_role}
-use Rattle.read_element.specs.inside.Held.{Held}
-use Rattle.read_element.specs.inside.Refines.{Refines}
-use Rattle.read_extra_record.specs.declared.Given.{Given as Counted}
-use Rattle.read_extra_record.specs.declared.Gave.{Gave}
-use Rattle.read_extra_record.specs.declared.Gave.TheVariants as gave
-use Rattle.read_values.specs.declared.Took.{Took}
-use Rattle.read_values.specs.declared.Took.TheVariants as took
+use Rattle.read_repeats.specs.of_refusal.Refusal.{Refused, Outcome}
+use Rattle.read_repeats.specs.of_names.Keys.{key_of}
+use Rattle.read_repeats.specs.of_table.Event.{Attribute}
+use Rattle.read_repeats.specs.of_read_keys.Roles.{role_of}
+use Rattle.read_repeats.specs.of_read_element.Outcome.{Place, Rooms, path_to}
+use Rattle.read_repeats.specs.of_read_element.Attributes.{Given, by_role}
+use Rattle.read_repeats.specs.of_read_element.inside.Held.{Held}
+use Rattle.read_repeats.specs.of_read_element.inside.Refines.{Refines}
+use Rattle.read_extras.specs.of_read_extra_record.declared.Given.{Given as Counted}
+use Rattle.read_extras.specs.of_read_extra_record.declared.Gave.{Gave}
+use Rattle.read_extras.specs.of_read_extra_record.declared.Gave.TheVariants as gave
+use Rattle.read_role.specs.of_read_values.declared.Took.{Took}
+use Rattle.read_role.specs.of_read_values.declared.Took.TheVariants as took
 use Rattle.read_fault.specs.inside.Faults.{fault_step}
 use Rattle.read_fault.specs.declared.Fault.{Fault}
 use Rattle.read_fault.specs.declared.Step.{Step}

@@ -1,15 +1,15 @@
 use Rattle.read_attributes.proofs.Sparing.{spare-zero, text-back}
 use Rattle.read_attributes.specs.inside.Elements.{Vacant, Becomes}
-use Rattle.read_element.specs.inside.Refines.{tagged, areas}
-use Rattle.read_element.specs.Attributes.{read_element}
+use Rattle.read_all.specs.of_read_element.inside.Refines.{tagged, areas}
+use Rattle.read_all.specs.of_read_element.Attributes.{read_element}
 use mathlib.Core.List.{List}
-use Rattle.area.specs.Area.{zeros}
-use Rattle.read_element.specs.inside.Held.{Roomy}
+use Rattle.read_all.specs.of_area.Area.{zeros}
+use Rattle.read_all.specs.of_read_element.inside.Held.{Roomy}
 use mathlib.Core.Path.{sym, ap, subst, ◌∙◌}
 use native.Mathlib.Omega.{arith}
 use lib.ListN.{length, take}
 use Prim.Native.Nat.{ℕ, ◌-◌}
-use Rattle.table.specs.Event.{attributes_from}
+use Rattle.read_all.specs.of_table.Event.{attributes_from}
 use Rattle.read_attributes.proofs.Growing.{element-spent}
 use Rattle.read_attributes.proofs.read_element.Goals as goal
 

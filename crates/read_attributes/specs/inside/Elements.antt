@@ -1,21 +1,21 @@
 -- An element's answer, against the outcome of the definitions, and what the call promises. Definitions only.
 use Rattle.std.specs.Prelude.{ℕ, ◌+◌, ◌-◌, ◌*◌, ◌≤◌, ◌<◌, ◌≡◌, List, ◌∷◌, ◌++◌, false, cond, not, ◌&&◌, ◌||◌, length, take, drop, leb, eqb}
-use Rattle.area.specs.Area.{zeros}
-use Rattle.refusal.specs.Refusal.{nowhere, Outcome}
-use Rattle.refusal.specs.declared.Cause.{Cause}
-use Rattle.names.specs.Names.{same_bytes}
-use Rattle.table.specs.Event.{key_at}
-use Rattle.tree_record.specs.Record.{has_bit}
-use Rattle.read_element.specs.Outcome.{Place, Rooms}
-use Rattle.read_element.specs.Attributes.{Given, Grown, read_element}
-use Rattle.read_element.specs.inside.Held.{Held, Roomy}
-use Rattle.read_element.specs.inside.Refines.{Refines, Table, Areas}
-use Rattle.read_each.specs.inside.Promises.{attributes_in}
-use Rattle.read_attribute.specs.declared.Range.{Range}
+use Rattle.read_all.specs.of_area.Area.{zeros}
+use Rattle.read_all.specs.of_refusal.Refusal.{nowhere, Outcome}
+use Rattle.read_all.specs.of_refusal.declared.Cause.{Cause}
+use Rattle.read_all.specs.of_names.Names.{same_bytes}
+use Rattle.read_all.specs.of_table.Event.{key_at}
+use Rattle.read_all.specs.of_tree_record.Record.{has_bit}
+use Rattle.read_all.specs.of_read_element.Outcome.{Place, Rooms}
+use Rattle.read_all.specs.of_read_element.Attributes.{Given, Grown, read_element}
+use Rattle.read_all.specs.of_read_element.inside.Held.{Held, Roomy}
+use Rattle.read_all.specs.of_read_element.inside.Refines.{Refines, Table, Areas}
+use Rattle.read_all.specs.of_read_each.inside.Promises.{attributes_in}
+use Rattle.read_all.specs.of_read_attribute.declared.Range.{Range}
 use Rattle.read_attributes.specs.declared.Grown.{Grown as CodedGrown}
 use Rattle.read_attributes.specs.declared.Element.{Element}
 use Rattle.read_attributes.specs.declared.Element.TheVariants as element
-use Rattle.read_attribute.specs.inside.Steps.{fault_at}
+use Rattle.read_all.specs.of_read_attribute.inside.Steps.{fault_at}
 
 abbrev pub fault_element : Cause → ℕ → ℕ → Element
 fault_element why key j = element.Not (record { cause = why; key = key; attribute = j })

@@ -1,23 +1,23 @@
 -- What the areas hold between events, and how the code's answers are those of the definitions. Definitions only.
 use Rattle.std.specs.Prelude.{ℕ, zero, suc, ◌+◌, ◌*◌, ◌≤◌, ◌<◌, ◌≡◌, List, [], ◌∷◌, ◌++◌, Bool, true, false, not, ◌||◌, length, get_or, take, drop, leb, eqb}
-use Rattle.area.specs.Area.{zeros}
-use Rattle.utf8.specs.Characters.{joined}
-use Rattle.refusal.specs.Refusal.{nowhere, Outcome}
-use Rattle.refusal.specs.declared.Cause.{Cause}
-use Rattle.read_element.specs.Outcome.{Place, Rooms, fits}
-use Rattle.read_element.specs.Attributes.{extra_kind}
-use Rattle.read_attribute.specs.inside.Steps.{fault_at}
+use Rattle.trim.specs.of_area.Area.{zeros}
+use Rattle.trim.specs.of_utf8.Characters.{joined}
+use Rattle.trim.specs.of_refusal.Refusal.{nowhere, Outcome}
+use Rattle.trim.specs.of_refusal.declared.Cause.{Cause}
+use Rattle.read_attributes.specs.of_read_element.Outcome.{Place, Rooms, fits}
+use Rattle.read_attributes.specs.of_read_element.Attributes.{extra_kind}
+use Rattle.read_attributes.specs.of_read_attribute.inside.Steps.{fault_at}
 use Rattle.read_attributes.specs.inside.Elements.{Free}
-use Rattle.read_fault.specs.declared.Fault.{Fault}
+use Rattle.read_attributes.specs.of_read_fault.declared.Fault.{Fault}
 use Rattle.read_attributes.specs.declared.Grown.{Grown as CodedGrown}
 use Rattle.read_attributes.specs.declared.Element.{Element}
 use Rattle.read_attributes.specs.declared.Element.TheVariants as element
-use Rattle.read_state.specs.Control.{Level, top, suite, case, status, Mode, at, gathering, listing, skipping, finished, is_status}
-use Rattle.read_state.specs.declared.Act.{Act as CodedAct}
-use Rattle.read_state.specs.declared.Act.TheVariants as act
+use Rattle.read_place.specs.of_read_state.Control.{Level, top, suite, case, status, Mode, at, gathering, listing, skipping, finished, is_status}
+use Rattle.read_place.specs.of_read_state.declared.Act.{Act as CodedAct}
+use Rattle.read_place.specs.of_read_state.declared.Act.TheVariants as act
 use Rattle.read_place.specs.Marks.{Marks}
 use Rattle.read_content.specs.Content.{Content, killed}
-use Rattle.read_element.specs.inside.Refines.{Refines}
+use Rattle.read_attributes.specs.of_read_element.inside.Refines.{Refines}
 use Rattle.read_content.specs.declared.List.{List as CodedList}
 use Rattle.read_content.specs.declared.Content.{Content as CodedContent}
 use Rattle.read_content.specs.declared.Performed.{Performed}

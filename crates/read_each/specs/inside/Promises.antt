@@ -1,13 +1,13 @@
 -- What the calls that read all attributes of an element ask and promise. Definitions only.
 use Rattle.std.specs.Prelude.{ℕ, ◌-◌, ◌*◌, ◌≤◌, List, [], length, take}
-use Rattle.refusal.specs.Refusal.{Outcome}
-use Rattle.table.specs.Event.{Attribute, attributes_from}
-use Rattle.read_element.specs.Outcome.{Place, Rooms}
-use Rattle.read_element.specs.Attributes.{Given, read_attributes}
-use Rattle.read_element.specs.inside.Held.{Held, Roomy}
-use Rattle.read_element.specs.inside.Refines.{Table, Areas}
+use Rattle.read_free.specs.of_refusal.Refusal.{Outcome}
+use Rattle.read_free.specs.of_table.Event.{Attribute, attributes_from}
+use Rattle.read_free.specs.of_read_element.Outcome.{Place, Rooms}
+use Rattle.read_free.specs.of_read_element.Attributes.{Given, read_attributes}
+use Rattle.read_free.specs.of_read_element.inside.Held.{Held, Roomy}
+use Rattle.read_free.specs.of_read_element.inside.Refines.{Table, Areas}
 use Rattle.read_attribute.specs.declared.Range.{Range}
-use Rattle.read_fault.specs.declared.Step.{Step}
+use Rattle.read_attribute.specs.of_read_fault.declared.Step.{Step}
 use Rattle.read_attribute.specs.inside.Steps.{Matches}
 use Rattle.read_free.specs.inside.Unrepeated.{Unrepeated}
 use Rattle.read_each.specs.inside.Fresh.{fresh}

@@ -1,16 +1,16 @@
 -- What the areas hold while an element is read, and how answers are those of the definitions. Definitions only.
 use Rattle.std.specs.Prelude.{ℕ, ◌+◌, ◌*◌, ◌≤◌, zero, suc, ◌≡◌, List, [], ◌∷◌, ◌++◌, cond, length, drop, get_or, set, leb}
-use Rattle.area.specs.Answer.{Answer, gives, refuses}
-use Rattle.area.specs.Area.{zeros}
-use Rattle.refusal.specs.Refusal.{Refused, Outcome}
+use Rattle.integer.specs.of_area.Answer.{Answer, gives, refuses}
+use Rattle.integer.specs.of_area.Area.{zeros}
+use Rattle.integer.specs.of_refusal.Refusal.{Refused, Outcome}
 use Rattle.table.specs.Event.{Attribute}
 use Rattle.read_element.specs.Outcome.{Place, Rooms, fits}
-use Rattle.names.specs.Names.{same_bytes}
+use Rattle.integer.specs.of_names.Names.{same_bytes}
 use Rattle.tree_put.specs.Put.{put_text}
-use Rattle.utf8.specs.Characters.{joined}
-use Rattle.tree_record.specs.Record.{text_at}
+use Rattle.integer.specs.of_utf8.Characters.{joined}
+use Rattle.tree_put.specs.of_tree_record.Record.{text_at}
 use Rattle.read_element.specs.Attributes.{Given, place_of, old_extra, new_extra}
-use Rattle.refusal.specs.declared.Cause.{Cause}
+use Rattle.integer.specs.of_refusal.declared.Cause.{Cause}
 use Rattle.read_element.specs.inside.Refines.{Refines}
 
 -- the keys of attributes

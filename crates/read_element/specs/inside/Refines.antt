@@ -1,6 +1,6 @@
 -- How the code's answers are those of the definitions, and what a call is lent. Definitions only.
 use Rattle.std.specs.Prelude.{ℕ, List, []}
-use Rattle.refusal.specs.Refusal.{Refused, Outcome, accepted, refused}
+use Rattle.integer.specs.of_refusal.Refusal.{Refused, Outcome, accepted, refused}
 use Rattle.read_element.specs.Outcome.{Place}
 
 -- the answer is that of the outcome: where the definition accepts a state, the code's answer `to` holds what Q ties to it, and where it

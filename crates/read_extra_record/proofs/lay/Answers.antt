@@ -1,8 +1,8 @@
 use Rattle.read_element.proofs.Taking.{text-fits, lay-put, lay-full}
-use Rattle.text.specs.Kept.{kept_answer}
+use Rattle.read_element.specs.of_text.Kept.{kept_answer}
 use native.Mathlib.Omega.{arith}
 use mathlib.Core.Path.{sym, ap, ◌∙◌}
-use Rattle.refusal.specs.declared.Cause.TheVariants as cause
+use Rattle.read_element.specs.of_refusal.declared.Cause.TheVariants as cause
 use Rattle.read_extra_record.proofs.lay.Goals as goal
 
 pub overflow_add-result : goal.overflow_add-result

@@ -1,7 +1,7 @@
 use Rattle.read_extra_record.proofs.NewExtras.{laid-size, new-spent, key-full, value-full, new-put}
 use Rattle.read_extra_record.proofs.Storing.{end-put}
 use Rattle.read_extra_record.specs.inside.Answers.{laidAnswer}
-use Rattle.text.specs.Value.{value_text}
+use Rattle.read_element.specs.of_text.Value.{value_text}
 use lib.ListN.{length}
 use native.Mathlib.Omega.{arith}
 use mathlib.Core.Path.{sym, ap, ◌∙◌}

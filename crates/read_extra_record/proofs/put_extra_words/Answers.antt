@@ -1,4 +1,4 @@
-use Rattle.tree_put.specs.Put.{put_text}
+use Rattle.read_element.specs.of_tree_put.Put.{put_text}
 use mathlib.Core.Path.{ap, ◌∙◌}
 use Prim.Native.Nat.{◌-◌}
 use Rattle.read_extra_record.proofs.put_extra_words.Goals as goal

@@ -1,11 +1,11 @@
 -- The code's answers as those of the definitions. Definitions only.
 use Rattle.std.specs.Prelude.{ℕ}
-use Rattle.area.specs.Answer.{Answer, gives, refuses}
+use Rattle.read_element.specs.of_area.Answer.{Answer, gives, refuses}
 use Rattle.read_extra_record.specs.declared.Gave.{Gave}
 use Rattle.read_extra_record.specs.declared.Gave.TheVariants as gave
 use Rattle.read_extra_record.specs.declared.Laid.{Laid}
 use Rattle.read_extra_record.specs.declared.Laid.TheVariants as lay
-use Rattle.refusal.specs.declared.Cause.TheVariants as cause
+use Rattle.read_element.specs.of_refusal.declared.Cause.TheVariants as cause
 
 abbrev pub laidAnswer : Laid → Answer ℕ
 laidAnswer (lay.To end) = gives end

@@ -1,6 +1,6 @@
 -- What the calls promise. Definitions only.
 use Rattle.std.specs.Prelude.{ℕ, ◌+◌, ◌*◌, ◌≤◌, List, length}
-use Rattle.text.specs.Value.{value_text}
+use Rattle.read_element.specs.of_text.Value.{value_text}
 use Rattle.read_element.specs.Outcome.{Place, Rooms}
 use Rattle.read_element.specs.Attributes.{Given, old_extra, new_extra}
 use Rattle.read_element.specs.inside.Held.{Held, Roomy, Meets}

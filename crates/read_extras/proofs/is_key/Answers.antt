@@ -1,6 +1,6 @@
-use Rattle.text.specs.Value.{value_text}
-use Rattle.table.specs.Event.{part}
-use Rattle.names.specs.Names.{same_bytes}
+use Rattle.text_key.specs.of_text.Value.{value_text}
+use Rattle.read_extra_record.specs.of_table.Event.{part}
+use Rattle.text_key.specs.of_names.Names.{same_bytes}
 use lib.ListN.{get_or}
 use mathlib.Core.Path.{ap, ◌∙◌}
 use mathlib.Core.List.{List}

@@ -1,5 +1,5 @@
 use Rattle.read_extras.proofs.Placing.{Placing}
-use Rattle.text.specs.Value.{value_text}
+use Rattle.text_key.specs.of_text.Value.{value_text}
 use Prim.Native.Nat.{◌-◌}
 use Rattle.read_extras.proofs.place_of.Given as goal
 

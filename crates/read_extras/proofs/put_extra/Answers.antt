@@ -1,4 +1,4 @@
-use Rattle.text.specs.Value.{value_text}
+use Rattle.text_key.specs.of_text.Value.{value_text}
 use Rattle.read_extras.proofs.Choosing.{choose_old, choose-new, hint-held}
 use native.Mathlib.Omega.{arith}
 use Rattle.read_extras.proofs.put_extra.Goals as goal

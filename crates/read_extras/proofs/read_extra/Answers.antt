@@ -1,5 +1,5 @@
 use Rattle.read_extras.proofs.Choosing.{read-key, read-value, read-put, hint-keyed}
-use Rattle.text.specs.Value.{checked_answer}
+use Rattle.text_key.specs.of_text.Value.{checked_answer}
 use mathlib.Core.Path.{sym, ap, ◌∙◌}
 use Rattle.read_extras.proofs.read_extra.Goals as goal
 

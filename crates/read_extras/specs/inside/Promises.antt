@@ -1,11 +1,11 @@
 -- What the calls promise. Definitions only.
 use Rattle.std.specs.Prelude.{ℕ, ◌≤◌, ◌≡◌, List, length}
-use Rattle.text.specs.Value.{value_text}
-use Rattle.table.specs.Event.{Attribute}
-use Rattle.read_element.specs.Outcome.{Place, Rooms}
-use Rattle.read_element.specs.Attributes.{Given, read_extra}
-use Rattle.read_element.specs.inside.Held.{place_at, put_extra, Held, Roomy, Meets}
-use Rattle.read_element.specs.inside.Refines.{Areas}
+use Rattle.text_key.specs.of_text.Value.{value_text}
+use Rattle.read_extra_record.specs.of_table.Event.{Attribute}
+use Rattle.read_extra_record.specs.of_read_element.Outcome.{Place, Rooms}
+use Rattle.read_extra_record.specs.of_read_element.Attributes.{Given, read_extra}
+use Rattle.read_extra_record.specs.of_read_element.inside.Held.{place_at, put_extra, Held, Roomy, Meets}
+use Rattle.read_extra_record.specs.of_read_element.inside.Refines.{Areas}
 use Rattle.read_extra_record.specs.declared.Given.{Given as Counted}
 use Rattle.read_extra_record.specs.declared.Gave.{Gave}
 use Rattle.read_extra_record.specs.inside.Answers.{gaveAnswer}

@@ -1,8 +1,8 @@
 use Prim.Native.Nat.{ℕ}
 use mathlib.Core.Path.{refl, ap, ◌∙◌}
-use Rattle.refusal.specs.declared.PathElement.{PathElement}
-use Rattle.refusal.specs.Refusal.{nowhere, longer}
-use Rattle.read_element.specs.Outcome.{element}
+use Rattle.read_extra_record.specs.of_refusal.declared.PathElement.{PathElement}
+use Rattle.read_extra_record.specs.of_refusal.Refusal.{nowhere, longer}
+use Rattle.read_extra_record.specs.of_read_element.Outcome.{element}
 use Rattle.read_fault.proofs.Faults.{with-key}
 use Rattle.read_fault.proofs.within.Goals as goal
 

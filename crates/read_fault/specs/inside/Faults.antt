@@ -1,9 +1,9 @@
 -- The code's refusals at an attribute, and its paths of one. Definitions only.
 use Rattle.std.specs.Prelude.{ℕ, zero, suc}
-use Rattle.refusal.specs.Refusal.{longer}
-use Rattle.refusal.specs.declared.Cause.{Cause}
-use Rattle.refusal.specs.declared.Path.{Path}
-use Rattle.read_element.specs.Outcome.{attribute_element}
+use Rattle.read_extra_record.specs.of_refusal.Refusal.{longer}
+use Rattle.read_extra_record.specs.of_refusal.declared.Cause.{Cause}
+use Rattle.read_extra_record.specs.of_refusal.declared.Path.{Path}
+use Rattle.read_extra_record.specs.of_read_element.Outcome.{attribute_element}
 use Rattle.read_fault.specs.declared.Step.{Step}
 use Rattle.read_fault.specs.declared.Step.TheVariants as step
 

@@ -1,4 +1,4 @@
-use Rattle.area.specs.Area.{zeros}
+use Rattle.read_chains.specs.of_area.Area.{zeros}
 use mathlib.Core.Path.{ap, ◌∙◌}
 use Rattle.read_free.proofs.free_by_chains.Goals as goal
 

@@ -1,5 +1,5 @@
 use borrow.Author.Tests.{ne_eqb}
-use Rattle.names.specs.Keys as key
+use Rattle.schema.specs.of_names.Keys as key
 use Rattle.read_keys.specs.Roles.{role_in, case_role}
 use Rattle.read_keys.proofs.case_role.Goals as goal
 

@@ -4,8 +4,8 @@ use mathlib.Core.Bool.{true}
 use mathlib.Core.List.{List}
 use native.Mathlib.Omega.{arith}
 use lib.Seq.{length-take-le}
-use Rattle.area.specs.Area.{zeros}
-use Rattle.clean_order.specs.inside.CleanOrder.{ComesBy}
+use Rattle.key_sort.specs.of_area.Area.{zeros}
+use Rattle.key_sort.specs.of_clean_order.inside.CleanOrder.{ComesBy}
 use Rattle.key_sort.proofs.Numbers.{length-numbers}
 use Rattle.key_sort.proofs.Taking.{numbers-take}
 use Rattle.key_sort.specs.inside.Arranged.{Arranged}

@@ -1,8 +1,8 @@
 -- Attributes that are the first with what would be stored for their keys. Definitions only.
 use Rattle.std.specs.Prelude.{ℕ, ◌+◌, ◌-◌, ◌≤◌, ◌<◌, ◌≡◌, ◌⊎◌, List, false, get_or}
-use Rattle.names.specs.Names.{same_bytes}
-use Rattle.text.specs.Value.{value_text}
-use Rattle.table.specs.Event.{key_at}
+use Rattle.key_sort.specs.of_names.Names.{same_bytes}
+use Rattle.key_sort.specs.of_text.Value.{value_text}
+use Rattle.key_sort.specs.of_table.Event.{key_at}
 
 -- what would be stored for the key of attribute j
 abbrev pub stored_for : List ℕ → List ℕ → ℕ → List ℕ

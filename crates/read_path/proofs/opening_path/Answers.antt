@@ -1,5 +1,5 @@
 use native.Mathlib.Omega.{arith}
-use Rattle.read_state.proofs.Turning.{opening-other}
+use Rattle.read_place.proofs.of_read_state.Turning.{opening-other}
 use Rattle.read_path.proofs.Leading.{leads-with}
 use Rattle.read_path.proofs.opening_path.Goals as goal
 

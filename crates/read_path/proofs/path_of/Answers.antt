@@ -1,7 +1,7 @@
 use Rattle.read_place.specs.inside.Coded.{marks_of}
 use Rattle.read_path.proofs.Leading.{inside, leads-new}
-use Rattle.read_state.specs.inside.Coded.{output_of, mode_of, closing}
-use Rattle.read_state.specs.Control.{Level, close_text, read_property, or_skip}
+use Rattle.read_place.specs.of_read_state.inside.Coded.{output_of, mode_of, closing}
+use Rattle.read_place.specs.of_read_state.Control.{Level, close_text, read_property, or_skip}
 use Rattle.read_path.specs.Paths.{path_of}
 use Rattle.read_path.proofs.path_of.Goals as goal
 

@@ -1,4 +1,4 @@
-use Rattle.read_state.specs.inside.Coded.{level_of}
+use Rattle.read_place.specs.of_read_state.inside.Coded.{level_of}
 use Rattle.read_place.specs.inside.Coded.{marks_of}
 use Rattle.read_path.proofs.Lengths.{level-short}
 use Rattle.read_path.proofs.Leading.{leads-two}

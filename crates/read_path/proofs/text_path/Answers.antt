@@ -1,6 +1,6 @@
 use Rattle.read_place.specs.inside.Coded.{marks_of}
 use Rattle.read_path.proofs.Leading.{leads-with}
-use Rattle.read_state.specs.inside.Coded.{level_of}
+use Rattle.read_place.specs.of_read_state.inside.Coded.{level_of}
 use Rattle.read_path.proofs.Lengths.{level-room}
 use Rattle.read_path.proofs.text_path.Goals as goal
 

@@ -1,10 +1,10 @@
 -- The code's paths in the words of Paths.antt. Definitions only.
 use Rattle.std.specs.Prelude.{Bool, true, false, List, ◌≡◌}
-use Rattle.refusal.specs.Refusal.{path_from}
-use Rattle.refusal.specs.declared.PathElement.{PathElement}
-use Rattle.refusal.specs.declared.Path.{Path}
-use Rattle.read_state.specs.Control.{top, suite, case, status}
-use Rattle.read_state.specs.Control.{Act, pass, open_report, open_suite, open_case, open_status, close_suite, close_case, close_status, open_text, close_text, open_list, read_property, stop, missing, broken}
+use Rattle.read_rules.specs.of_refusal.Refusal.{path_from}
+use Rattle.read_rules.specs.of_refusal.declared.PathElement.{PathElement}
+use Rattle.read_rules.specs.of_refusal.declared.Path.{Path}
+use Rattle.read_place.specs.of_read_state.Control.{top, suite, case, status}
+use Rattle.read_place.specs.of_read_state.Control.{Act, pass, open_report, open_suite, open_case, open_status, close_suite, close_case, close_status, open_text, close_text, open_list, read_property, stop, missing, broken}
 
 -- a path of the code, and its elements: behind them stand fillers
 pub record Leads (p : Path) (es : List PathElement) : Type 0 where

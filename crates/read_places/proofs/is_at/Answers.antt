@@ -3,8 +3,8 @@ use mathlib.Core.Bool.{false≢true}
 use mathlib.Core.List.{List}
 use Prim.Native.Nat.{ℕ}
 use native.Mathlib.Omega.{arith}
-use Rattle.names.specs.Names.{same_bytes}
-use Rattle.text.specs.Value.{value_text}
+use Rattle.read_element.specs.of_names.Names.{same_bytes}
+use Rattle.read_element.specs.of_text.Value.{value_text}
 use Rattle.read_places.proofs.is_at.Goals as goal
 
 pub returns-then-extras-i : goal.returns-then-extras-i

@@ -1,7 +1,7 @@
 use Prim.Native.Nat.{ℕ}
 use mathlib.Core.Path.{refl, subst}
 use mathlib.Core.List.{List}
-use Rattle.area.proofs.Parts.{rest_part, rest_back}
+use Rattle.read_element.proofs.of_area.Parts.{rest_part, rest_back}
 use Rattle.read_places.specs.inside.Told.{Quiet}
 use Rattle.read_places.proofs.Noting.{noted-front, noted_quiet}
 use Rattle.read_places.proofs.note_extra.Goals as goal

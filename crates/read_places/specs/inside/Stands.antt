@@ -1,6 +1,6 @@
 -- Extras of an element by their stored keys. Definitions only.
 use Rattle.std.specs.Prelude.{ℕ, ◌+◌, ◌*◌, List, drop}
-use Rattle.tree_record.specs.Record.{text_at}
+use Rattle.read_element.specs.of_tree_record.Record.{text_at}
 
 -- the key of extra i: its record stands behind the element's own and those before it
 abbrev pub stored_key : List ℕ → List ℕ → ℕ → List ℕ

@@ -1,6 +1,6 @@
 -- What is known of an attribute's extra from the words behind the records. Definitions only.
 use Rattle.std.specs.Prelude.{ℕ, ◌<◌, ◌≡◌, List, true, get_or, take, drop}
-use Rattle.names.specs.Names.{same_bytes}
+use Rattle.read_element.specs.of_names.Names.{same_bytes}
 use Rattle.read_element.specs.inside.Held.{place_at}
 use Rattle.read_marks.specs.inside.Marks.{stored_for, New, Marks}
 use Rattle.read_places.specs.inside.Stands.{stored_key}

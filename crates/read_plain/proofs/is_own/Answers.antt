@@ -1,6 +1,6 @@
 use Prim.Native.Nat.{◌-◌}
 use mathlib.Core.Path.{refl}
-use Rattle.area.proofs.Sifting.{sifting-start, sifting-more, sifting-done}
+use Rattle.read_chains.proofs.of_area.Sifting.{sifting-start, sifting-more, sifting-done}
 use Rattle.read_plain.specs.inside.Plain.{altered, unaltered}
 use Rattle.read_plain.proofs.is_own.Goals as goal
 

@@ -1,6 +1,6 @@
 use Prim.Native.Nat.{◌-◌}
 use lib.ListN.{length}
-use Rattle.area.proofs.Sifting.{Sifting}
+use Rattle.read_chains.proofs.of_area.Sifting.{Sifting}
 use Rattle.read_plain.specs.inside.Plain.{unaltered}
 use Rattle.read_plain.proofs.is_own.Given as goal
 

@@ -1,8 +1,8 @@
 -- Keys that stand for themselves. Definitions only.
 use Rattle.std.specs.Prelude.{ℕ, ◌≤◌, ◌<◌, ◌≡◌, List, [], ◌∷◌, Bool, true, not, ◌&&◌, ◌||◌, eqb}
-use Rattle.text_filter.specs.Filter.{dropped}
-use Rattle.text.specs.Value.{value_text}
-use Rattle.table.specs.Event.{key_at}
+use Rattle.read_chains.specs.of_text_filter.Filter.{dropped}
+use Rattle.read_chains.specs.of_text.Value.{value_text}
+use Rattle.read_chains.specs.of_table.Event.{key_at}
 
 -- a byte that begins a reference (rule X3), or is dropped (rule X8)
 abbrev pub altered : ℕ → Bool

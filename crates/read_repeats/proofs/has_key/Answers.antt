@@ -1,6 +1,6 @@
 use lib.ListN.{get_or}
-use Rattle.table.specs.Event.{part}
-use Rattle.names.specs.Names.{same_bytes}
+use Rattle.read_element.specs.of_table.Event.{part}
+use Rattle.read_element.specs.of_names.Names.{same_bytes}
 use mathlib.Core.Path.{ap, ◌∙◌}
 use mathlib.Core.List.{List}
 use Prim.Native.Nat.{ℕ}

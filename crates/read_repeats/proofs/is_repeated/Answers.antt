@@ -1,5 +1,5 @@
 use Prim.Native.Nat.{◌-◌}
-use Rattle.table.specs.Event.{attributes_from}
+use Rattle.read_element.specs.of_table.Event.{attributes_from}
 use Rattle.read_element.specs.inside.Held.{keys_of}
 use Rattle.read_repeats.proofs.Keys.{part-told, searched}
 use Rattle.read_repeats.proofs.is_repeated.Goals as goal

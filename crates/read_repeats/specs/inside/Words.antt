@@ -1,6 +1,6 @@
 -- An attribute in its words. Definitions only.
 use Rattle.std.specs.Prelude.{ℕ, List, get_or, eqb}
-use Rattle.table.specs.Event.{Attribute, part}
+use Rattle.read_element.specs.of_table.Event.{Attribute, part}
 
 -- the attribute whose five words the list begins with (rule T2)
 abbrev pub attribute_in : List ℕ → List ℕ → Attribute

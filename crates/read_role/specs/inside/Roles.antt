@@ -1,13 +1,13 @@
 -- A value's answer, as that of the definitions, and what the call promises. Definitions only.
 use Rattle.std.specs.Prelude.{ℕ, ◌+◌, ◌<◌, ◌≡◌, List, length}
-use Rattle.area.specs.Answer.{Answer, gives, refuses}
-use Rattle.table.specs.Event.{Attribute}
-use Rattle.read_element.specs.Outcome.{Place, Rooms, within}
-use Rattle.read_element.specs.Attributes.{Given, by_role}
-use Rattle.read_element.specs.inside.Held.{Held, Roomy, Meets}
-use Rattle.read_element.specs.inside.Refines.{Areas}
-use Rattle.read_keys.specs.declared.Role.{Role}
-use Rattle.read_keys.specs.declared.Role.TheVariants as role
+use Rattle.read_values.specs.of_area.Answer.{Answer, gives, refuses}
+use Rattle.read_values.specs.of_table.Event.{Attribute}
+use Rattle.read_values.specs.of_read_element.Outcome.{Place, Rooms, within}
+use Rattle.read_values.specs.of_read_element.Attributes.{Given, by_role}
+use Rattle.read_values.specs.of_read_element.inside.Held.{Held, Roomy, Meets}
+use Rattle.read_values.specs.of_read_element.inside.Refines.{Areas}
+use Rattle.read_values.specs.of_read_keys.declared.Role.{Role}
+use Rattle.read_values.specs.of_read_keys.declared.Role.TheVariants as role
 use Rattle.read_values.specs.declared.Took.{Took}
 use Rattle.read_values.specs.declared.Took.TheVariants as took
 

@@ -1,5 +1,5 @@
 use Rattle.read_rules.proofs.Planning.{case-opens, status-most, opening-status}
-use Rattle.read_state.specs.Control.{at, case}
+use Rattle.read_children.specs.of_read_state.Control.{at, case}
 use native.Mathlib.Omega.{arith}
 use borrow.Author.Tests.{ne_eqb}
 use mathlib.Core.Path.{sym, ◌∙◌}

@@ -1,5 +1,5 @@
 use Rattle.read_rules.proofs.Planning.{suite-opens}
-use Rattle.read_state.specs.Control.{at, suite}
+use Rattle.read_children.specs.of_read_state.Control.{at, suite}
 use borrow.Author.Tests.{ne_eqb}
 use mathlib.Core.Path.{refl, ◌∙◌}
 use Rattle.read_rules.proofs.open_suite.Goals as goal

@@ -1,4 +1,4 @@
-use Rattle.read_state.specs.inside.Coded.{level_of}
+use Rattle.read_children.specs.of_read_state.inside.Coded.{level_of}
 use Rattle.read_rules.specs.Rules.{plan_at}
 use Rattle.read_rules.proofs.plan_tag.Goals as goal
 

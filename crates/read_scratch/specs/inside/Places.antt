@@ -1,7 +1,7 @@
 -- Where the texts that are being gathered lie in scratch. Definitions only.
 use Rattle.std.specs.Prelude.{ℕ, ◌+◌, Bool, false, leb}
-use Rattle.read_state.specs.declared.Mode.{Mode as CodedMode}
-use Rattle.read_state.specs.declared.Mode.TheVariants.{At, Text, List as Listing}
+use Rattle.read_content.specs.of_read_state.declared.Mode.{Mode as CodedMode}
+use Rattle.read_content.specs.of_read_state.declared.Mode.TheVariants.{At, Text, List as Listing}
 use Rattle.read_content.specs.declared.Content.{Content as CodedContent}
 
 -- where a piece goes

@@ -2,8 +2,8 @@ use Rattle.read_sorted.proofs.Scanning.{scanning-start, scanning-done, step-told
 use Rattle.read_sorted.specs.inside.Repeats.{nearer}
 use Rattle.key_sort.proofs.Numbers.{length-numbers}
 use Rattle.key_sort.specs.inside.Numbers.{numbers_in}
-use Rattle.table.specs.Event.{key_at}
-use Rattle.names.specs.Names.{same_bytes}
+use Rattle.key_sort.specs.of_table.Event.{key_at}
+use Rattle.key_sort.specs.of_names.Names.{same_bytes}
 use lib.ListN.{length, get_or}
 use mathlib.Core.Path.{refl, ap, ◌∙◌}
 use native.Mathlib.Omega.{arith}

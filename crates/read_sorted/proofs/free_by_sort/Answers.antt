@@ -1,4 +1,4 @@
-use Rattle.area.specs.Area.{zeros}
+use Rattle.key_sort.specs.of_area.Area.{zeros}
 use mathlib.Core.Path.{ap, ◌∙◌}
 use Rattle.read_sorted.proofs.free_by_sort.Goals as goal
 

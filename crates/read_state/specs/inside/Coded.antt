@@ -1,6 +1,6 @@
 -- The code's control and acts in the words of Control.antt. Definitions only.
 use Rattle.std.specs.Prelude.{ℕ, List, Bool, true, false, cond, eqb}
-use Rattle.tree_record.specs.Kinds as kind
+use Rattle.tree_status.specs.of_tree_record.Kinds as kind
 use Rattle.read_state.specs.Control.{Level, top, suite, case, status, Output, trace, out, err, Mode, at, gathering, listing, skipping, finished, Control, control, Act, pass, open_report}
 use Rattle.read_state.specs.Control.{open_suite, open_case, open_status, close_suite, close_case, close_status, open_text, close_text, open_list, read_property, stop, missing, broken, or_skip, turn}
 use Rattle.read_state.specs.declared.Level.{Level as CodedLevel}

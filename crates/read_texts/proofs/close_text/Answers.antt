@@ -2,8 +2,8 @@ use lib.ListN.{take, drop, length}
 use native.Mathlib.Omega.{arith}
 use Prim.Native.Nat.{◌+◌, ◌-◌}
 use mathlib.Core.Path.{refl}
-use Rattle.read_place.specs.inside.Coded.{marks_of}
-use Rattle.read_state.specs.inside.Coded.{level_of, output_of}
+use Rattle.read_content.specs.of_read_place.inside.Coded.{marks_of}
+use Rattle.read_content.specs.of_read_state.inside.Coded.{level_of, output_of}
 use Rattle.read_content.specs.Content.{cleaned}
 use Rattle.read_texts.proofs.Keeping.{end_fits, output-kept}
 use Rattle.read_texts.proofs.close_text.Goals as goal

@@ -1,8 +1,8 @@
 use native.Mathlib.Omega.{arith}
 use mathlib.Core.Path.{refl, sym, ap, ◌∙◌}
-use Rattle.area.specs.Area.{stored_answer}
+use Rattle.read_content.specs.of_area.Area.{stored_answer}
 use Rattle.read_texts.proofs.Keeping.{kept-answer, kept-fits, kept_back, words-taken, words-dropped}
-use Rattle.refusal.specs.declared.Cause.TheVariants as cause
+use Rattle.read_content.specs.of_refusal.declared.Cause.TheVariants as cause
 use Rattle.read_texts.proofs.keep_text.Goals as goal
 
 pub overflow_cast-n : goal.overflow_cast-n

@@ -1,13 +1,13 @@
 -- What the calls that end a text do. Definitions only.
 use Rattle.std.specs.Prelude.{ℕ, ◌≡◌, List, length}
-use Rattle.refusal.specs.Refusal.{nowhere}
-use Rattle.read_element.specs.Outcome.{Place, Rooms}
-use Rattle.read_state.specs.Control.{Level, case, status, Output, at, gathering}
-use Rattle.read_place.specs.Marks.{Marks}
+use Rattle.read_content.specs.of_refusal.Refusal.{nowhere}
+use Rattle.read_content.specs.of_read_element.Outcome.{Place, Rooms}
+use Rattle.read_content.specs.of_read_state.Control.{Level, case, status, Output, at, gathering}
+use Rattle.read_content.specs.of_read_place.Marks.{Marks}
 use Rattle.read_content.specs.Content.{Content, describing, outputting}
 use Rattle.read_content.specs.declared.Content.{Content as CodedContent}
 use Rattle.read_content.specs.declared.Performed.{Performed}
-use Rattle.read_element.specs.inside.Refines.{Areas}
+use Rattle.read_content.specs.of_read_element.inside.Refines.{Areas}
 use Rattle.read_content.specs.inside.Holds.{Holds, Lists, Sized, Performs}
 
 -- the open description, if no child's text was put over it, is put into record i, as `describing` says, and reading goes on in the case

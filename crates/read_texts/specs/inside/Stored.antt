@@ -1,9 +1,9 @@
 -- A text stored and put into its record. Definitions only.
 use Rattle.std.specs.Prelude.{ℕ, ◌+◌, List, Bool}
-use Rattle.area.specs.declared.Stored.{Stored}
-use Rattle.area.specs.declared.Stored.TheVariants.{Put, Full}
-use Rattle.refusal.specs.declared.Cause.TheVariants.{TextFull}
-use Rattle.tree_put.specs.Put.{put_text}
+use Rattle.read_content.specs.of_area.declared.Stored.{Stored}
+use Rattle.read_content.specs.of_area.declared.Stored.TheVariants.{Put, Full}
+use Rattle.read_content.specs.of_refusal.declared.Cause.TheVariants.{TextFull}
+use Rattle.read_content.specs.of_tree_put.Put.{put_text}
 use Rattle.read_content.specs.Content.{kept}
 use Rattle.read_content.specs.declared.Content.{Content as CodedContent}
 use Rattle.read_content.specs.declared.Performed.{Performed}

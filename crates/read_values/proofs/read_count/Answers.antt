@@ -1,6 +1,6 @@
 use Rattle.read_element.proofs.Taking.{took-put, took-none}
-use Rattle.integer.specs.Integer.{integer_answer}
-use Rattle.tree_put.specs.Put.{put_count_of}
+use Rattle.read_element.specs.of_integer.Integer.{integer_answer}
+use Rattle.tree_values.specs.of_tree_put.Put.{put_count_of}
 use mathlib.Core.Path.{sym, ap, ◌∙◌}
 use Rattle.read_values.proofs.read_count.Goals as goal
 

@@ -1,7 +1,7 @@
 use Rattle.read_element.proofs.Taking.{took-kept, took-dropped, took-none}
 use Rattle.read_element.specs.Attributes.{keep}
-use Rattle.time.specs.Time.{time_answer}
-use Rattle.tree_put.specs.Put.{put_time}
+use Rattle.read_element.specs.of_time.Time.{time_answer}
+use Rattle.tree_values.specs.of_tree_put.Put.{put_time}
 use mathlib.Core.Path.{sym, ap, ◌∙◌}
 use Rattle.read_values.proofs.read_duration.Goals as goal
 

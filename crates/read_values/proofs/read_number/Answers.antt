@@ -1,8 +1,8 @@
 use Rattle.read_element.proofs.Taking.{took_more, took-not}
 use Rattle.read_values.specs.inside.Answers.{tookAnswer}
-use Rattle.integer.specs.Integer.{integer_of}
-use Rattle.tree_record.specs.Record.{marked}
-use Rattle.tree_put.specs.Put.{put_count_of}
+use Rattle.read_element.specs.of_integer.Integer.{integer_of}
+use Rattle.tree_values.specs.of_tree_record.Record.{marked}
+use Rattle.tree_values.specs.of_tree_put.Put.{put_count_of}
 use mathlib.Core.Path.{sym, ap, ◌∙◌}
 use Rattle.read_values.proofs.read_number.Goals as goal
 

@@ -1,9 +1,9 @@
 use Rattle.read_element.proofs.Taking.{text-fits, text-put, text-none}
-use Rattle.text.specs.Kept.{kept_answer}
-use Rattle.tree_put.specs.Put.{put_text}
+use Rattle.read_element.specs.of_text.Kept.{kept_answer}
+use Rattle.tree_values.specs.of_tree_put.Put.{put_text}
 use native.Mathlib.Omega.{arith}
 use mathlib.Core.Path.{sym, ap, ◌∙◌}
-use Rattle.refusal.specs.declared.Cause.TheVariants as cause
+use Rattle.tree_values.specs.of_refusal.declared.Cause.TheVariants as cause
 use Rattle.read_values.proofs.read_text.Goals as goal
 
 pub overflow_cast-n : goal.overflow_cast-n

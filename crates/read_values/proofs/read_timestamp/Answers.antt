@@ -1,7 +1,7 @@
 use Rattle.read_element.proofs.Taking.{took-kept, took-dropped, took-none}
 use Rattle.read_element.specs.Attributes.{keep}
-use Rattle.timestamp.specs.Timestamp.{timestamp_answer}
-use Rattle.tree_put.specs.Put.{put_moment}
+use Rattle.tree_values.specs.of_timestamp.Timestamp.{timestamp_answer}
+use Rattle.tree_values.specs.of_tree_put.Put.{put_moment}
 use mathlib.Core.Path.{sym, ap, ◌∙◌}
 use Rattle.read_values.proofs.read_timestamp.Goals as goal
 

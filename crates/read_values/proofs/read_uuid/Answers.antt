@@ -1,6 +1,6 @@
 use Rattle.read_element.proofs.Taking.{took-put, took-none}
-use Rattle.uuids.specs.Uuid.{uuid_answer}
-use Rattle.tree_put.specs.Put.{put_uuid}
+use Rattle.tree_values.specs.of_uuids.Uuid.{uuid_answer}
+use Rattle.tree_values.specs.of_tree_put.Put.{put_uuid}
 use mathlib.Core.Path.{sym, ap, ◌∙◌}
 use Rattle.read_values.proofs.read_uuid.Goals as goal
 

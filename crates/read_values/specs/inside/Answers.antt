@@ -1,6 +1,6 @@
 -- The code's answers as those of the definitions. Definitions only.
 use Rattle.std.specs.Prelude.{ℕ}
-use Rattle.area.specs.Answer.{Answer, gives, refuses}
+use Rattle.tree_values.specs.of_area.Answer.{Answer, gives, refuses}
 use Rattle.read_values.specs.declared.Took.{Took}
 use Rattle.read_values.specs.declared.Took.TheVariants.{To, Not}
 

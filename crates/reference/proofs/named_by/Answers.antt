@@ -1,5 +1,5 @@
 use mathlib.Core.Path.{sym, ap, ◌∙◌}
-use Rattle.area.specs.Answer.{gives}
+use Rattle.names.specs.of_area.Answer.{gives}
 use Rattle.reference.specs.Reference.{entity_answer}
 use Rattle.reference.proofs.Naming.{named-entity, named-number}
 use Rattle.reference.proofs.named_by.Goals as goal

@@ -1,5 +1,5 @@
 use mathlib.Core.Path.{ap, ◌∙◌}
-use Rattle.area.proofs.Parts.{rest_part}
+use Rattle.names.proofs.of_area.Parts.{rest_part}
 use Rattle.digits.specs.Digits.{number_in}
 use Rattle.reference.proofs.Naming.{hexadecimal-number, decimal-number}
 use Rattle.reference.proofs.number_of.Goals as goal

@@ -1,7 +1,7 @@
 -- What the code of the release sheet does report by report. It only ties the code to the definition. Definitions only.
 use Rattle.std.specs.Prelude.{ℕ, true, false, cond, List, [], ◌∷◌, leb}
-use Rattle.refusal.specs.Refusal.{Outcome, accepted, refused, late}
-use Rattle.refusal.specs.declared.Cause.TheVariants as cause
+use Rattle.tree_counts.specs.of_refusal.Refusal.{Outcome, accepted, refused, late}
+use Rattle.tree_counts.specs.of_refusal.declared.Cause.TheVariants as cause
 use Rattle.tree_counts.specs.Counts.{with_suite}
 use Rattle.tree_counts.specs.declared.Counts.{Counts}
 use Rattle.sheet_sums.specs.Sheet.{no_counts, sheet_of}

@@ -1,5 +1,5 @@
 use Rattle.sheet_text.proofs.Answered.{no-sheet, whole-sheet, short-sheet}
-use Rattle.area.specs.Area.{zeros}
+use Rattle.list_text.specs.of_area.Area.{zeros}
 use lib.ListN.{length}
 use mathlib.Core.Path.{◌≡◌, ap, ◌∙◌}
 use borrow.Author.Rules.{rules}

@@ -1,11 +1,11 @@
 -- The earliest and the latest start, found by going along the records once. Definitions only.
 use Rattle.std.specs.Prelude.{ℕ, List, [], ◌∷◌, true, false, cond}
-use Rattle.timestamp.specs.declared.Moment.{Moment}
-use Rattle.instant.specs.Instant.{instant_of}
-use Rattle.instant.specs.inside.Lent.{instant_by}
+use Rattle.span.specs.of_timestamp.declared.Moment.{Moment}
+use Rattle.span.specs.of_instant.Instant.{instant_of}
+use Rattle.span.specs.of_instant.inside.Lent.{instant_by}
 use Rattle.span.specs.inside.Span.{sooner}
-use Rattle.tree_record.specs.Bits as bit
-use Rattle.tree_report.specs.Fields.{is_case, has_bit}
+use Rattle.tree_stamp.specs.of_tree_record.Bits as bit
+use Rattle.tree_stamp.specs.of_tree_report.Fields.{is_case, has_bit}
 use Rattle.tree_stamp.specs.Stamp.{cut_moment}
 use Rattle.start_ends.specs.declared.Start.{Start}
 use Rattle.start_ends.specs.declared.Ends.{Ends}

@@ -1,5 +1,5 @@
 use mathlib.Core.Path.{◌∙◌}
-use Rattle.days.proofs.Cycle.{table}
+use Rattle.start_ends.proofs.of_days.Cycle.{table}
 use Rattle.start_ends.specs.inside.Ends.{no_ends}
 use Rattle.starts.proofs.Walking.{same_ends, by-days}
 use Rattle.starts.proofs.ends_of.Goals as goal

@@ -3,7 +3,7 @@ use native.Mathlib.Nat.{min-le_left}
 use native.Mathlib.Omega.{arith}
 use lib.Seq.{length-take-le}
 use lib.ListN.{length}
-use Rattle.area.specs.Limits.{most_words}
+use Rattle.tree_layout.specs.of_area.Limits.{most_words}
 use Rattle.starts.proofs.Whole.{no-layout, starts-whole}
 use Rattle.starts.proofs.starts.Goals as goal
 

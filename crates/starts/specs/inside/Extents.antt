@@ -1,6 +1,6 @@
 -- The answer from the earliest and the latest start of the records. Definitions only.
 use Rattle.std.specs.Prelude.{true, cond}
-use Rattle.span.specs.inside.Span.{seconds_between, nanos_between}
+use Rattle.start_ends.specs.of_span.inside.Span.{seconds_between, nanos_between}
 use Rattle.start_ends.specs.declared.Start.{Start}
 use Rattle.start_ends.specs.declared.Ends.{Ends}
 use Rattle.starts.specs.declared.Extent.{Extent}

@@ -1,7 +1,7 @@
 use Prim.Native.Nat.{◌*◌}
 use mathlib.Core.Path.{sym, ◌∙◌}
 use native.Mathlib.Omega.{arith}
-use Rattle.area.proofs.Parts.{rest_part}
+use Rattle.table_parts.proofs.of_area.Parts.{rest_part}
 use Rattle.table.proofs.Walking.{event-misshapen, event-known, event-hit, event-clear, has-attributes}
 use Rattle.table.proofs.ValidTables.{shape-room}
 use Rattle.table.proofs.check_event.Goals as goal

@@ -1,6 +1,6 @@
 use Prim.Native.Nat.{◌-◌}
 use mathlib.Core.Path.{refl}
-use Rattle.area.proofs.Sifting.{sifting-start, sifting-more, sifting-done}
+use Rattle.copying.proofs.of_area.Sifting.{sifting-start, sifting-more, sifting-done}
 use Rattle.text_filter.specs.Filter.{dropped, unfiltered}
 use Rattle.text_filter.proofs.is_clean.Goals as goal
 

@@ -1,6 +1,6 @@
 use Prim.Native.Nat.{◌-◌}
 use lib.ListN.{length}
-use Rattle.area.proofs.Sifting.{Sifting}
+use Rattle.copying.proofs.of_area.Sifting.{Sifting}
 use Rattle.text_filter.specs.Filter.{unfiltered}
 use Rattle.text_filter.proofs.is_clean.Given as goal
 

@@ -1,9 +1,9 @@
 use Prim.Native.Nat.{◌-◌}
 use mathlib.Core.Path.{sym, ◌∙◌}
 use native.Mathlib.Omega.{arith}
-use Rattle.area.proofs.Laying.{laying-start, laying_on, laying-put, laying-done, laying-full}
+use Rattle.copying.proofs.of_area.Laying.{laying-start, laying_on, laying-put, laying-done, laying-full}
 use Rattle.text_filter.proofs.Filtering.{filter_drop-at, filter_keep-at, filter-end}
-use Rattle.refusal.specs.declared.Cause.TheVariants as cause
+use Rattle.copying.specs.of_refusal.declared.Cause.TheVariants as cause
 use Rattle.text_filter.proofs.store_each.Goals as goal
 
 pub loop-i-init : goal.loop-i-init

@@ -1,6 +1,6 @@
 use Prim.Native.Nat.{◌≤◌, ◌-◌}
 use lib.ListN.{length, drop}
-use Rattle.area.proofs.Laying.{Laying}
+use Rattle.copying.proofs.of_area.Laying.{Laying}
 use Rattle.text_filter.specs.Filter.{filtered}
 use Rattle.text_filter.proofs.store_each.Given as goal
 

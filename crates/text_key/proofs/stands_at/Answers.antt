@@ -3,7 +3,7 @@ use mathlib.Core.Path.{◌≡◌, sym, ap, ◌∙◌}
 use native.Mathlib.Omega.{arith}
 use lib.Seq.{length-take-le}
 use lib.ListN.{take, drop}
-use Rattle.names.specs.Names.{same_bytes}
+use Rattle.text.specs.of_names.Names.{same_bytes}
 use Rattle.text_key.proofs.Keys.{same-short}
 use Rattle.text_key.proofs.stands_at.Goals as goal
 

@@ -1,12 +1,12 @@
 use Prim.Native.Nat.{◌-◌}
 use mathlib.Core.Path.{ap}
 use native.Mathlib.Omega.{arith}
-use Rattle.area.proofs.Laying.{laying-start, laying_on, laying-done}
+use Rattle.utf8_lossy.proofs.of_area.Laying.{laying-start, laying_on, laying-done}
 use Rattle.text_filter.specs.Filter.{filtered}
 use Rattle.text_filter.proofs.Filtering.{filtered-append}
 use Rattle.utf8_lossy.proofs.Putting.{part-moves, part-fits, part-full, part-put, put-room}
 use Rattle.utf8_lossy.proofs.Replacing.{lossy-end}
-use Rattle.refusal.specs.declared.Cause.TheVariants as cause
+use Rattle.utf8_lossy.specs.of_refusal.declared.Cause.TheVariants as cause
 use Rattle.text_lossy.proofs.store_lossy.Goals as goal
 
 pub loop-i-init : goal.loop-i-init

@@ -1,6 +1,6 @@
 use Prim.Native.Nat.{◌-◌, ◌≤◌}
 use lib.ListN.{length, drop}
-use Rattle.area.proofs.Laying.{Laying}
+use Rattle.utf8_lossy.proofs.of_area.Laying.{Laying}
 use Rattle.text_lossy.specs.LossyText.{lossy_text}
 use Rattle.text_lossy.proofs.store_lossy.Given as goal
 

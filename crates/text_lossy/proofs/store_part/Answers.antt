@@ -1,12 +1,12 @@
 use mathlib.Core.Path.{sym, ap, ◌∙◌}
 use lib.Seq.{length-take-le}
 use lib.ListN.{length}
-use Rattle.area.specs.Area.{placing, laid}
-use Rattle.area.proofs.Laying.{other-area}
+use Rattle.utf8_lossy.specs.of_area.Area.{placing, laid}
+use Rattle.utf8_lossy.proofs.of_area.Laying.{other-area}
 use Rattle.utf8_lossy.specs.Lossy.{part_text}
 use Rattle.utf8_lossy.proofs.Parts.{parted-fits}
 use Rattle.text_lossy.proofs.Storing.{filtered-whole, filtered-bad}
-use Rattle.refusal.specs.declared.Cause.TheVariants as cause
+use Rattle.utf8_lossy.specs.of_refusal.declared.Cause.TheVariants as cause
 use Rattle.text_lossy.proofs.store_part.Goals as goal
 
 pub slice_bounds-store-end : goal.slice_bounds-store-end

@@ -1,7 +1,7 @@
 use mathlib.Core.Path.{sym, ◌∙◌}
-use Rattle.area.specs.Answer.{refuses}
+use Rattle.text.specs.of_area.Answer.{refuses}
 use Rattle.text.proofs.Putting.{kept-when}
-use Rattle.refusal.specs.declared.Cause.TheVariants as cause
+use Rattle.text.specs.of_refusal.declared.Cause.TheVariants as cause
 use Rattle.text_pieces.proofs.gather_cdata.Goals as goal
 
 pub returns-then-is_utf8 : goal.returns-then-is_utf8

@@ -1,6 +1,6 @@
 use Rattle.text_pieces.specs.Gather.{newline}
 use Rattle.text.proofs.Putting.{kept-placing}
-use Rattle.refusal.specs.declared.Cause.TheVariants as cause
+use Rattle.text.specs.of_refusal.declared.Cause.TheVariants as cause
 use Rattle.text_pieces.proofs.gather_indent.Goals as goal
 
 pub returns : goal.returns

@@ -1,13 +1,13 @@
-use Rattle.refusal.specs.declared.Cause.TheVariants as cause
+use Rattle.text.specs.of_refusal.declared.Cause.TheVariants as cause
 use Rattle.text_pieces.specs.Gather.{reference_text}
 use Rattle.text.proofs.Putting.{first-fails, second-fails, kept-both}
-use Rattle.reference.specs.Reference.{named_answer, is_named, char_of, unnamed}
-use Rattle.utf8.proofs.Encoding.{coded-front}
-use Rattle.utf8.specs.Characters.{encode}
-use Rattle.utf8.specs.Utf8.{utf8}
-use Rattle.area.proofs.Answers.{given, refused}
-use Rattle.area.specs.Answer.{refuses}
-use Rattle.area.specs.Area.{placing, laid}
+use Rattle.text.specs.of_reference.Reference.{named_answer, is_named, char_of, unnamed}
+use Rattle.text.proofs.of_utf8.Encoding.{coded-front}
+use Rattle.text.specs.of_utf8.Characters.{encode}
+use Rattle.text.specs.of_utf8.Utf8.{utf8}
+use Rattle.text.proofs.of_area.Answers.{given, refused}
+use Rattle.text.specs.of_area.Answer.{refuses}
+use Rattle.text.specs.of_area.Area.{placing, laid}
 use lib.Seq.{length-take-le}
 use lib.ListN.{length}
 use native.Mathlib.Omega.{arith}

@@ -1,4 +1,4 @@
-use Rattle.refusal.specs.declared.Cause.TheVariants as cause
+use Rattle.text.specs.of_refusal.declared.Cause.TheVariants as cause
 use Rattle.text_pieces.proofs.gather_text.Goals as goal
 
 pub returns : goal.returns

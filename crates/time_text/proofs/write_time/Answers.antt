@@ -4,12 +4,12 @@ use mathlib.Core.Path.{sym, ap, ◌∙◌}
 use mathlib.Core.List.{List}
 use native.Mathlib.Omega.{arith}
 use lib.ListN.{length, set, length-set}
-use Rattle.area.specs.Area.{stored_answer}
-use Rattle.area.proofs.Laying.{Laying, laying-put, laying-full, length-laid}
-use Rattle.digits.specs.Digits.{last_digits_of}
+use Rattle.time.specs.of_area.Area.{stored_answer}
+use Rattle.time.proofs.of_area.Laying.{Laying, laying-put, laying-full, length-laid}
+use Rattle.time.specs.of_digits.Digits.{last_digits_of}
 use Rattle.time_text.specs.Written.{written_time}
 use Rattle.time_text.proofs.Spelling.{seconds-full, seconds-put, last-full, last-put, last_fits}
-use Rattle.refusal.specs.declared.Cause.TheVariants as cause
+use Rattle.time.specs.of_refusal.declared.Cause.TheVariants as cause
 use Rattle.time_text.proofs.write_time.Goals as goal
 use Rattle.time_text.proofs.write_time.Goals.{Else-out-point}
 

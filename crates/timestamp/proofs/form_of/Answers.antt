@@ -2,7 +2,7 @@ use Prim.Native.Nat.{◌≤◌, ◌+◌}
 use mathlib.Core.Path.{◌≡◌, sym, ap, ◌∙◌}
 use native.Mathlib.Omega.{arith}
 use lib.ListN.{length}
-use Rattle.area.proofs.Parts.{rest_part}
+use Rattle.names.proofs.of_area.Parts.{rest_part}
 use Rattle.timestamp.specs.declared.parts.Fraction.TheVariants.{Of}
 use Rattle.timestamp.specs.Timestamp.{tail}
 use Rattle.timestamp.specs.inside.Leaves.{fraction_of, zone_of}

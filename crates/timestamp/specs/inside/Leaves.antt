@@ -1,6 +1,6 @@
 -- What the leaves behind a timestamp answer. Definitions only.
 use Rattle.std.specs.Prelude.{ℕ, cond, ◌||◌, List}
-use Rattle.fixed.specs.Fields.{all}
+use Rattle.clock.specs.of_fixed.Fields.{all}
 use Rattle.timestamp.specs.Timestamp.{year_of, month_of, day_of, date_tests, fraction_tests}
 use Rattle.timestamp.specs.Timestamp.{nanos_of, fraction_width, is_utc, offset_tests, offset_of, is_timestamp, moment_of}
 use Rattle.timestamp.specs.declared.parts.Date.{Date}

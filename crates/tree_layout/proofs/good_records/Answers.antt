@@ -2,7 +2,7 @@ use Prim.Native.Nat.{◌-◌, ◌+◌}
 use mathlib.Core.Path.{sym, ◌∙◌}
 use native.Mathlib.Omega.{arith}
 use lib.ListN.{take, drop}
-use Rattle.tree_status.proofs.Tallies.{few-more}
+use Rattle.tree_shape.proofs.of_tree_status.Tallies.{few-more}
 use Rattle.tree_order.specs.inside.Open.{state_of}
 use Rattle.tree_layout.proofs.Walking.{record-part, record-length, stands-fits, walking_start, walking-next, walking-stop, walking-done}
 use Rattle.tree_layout.proofs.good_records.Goals as goal

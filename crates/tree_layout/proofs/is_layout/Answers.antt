@@ -3,7 +3,7 @@ use native.Mathlib.Nat.{min-le_left}
 use native.Mathlib.Omega.{arith}
 use lib.ListN.{length, take}
 use lib.Seq.{length-take-le}
-use Rattle.area.specs.Limits.{most_bytes}
+use Rattle.tree_shape.specs.of_area.Limits.{most_bytes}
 use Rattle.tree_layout.proofs.Filling.{fill-first, fill-fits}
 use Rattle.tree_layout.proofs.Whole.{layout-whole}
 use Rattle.tree_layout.proofs.is_layout.Goals as goal

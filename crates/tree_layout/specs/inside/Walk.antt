@@ -1,7 +1,7 @@
 -- A layout's records, one behind the other. Definitions only.
 use Rattle.std.specs.Prelude.{ℕ, ◌+◌, ◌*◌, ◌/◌, Bool, cond, not, ◌&&◌, ◌||◌, List, leb, eqb, length, get_or, take, drop}
-use Rattle.tree_record.specs.Record.{live}
-use Rattle.tree_report.specs.Layout.{Open, all_zero, good_record, all_good, may_follow, following, nothing, good_order, records_from}
+use Rattle.tree_shape.specs.of_tree_record.Record.{live}
+use Rattle.tree_order.specs.of_tree_report.Layout.{Open, all_zero, good_record, all_good, may_follow, following, nothing, good_order, records_from}
 
 -- a record may stand here: it is good, and a live one may follow
 unfoldable pub admits : List ℕ → Open → List ℕ → Bool

@@ -1,6 +1,6 @@
 -- The words of a timestamp, before they are taken for its fields. Definitions only.
 use Rattle.std.specs.Prelude.{ℕ, Bool, ◌&&◌, List, leb, get_or}
-use Rattle.tree_record.specs.Words as word
+use Rattle.tree_slots.specs.of_tree_record.Words as word
 
 -- no word of a timestamp is above what its field may be in any month
 unfoldable pub moment_fits : List ℕ → Bool

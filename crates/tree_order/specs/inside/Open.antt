@@ -1,8 +1,8 @@
 -- What the code keeps of what is open, as the definition has it. Definitions only.
 use Rattle.std.specs.Prelude.{ℕ, Bool, false, ◌||◌, List}
-use Rattle.tree_record.specs.Bits as bit
-use Rattle.tree_record.specs.Record.{kind_of, has_bit}
-use Rattle.tree_status.specs.Status as rule
+use Rattle.tree_report.specs.of_tree_record.Bits as bit
+use Rattle.tree_report.specs.of_tree_record.Record.{kind_of, has_bit}
+use Rattle.tree_report.specs.of_tree_status.Status as rule
 use Rattle.tree_report.specs.Layout.{Open, over}
 use Rattle.tree_order.specs.declared.State.{State}
 

@@ -1,7 +1,7 @@
 -- A placed record with one part changed. Definitions only.
 use Rattle.std.specs.Prelude.{ℕ, Bool, false}
 use Rattle.std.proofs.Math.Option.{Option, none}
-use Rattle.timestamp.specs.declared.Moment.{Moment}
+use Rattle.tree_put.specs.of_timestamp.declared.Moment.{Moment}
 use Rattle.tree_report.specs.Report.{Text, Duration}
 use Rattle.tree_report.specs.inside.Cells.{Cell, absent, written, Row}
 use Rattle.tree_placed.specs.inside.Placed.{Places, Placed}

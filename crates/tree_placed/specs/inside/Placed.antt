@@ -1,6 +1,6 @@
 -- A record whose texts stand anywhere in the text area. Definitions only.
 use Rattle.std.specs.Prelude.{ℕ, ◌+◌, Bool, true, ◌&&◌, List, [], ◌∷◌, map, ◌≡◌, leb, length, take, drop}
-use Rattle.utf8.specs.Characters.{boundary}
+use Rattle.tree_put.specs.of_utf8.Characters.{boundary}
 use Rattle.tree_report.specs.inside.Cells.{Cell, absent, written, valued, constant, first_word, second_word, moment_or_zero, time_or_zero, flags_of, Row, presence}
 
 -- where the texts of a record start

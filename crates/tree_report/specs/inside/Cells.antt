@@ -1,12 +1,12 @@
 -- A record by its cells of two words: rows of which one part at a time is stored. Definitions only.
 use Rattle.std.specs.Prelude.{ℕ, ◌/◌, ◌%◌, List, [], ◌∷◌, ◌++◌, map, Bool, true, false, ◌&&◌, length, leb}
 use Rattle.std.proofs.Math.Option.{Option, none, some}
-use Rattle.utf8.specs.Utf8.{utf8}
-use Rattle.text_filter.specs.Filter.{unfiltered}
-use Rattle.timestamp.specs.Timestamp.{in_range}
-use Rattle.timestamp.specs.declared.Moment.{Moment}
-use Rattle.uuids.specs.declared.Words.{Words}
-use Rattle.tree_record.specs.Kinds as kind
+use Rattle.schema.specs.of_utf8.Utf8.{utf8}
+use Rattle.schema.specs.of_text_filter.Filter.{unfiltered}
+use Rattle.schema.specs.of_timestamp.Timestamp.{in_range}
+use Rattle.schema.specs.of_timestamp.declared.Moment.{Moment}
+use Rattle.schema.specs.of_uuids.declared.Words.{Words}
+use Rattle.tree_status.specs.of_tree_record.Kinds as kind
 pub use Rattle.schema.specs.Records.{is_some, flags_of}
 use Rattle.tree_report.specs.Report.{Text, Duration, Pair, FlakyOrRerun, flaky, TestRerun}
 use Rattle.tree_report.specs.Report.{Reason, TestCaseStatus, success, non_success, skipped, TestCase, TestSuite, Report}

@@ -1,12 +1,12 @@
 -- The parts that the code of a record's check is made of; the theorems of proofs/ByTable.antt and ByKind.antt tie them to the
 -- tables. Definitions only.
 use Rattle.std.specs.Prelude.{ℕ, ◌+◌, List, [], ◌∷◌, Bool, cond, true, ◌&&◌, ◌||◌, length, get_or, leb, eqb}
-use Rattle.utf8.specs.Characters.{boundary}
-use Rattle.timestamp.specs.Timestamp.{in_range}
-use Rattle.tree_record.specs.Words as word
-use Rattle.tree_record.specs.Bits as bit
-use Rattle.tree_record.specs.Kinds as kind
-use Rattle.tree_record.specs.Record.{mask_of}
+use Rattle.schema.specs.of_utf8.Characters.{boundary}
+use Rattle.schema.specs.of_timestamp.Timestamp.{in_range}
+use Rattle.tree_status.specs.of_tree_record.Words as word
+use Rattle.tree_status.specs.of_tree_record.Bits as bit
+use Rattle.tree_status.specs.of_tree_record.Kinds as kind
+use Rattle.tree_status.specs.of_tree_record.Record.{mask_of}
 use Rattle.schema.specs.Schema.{report, suite, case}
 use Rattle.schema.specs.Records.{zero_at, good}
 use Rattle.tree_report.specs.Fields.{kind_of, has_bit, moment_of}

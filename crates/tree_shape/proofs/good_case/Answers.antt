@@ -1,5 +1,5 @@
 use mathlib.Core.Path.{refl}
-use Rattle.tree_report.proofs.ByTable.{case-good}
+use Rattle.tree_moments.proofs.of_tree_report.ByTable.{case-good}
 use Rattle.tree_shape.proofs.Bits.{case-bits}
 use Rattle.tree_shape.proofs.good_case.Goals as goal
 

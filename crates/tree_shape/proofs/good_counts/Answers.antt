@@ -1,5 +1,5 @@
 use mathlib.Core.Path.{refl}
-use Rattle.tree_report.specs.inside.Parts.{good_counts}
+use Rattle.tree_moments.specs.of_tree_report.inside.Parts.{good_counts}
 use Rattle.tree_shape.proofs.good_counts.Goals as goal
 
 pub returns : goal.returns

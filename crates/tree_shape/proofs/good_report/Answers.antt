@@ -1,5 +1,5 @@
 use mathlib.Core.Path.{refl}
-use Rattle.tree_report.proofs.ByTable.{report-good}
+use Rattle.tree_moments.proofs.of_tree_report.ByTable.{report-good}
 use Rattle.tree_shape.proofs.Bits.{report-bits}
 use Rattle.tree_shape.proofs.good_report.Goals as goal
 

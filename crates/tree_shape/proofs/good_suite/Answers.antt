@@ -1,5 +1,5 @@
 use mathlib.Core.Path.{refl}
-use Rattle.tree_report.proofs.ByTable.{suite-good}
+use Rattle.tree_moments.proofs.of_tree_report.ByTable.{suite-good}
 use Rattle.tree_shape.proofs.Bits.{suite-bits}
 use Rattle.tree_shape.proofs.good_suite.Goals as goal
 

@@ -1,5 +1,5 @@
 use borrow.Author.Tests.{le-leb, lt-leb}
-use Rattle.tree_report.specs.inside.Parts.{bits_for}
+use Rattle.tree_moments.specs.of_tree_report.inside.Parts.{bits_for}
 use Rattle.tree_shape.proofs.Bits.{pair-bits, main-bits, skipped-bits, run-bits}
 use Rattle.tree_shape.proofs.only_other.Goals as goal
 

@@ -2,7 +2,7 @@ use Prim.Native.Nat.{◌-◌}
 use mathlib.Core.Bool.{not}
 use mathlib.Core.Path.{refl}
 use lib.Dec.{eqb}
-use Rattle.area.proofs.Sifting.{sifting-start, sifting-more, sifting-done}
+use Rattle.tree_report.proofs.of_area.Sifting.{sifting-start, sifting-more, sifting-done}
 use Rattle.tree_report.specs.Layout.{all_zero}
 use Rattle.tree_slots.proofs.Zeros.{zero-next}
 use Rattle.tree_slots.proofs.is_zero.Goals as goal

@@ -1,6 +1,6 @@
 use Prim.Native.Nat.{◌-◌}
 use lib.ListN.{length}
-use Rattle.area.proofs.Sifting.{Sifting}
+use Rattle.tree_report.proofs.of_area.Sifting.{Sifting}
 use Rattle.tree_report.specs.Layout.{all_zero}
 use Rattle.tree_slots.proofs.is_zero.Given as goal
 

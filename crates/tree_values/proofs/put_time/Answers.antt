@@ -1,5 +1,5 @@
 use mathlib.Core.Path.{ap, ◌∙◌}
-use Rattle.tree_record.specs.Record.{marked}
+use Rattle.tree_put.specs.of_tree_record.Record.{marked}
 use Rattle.tree_values.proofs.put_time.Goals as goal
 
 pub returns : goal.returns

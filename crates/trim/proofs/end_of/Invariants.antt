@@ -1,7 +1,7 @@
 use Prim.Native.Nat.{◌≤◌}
 use mathlib.Core.Path.{◌≡◌}
 use lib.ListN.{length, take}
-use Rattle.utf8.specs.Characters.{chars, joined}
+use Rattle.utf8_chars.specs.of_utf8.Characters.{chars, joined}
 use Rattle.trim.specs.Trim.{no_end_of}
 use Rattle.trim.proofs.end_of.Given as goal
 

@@ -1,7 +1,7 @@
 use Prim.Native.Nat.{◌≤◌, ◌-◌}
 use mathlib.Core.Path.{◌≡◌}
 use lib.ListN.{length, drop}
-use Rattle.utf8.specs.Characters.{chars}
+use Rattle.utf8_chars.specs.of_utf8.Characters.{chars}
 use Rattle.trim.specs.Trim.{no_start_of}
 use Rattle.trim.proofs.start_of.Given as goal
 

@@ -3,7 +3,7 @@ use mathlib.Core.List.{List}
 use mathlib.Core.Path.{sym, ap, ◌∙◌}
 use native.Mathlib.Omega.{arith}
 use lib.ListN.{get_or}
-use Rattle.area.proofs.Parts.{rest_part}
+use Rattle.utf8.proofs.of_area.Parts.{rest_part}
 use Rattle.utf8.specs.Utf8.{runs}
 use Rattle.utf8.proofs.Runs.{need-most, width-empty, width-found, width-missed}
 use Rattle.utf8_chars.proofs.char_width.Goals as goal

@@ -1,9 +1,9 @@
 use mathlib.Core.Path.{sym, ap, ◌∙◌}
 use lib.Seq.{length-take-le}
 use lib.ListN.{length}
-use Rattle.area.specs.Area.{placing, laid}
+use Rattle.utf8.specs.of_area.Area.{placing, laid}
 use Rattle.utf8_lossy.proofs.Parts.{parted-fits, parted-whole, parted-bad}
-use Rattle.refusal.specs.declared.Cause.TheVariants as cause
+use Rattle.utf8.specs.of_refusal.declared.Cause.TheVariants as cause
 use Rattle.utf8_lossy.proofs.put_part.Goals as goal
 
 pub slice_bounds-copy_into-end : goal.slice_bounds-copy_into-end

@@ -1,9 +1,9 @@
 use Prim.Native.Nat.{◌-◌}
 use native.Mathlib.Omega.{arith}
 use lib.ListN.{drop_of_length-le}
-use Rattle.area.proofs.Lists.{drop-next}
-use Rattle.area.proofs.Laying.{laying-start, laying_on, laying-put, laying-done, laying-full}
-use Rattle.refusal.specs.declared.Cause.TheVariants as cause
+use Rattle.list_text.proofs.of_area.Lists.{drop-next}
+use Rattle.list_text.proofs.of_area.Laying.{laying-start, laying_on, laying-put, laying-done, laying-full}
+use Rattle.list_text.specs.of_refusal.declared.Cause.TheVariants as cause
 use Rattle.write_bytes.proofs.copy_words.Goals as goal
 
 pub loop-i-init : goal.loop-i-init

@@ -1,6 +1,6 @@
 use Prim.Native.Nat.{◌≤◌, ◌-◌}
 use lib.ListN.{length, drop}
-use Rattle.area.proofs.Laying.{Laying}
+use Rattle.list_text.proofs.of_area.Laying.{Laying}
 use Rattle.write_bytes.proofs.copy_words.Given as goal
 
 abbrev pub invariant-loop-i : goal.invariant-loop-i

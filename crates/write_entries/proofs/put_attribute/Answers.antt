@@ -1,7 +1,7 @@
-use Rattle.list_text.proofs.Putting.{more, other}
+use Rattle.write_marks.proofs.of_list_text.Putting.{more, other}
 use Rattle.write_marks.proofs.Spelling.{table-key, pair-spelt}
 use borrow.Author.Tests.{ne_eqb}
-use Rattle.write_items.specs.inside.Values.{key_name, value_of}
+use Rattle.write_marks.specs.of_write_items.inside.Values.{key_name, value_of}
 use Rattle.write_entries.proofs.put_attribute.Goals as goal
 
 pub returns-then-k-eq-TABLE : goal.returns-then-k-eq-TABLE

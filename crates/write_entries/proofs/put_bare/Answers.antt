@@ -1,4 +1,4 @@
-use Rattle.list_text.proofs.Putting.{more}
+use Rattle.write_marks.proofs.of_list_text.Putting.{more}
 use mathlib.Core.List.{[]}
 use Rattle.write_entries.proofs.put_bare.Goals as goal
 

@@ -1,5 +1,5 @@
-use Rattle.list_text.proofs.Putting.{more}
-use Rattle.names.specs.Bytes.{bytes}
+use Rattle.write_marks.proofs.of_list_text.Putting.{more}
+use Rattle.write_marks.specs.of_names.Bytes.{bytes}
 use Rattle.write_entries.proofs.put_declaration.Goals as goal
 
 pub returns : goal.returns

@@ -1,9 +1,9 @@
-use Rattle.list_text.proofs.Putting.{more, other}
+use Rattle.write_marks.proofs.of_list_text.Putting.{more, other}
 use Rattle.write_marks.proofs.Spelling.{table-key, pair-spelt}
 use borrow.Author.Tests.{ne_eqb}
-use Rattle.tree_report.specs.Fields.{text_at}
-use Rattle.tree_record.specs.Words as word
-use Rattle.write_escape.specs.Escape.{escaped}
+use Rattle.write_marks.specs.of_tree_report.Fields.{text_at}
+use Rattle.write_marks.specs.of_tree_record.Words as word
+use Rattle.write_marks.specs.of_write_escape.Escape.{escaped}
 use Rattle.write_entries.proofs.put_extra.Goals as goal
 
 pub returns-then-k-eq-TABLE : goal.returns-then-k-eq-TABLE

@@ -1,7 +1,7 @@
-use Rattle.list_text.proofs.Putting.{more}
+use Rattle.write_marks.proofs.of_list_text.Putting.{more}
 use Rattle.write_marks.proofs.Spelling.{entry-spelt}
 use borrow.Author.Tests.{ne_eqb}
-use Rattle.write_items.specs.inside.Values.{tag_name}
+use Rattle.write_marks.specs.of_write_items.inside.Values.{tag_name}
 use Rattle.write_entries.proofs.put_tag.Goals as goal
 
 pub returns-then-k-eq-TABLE : goal.returns-then-k-eq-TABLE

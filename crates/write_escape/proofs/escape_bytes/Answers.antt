@@ -5,8 +5,8 @@ use lib.ListN.{length}
 use Rattle.write_escape.proofs.Putting.{byte_full, byte_put, byte_fits}
 use Rattle.write_escape.specs.Escape.{written, escaped}
 use Rattle.escape.proofs.Spelling.{spelled-end}
-use Rattle.area.proofs.Laying.{laying-start, laying_on, laying-done, length-laid}
-use Rattle.refusal.specs.declared.Cause.TheVariants as cause
+use Rattle.names.proofs.of_area.Laying.{laying-start, laying_on, laying-done, length-laid}
+use Rattle.names.specs.of_refusal.declared.Cause.TheVariants as cause
 use Rattle.write_escape.proofs.escape_bytes.Goals as goal
 
 pub loop-i-init : goal.loop-i-init

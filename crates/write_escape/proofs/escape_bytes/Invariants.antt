@@ -1,7 +1,7 @@
 use Prim.Native.Nat.{◌-◌, ◌≤◌}
 use lib.ListN.{length, drop}
 use Rattle.write_escape.specs.Escape.{escaped}
-use Rattle.area.proofs.Laying.{Laying}
+use Rattle.names.proofs.of_area.Laying.{Laying}
 use Rattle.write_escape.proofs.escape_bytes.Given as goal
 
 abbrev pub invariant-loop-i : goal.invariant-loop-i

@@ -1,5 +1,5 @@
-use Rattle.refusal.specs.declared.Cause.TheVariants as cause
-use Rattle.area.proofs.Laying.{laying-start, laying_on, laying-done, length-laid}
+use Rattle.names.specs.of_refusal.declared.Cause.TheVariants as cause
+use Rattle.names.proofs.of_area.Laying.{laying-start, laying_on, laying-done, length-laid}
 use Rattle.escape.proofs.Spelling.{spelled-end}
 use Rattle.write_escape.specs.Escape.{written, escaped}
 use Rattle.write_escape.proofs.Blocks.{block-full, block-put, block-fits}

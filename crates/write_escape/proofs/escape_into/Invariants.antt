@@ -1,4 +1,4 @@
-use Rattle.area.proofs.Laying.{Laying}
+use Rattle.names.proofs.of_area.Laying.{Laying}
 use Rattle.write_escape.specs.Escape.{escaped}
 use lib.ListN.{length, drop}
 use Prim.Native.Nat.{◌-◌, ◌≤◌}

@@ -1,6 +1,6 @@
 use Prim.Native.Nat.{◌-◌}
 use mathlib.Core.Path.{refl}
-use Rattle.area.proofs.Sifting.{sifting-start, sifting-done}
+use Rattle.names.proofs.of_area.Sifting.{sifting-start, sifting-done}
 use Rattle.write_escape.specs.inside.Plain.{plain}
 use Rattle.write_escape.proofs.Blocks.{sifting_five}
 use Rattle.write_escape.proofs.is_plain.Goals as goal

@@ -1,7 +1,7 @@
 use Prim.Native.Nat.{◌-◌}
 use mathlib.Core.Bool.{◌||◌}
 use lib.ListN.{length}
-use Rattle.area.proofs.Sifting.{Sifting}
+use Rattle.names.proofs.of_area.Sifting.{Sifting}
 use Rattle.write_escape.specs.inside.Plain.{plain}
 use Rattle.write_escape.proofs.is_plain.Given as goal
 

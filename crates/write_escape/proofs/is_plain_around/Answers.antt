@@ -1,6 +1,6 @@
 use mathlib.Core.Path.{refl, sym}
 use lib.Seq.{length-take-le}
-use Rattle.copying.proofs.Covering.{around}
+use Rattle.escape.proofs.of_copying.Covering.{around}
 use Rattle.write_escape.specs.inside.Plain.{is_special, plain}
 use Rattle.write_escape.proofs.is_plain_around.Goals as goal
 

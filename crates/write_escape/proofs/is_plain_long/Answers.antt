@@ -3,7 +3,7 @@ use mathlib.Core.Path.{refl, sym, ◌∙◌}
 use mathlib.Core.Bool.{true}
 use native.Mathlib.Omega.{arith}
 use lib.ListN.{length}
-use Rattle.copying.proofs.Covering.{passes_on, fails-all, last-decides}
+use Rattle.escape.proofs.of_copying.Covering.{passes_on, fails-all, last-decides}
 use Rattle.write_escape.specs.inside.Plain.{is_special, plain}
 use Rattle.write_escape.proofs.is_plain_long.Goals as goal
 

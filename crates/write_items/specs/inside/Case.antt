@@ -1,12 +1,12 @@
 -- What is written of a case, from its record and those behind it. Definitions only.
 use Rattle.std.specs.Prelude.{ℕ, ◌+◌, List, [], ◌∷◌, ◌++◌, Bool, true, false, cond, ◌&&◌, ◌||◌, length, leb, eqb}
-use Rattle.table.specs.Kinds as event
-use Rattle.names.specs.Tags as tag
-use Rattle.tree_record.specs.Bits as bit
-use Rattle.tree_record.specs.Kinds as kind
-use Rattle.schema.specs.Schema as table
-use Rattle.tree_report.specs.Fields.{kind_of, has_bit, system_out, system_err}
-use Rattle.tree_report.specs.ReportOf.{reason_of}
+use Rattle.write_report.specs.of_table.Kinds as event
+use Rattle.write_report.specs.of_names.Tags as tag
+use Rattle.write_report.specs.of_tree_record.Bits as bit
+use Rattle.write_report.specs.of_tree_record.Kinds as kind
+use Rattle.write_report.specs.of_schema.Schema as table
+use Rattle.write_report.specs.of_tree_report.Fields.{kind_of, has_bit, system_out, system_err}
+use Rattle.write_report.specs.of_tree_report.ReportOf.{reason_of}
 use Rattle.write_report.specs.Written.{serialize_outputs, serialize_status}
 use Rattle.write_table.specs.Laid.{Item, entry, pairs_of_it, items_of}
 use Rattle.write_items.specs.inside.Values.{tag_name, codes_of}

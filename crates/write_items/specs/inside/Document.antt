@@ -1,9 +1,9 @@
 -- What is written of a report, from its record and those behind it. Definitions only.
 use Rattle.std.specs.Prelude.{ℕ, List, [], ◌∷◌, ◌++◌, cond, length}
-use Rattle.names.specs.Tags as tag
-use Rattle.table.specs.Kinds as event
-use Rattle.schema.specs.Schema as table
-use Rattle.tree_report.specs.Fields.{live}
+use Rattle.write_report.specs.of_names.Tags as tag
+use Rattle.write_report.specs.of_table.Kinds as event
+use Rattle.write_report.specs.of_schema.Schema as table
+use Rattle.write_report.specs.of_tree_report.Fields.{live}
 use Rattle.write_report.specs.Written.{declaration}
 use Rattle.write_table.specs.Laid.{Item, entry, pairs_of_it, items_of}
 use Rattle.write_items.specs.inside.Values.{tag_name, codes_of}

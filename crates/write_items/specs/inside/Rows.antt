@@ -1,8 +1,8 @@
 -- What is written of the records of some kinds. Definitions only.
 use Rattle.std.specs.Prelude.{ℕ, List, [], ◌∷◌, Bool, cond, ◌||◌, eqb}
-use Rattle.tree_record.specs.Kinds as kind
-use Rattle.tree_report.specs.Fields.{kind_of}
-use Rattle.tree_report.specs.ReportOf.{pair_of, run_of}
+use Rattle.write_report.specs.of_tree_record.Kinds as kind
+use Rattle.write_report.specs.of_tree_report.Fields.{kind_of}
+use Rattle.write_report.specs.of_tree_report.ReportOf.{pair_of, run_of}
 use Rattle.write_report.specs.Written.{each, extra_attribute, serialize_property, serialize_rerun}
 use Rattle.write_table.specs.Laid.{Item, pairs_of_it, items_of}
 use Rattle.write_items.specs.inside.Walk.{own_of, between}

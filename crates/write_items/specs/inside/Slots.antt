@@ -1,9 +1,9 @@
 -- The attributes of an element by their key codes. Definitions only.
 use Rattle.std.specs.Prelude.{ℕ, suc, List, [], ◌∷◌, Bool, true, cond, ◌||◌, eqb}
-use Rattle.names.specs.Keys as key
-use Rattle.table.specs.Event.{Attribute}
-use Rattle.tree_record.specs.Bits as bit
-use Rattle.tree_record.specs.Record.{has_bit}
+use Rattle.write_report.specs.of_names.Keys as key
+use Rattle.write_report.specs.of_table.Event.{Attribute}
+use Rattle.write_report.specs.of_tree_record.Bits as bit
+use Rattle.write_report.specs.of_tree_record.Record.{has_bit}
 use Rattle.write_items.specs.inside.Values.{report_name, key_name, value_of}
 
 -- no presence bit: the value is always there

@@ -1,13 +1,13 @@
 -- The events of a run in the parts in which they are put. Definitions only.
 use Rattle.std.specs.Prelude.{ℕ, List, [], ◌∷◌, ◌++◌, Bool, cond, ◌||◌, eqb}
-use Rattle.names.specs.Bytes.{bytes}
-use Rattle.names.specs.Tags as tag
-use Rattle.tree_record.specs.Kinds as kind
-use Rattle.table.specs.Event.{Event}
-use Rattle.tree_report.specs.Report.{FlakyOrRerun, flaky, rerun}
-use Rattle.tree_record.specs.Bits as bit
-use Rattle.tree_record.specs.Words as word
-use Rattle.tree_report.specs.Fields.{has_bit, text_at, system_out, system_err, stack_trace}
+use Rattle.write_report.specs.of_names.Bytes.{bytes}
+use Rattle.write_report.specs.of_names.Tags as tag
+use Rattle.write_report.specs.of_tree_record.Kinds as kind
+use Rattle.write_report.specs.of_table.Event.{Event}
+use Rattle.write_report.specs.of_tree_report.Report.{FlakyOrRerun, flaky, rerun}
+use Rattle.write_report.specs.of_tree_record.Bits as bit
+use Rattle.write_report.specs.of_tree_record.Words as word
+use Rattle.write_report.specs.of_tree_report.Fields.{has_bit, text_at, system_out, system_err, stack_trace}
 use Rattle.write_report.specs.Written.{optional, text_event, indent, end_tag, serialize_output, serialize_outputs}
 
 abbrev pub family : Bool → FlakyOrRerun

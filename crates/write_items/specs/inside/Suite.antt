@@ -1,11 +1,11 @@
 -- What is written of suites, from their records and those behind them. Definitions only.
 use Rattle.std.specs.Prelude.{ℕ, ◌+◌, List, [], ◌∷◌, ◌++◌, Bool, false, cond, ◌&&◌, ◌||◌, length, eqb}
-use Rattle.table.specs.Kinds as event
-use Rattle.names.specs.Tags as tag
-use Rattle.tree_record.specs.Bits as bit
-use Rattle.tree_record.specs.Kinds as kind
-use Rattle.schema.specs.Schema as table
-use Rattle.tree_report.specs.Fields.{kind_of, has_bit}
+use Rattle.write_report.specs.of_table.Kinds as event
+use Rattle.write_report.specs.of_names.Tags as tag
+use Rattle.write_report.specs.of_tree_record.Bits as bit
+use Rattle.write_report.specs.of_tree_record.Kinds as kind
+use Rattle.write_report.specs.of_schema.Schema as table
+use Rattle.write_report.specs.of_tree_report.Fields.{kind_of, has_bit}
 use Rattle.write_table.specs.Laid.{Item, entry, pairs_of_it}
 use Rattle.write_items.specs.inside.Values.{tag_name, codes_of}
 use Rattle.write_items.specs.inside.Slots.{slots}

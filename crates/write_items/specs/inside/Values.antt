@@ -1,19 +1,19 @@
 -- Names by their codes, and the values of a record under the keys. Definitions only.
 use Rattle.std.specs.Prelude.{ℕ, zero, suc, ◌+◌, ◌-◌, List, [], ◌∷◌, ◌++◌, map, cond, ◌&&◌, ◌||◌, get_or, take, drop, leb, eqb}
-use Rattle.names.specs.Bytes.{bytes}
-use Rattle.names.specs.Tags.{tags}
-use Rattle.names.specs.Keys.{keys}
-use Rattle.names.specs.Keys as key
-use Rattle.digits.specs.Digits.{decimal}
-use Rattle.time_text.specs.Written.{written_time}
-use Rattle.write_escape.specs.Escape.{escaped}
-use Rattle.write_moment.specs.Written.{timestamp_text}
-use Rattle.write_uuid.specs.Written.{uuid_text}
-use Rattle.uuids.specs.declared.Words.{Words}
-use Rattle.tree_record.specs.Words as word
-use Rattle.schema.specs.Schema.{Presence, always, must, may, unkept, Row}
-use Rattle.schema.specs.Lookups.{in_order_of}
-use Rattle.tree_report.specs.Fields.{text_at, number_at, moment_of}
+use Rattle.write_report.specs.of_names.Bytes.{bytes}
+use Rattle.write_report.specs.of_names.Tags.{tags}
+use Rattle.write_report.specs.of_names.Keys.{keys}
+use Rattle.write_report.specs.of_names.Keys as key
+use Rattle.write_report.specs.of_digits.Digits.{decimal}
+use Rattle.write_report.specs.of_time_text.Written.{written_time}
+use Rattle.write_report.specs.of_write_escape.Escape.{escaped}
+use Rattle.write_report.specs.of_write_moment.Written.{timestamp_text}
+use Rattle.write_report.specs.of_write_uuid.Written.{uuid_text}
+use Rattle.write_report.specs.of_uuids.declared.Words.{Words}
+use Rattle.write_report.specs.of_tree_record.Words as word
+use Rattle.write_report.specs.of_schema.Schema.{Presence, always, must, may, unkept, Row}
+use Rattle.write_report.specs.of_schema.Lookups.{in_order_of}
+use Rattle.write_report.specs.of_tree_report.Fields.{text_at, number_at, moment_of}
 
 -- the name with a code, counted from 1
 abbrev pub named : List (List ℕ) → ℕ → List ℕ

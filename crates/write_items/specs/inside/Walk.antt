@@ -1,8 +1,8 @@
 -- The records that belong to an element, and those of some kinds among them. Definitions only.
 use Rattle.std.specs.Prelude.{ℕ, List, [], ◌∷◌, Bool, ◌&&◌, ◌||◌, leb, eqb}
-use Rattle.tree_record.specs.Kinds as kind
-use Rattle.tree_report.specs.Fields.{kind_of}
-use Rattle.tree_report.specs.ReportOf.{only, until}
+use Rattle.write_report.specs.of_tree_record.Kinds as kind
+use Rattle.write_report.specs.of_tree_report.Fields.{kind_of}
+use Rattle.write_report.specs.of_tree_report.ReportOf.{only, until}
 
 -- level 1 is a suite, whose records end at the next suite; 2 a case, whose records end at the next suite or case
 abbrev pub ends_at : ℕ → ℕ → Bool

@@ -1,7 +1,7 @@
-use Rattle.write_table.proofs.Writing.{wrote-shut}
+use Rattle.write_form.proofs.of_write_table.Writing.{wrote-shut}
 use Rattle.write_marks.proofs.Storing.{entry-limits, entry-words, no_bytes, no-limits, no-entry, entry-stored}
 use Rattle.write_marks.specs.declared.Marks.{Marks}
-use Rattle.list_text.proofs.Putting.{other}
+use Rattle.write_bytes.proofs.of_list_text.Putting.{other}
 use mathlib.Core.Path.{sym, ap, ◌∙◌}
 use native.Mathlib.Omega.{arith}
 use Rattle.write_marks.proofs.store_entry.Goals as goal

@@ -1,5 +1,5 @@
 use Rattle.write_marks.proofs.Spelling.{table-entry, entry-spelt}
-use Rattle.list_text.proofs.Putting.{other}
+use Rattle.write_bytes.proofs.of_list_text.Putting.{other}
 use borrow.Author.Tests.{ne_eqb}
 use Rattle.write_marks.proofs.store_event.Goals as goal
 

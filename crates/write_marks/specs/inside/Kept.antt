@@ -1,11 +1,11 @@
 -- What marks say of the three areas. Definitions only.
 use Rattle.std.specs.Prelude.{List, cond, ◌&&◌, eqb, leb, ℕ, ◌+◌}
-use Rattle.area.specs.declared.Stored.{Stored}
-use Rattle.area.specs.declared.Stored.TheVariants.{Put, Full}
-use Rattle.area.specs.Limits.{most_bytes}
-use Rattle.table.specs.Kinds as kind
-use Rattle.write_table.specs.inside.Forms as forms
-use Rattle.write_table.specs.inside.Putting.{Areas}
+use Rattle.write_codes.specs.of_area.declared.Stored.{Stored}
+use Rattle.write_codes.specs.of_area.declared.Stored.TheVariants.{Put, Full}
+use Rattle.write_codes.specs.of_area.Limits.{most_bytes}
+use Rattle.write_codes.specs.of_table.Kinds as kind
+use Rattle.write_form.specs.of_write_table.inside.Forms as forms
+use Rattle.write_form.specs.of_write_table.inside.Putting.{Areas}
 use Rattle.write_marks.specs.declared.Marks.{Marks}
 
 abbrev pub kept : Marks → List ℕ → List ℕ → List ℕ → Areas

@@ -1,7 +1,7 @@
 use mathlib.Core.Path.{ap, ◌∙◌}
 use lib.ListN.{length}
-use Rattle.area.specs.Area.{placing, laid}
-use Rattle.refusal.specs.declared.Cause.TheVariants as cause
+use Rattle.timestamp.specs.of_area.Area.{placing, laid}
+use Rattle.timestamp.specs.of_refusal.declared.Cause.TheVariants as cause
 use Rattle.write_moment.proofs.write_timestamp.Goals as goal
 
 pub returns : goal.returns

@@ -1,6 +1,6 @@
 use mathlib.Core.Path.{sym, ◌∙◌}
 use borrow.Author.Tests.{eq-eqb, ne_eqb}
-use Rattle.write_items.specs.inside.Slots.{is_present, bit_of}
+use Rattle.write_entries.specs.of_write_items.inside.Slots.{is_present, bit_of}
 use Rattle.write_slots.proofs.is_present.Goals as goal
 
 pub returns-then-place-eq-ALWAYS : goal.returns-then-place-eq-ALWAYS

@@ -1,5 +1,5 @@
 use Rattle.write_slots.proofs.Counting.{element-items}
-use Rattle.write_table.proofs.Writing.{then, said}
+use Rattle.write_entries.proofs.of_write_table.Writing.{then, said}
 use Rattle.write_slots.proofs.put_element.Goals as goal
 
 pub returns : goal.returns

@@ -1,5 +1,5 @@
 use Rattle.write_slots.proofs.Counting.{slots-done, slots-put, slots-pass}
-use Rattle.write_table.proofs.Writing.{coming-start}
+use Rattle.write_entries.proofs.of_write_table.Writing.{coming-start}
 use borrow.Author.Rules.{rules}
 use mathlib.Core.Path.{refl, sym, ◌∙◌}
 use native.Mathlib.Omega.{arith}

@@ -1,7 +1,7 @@
-use Rattle.write_items.specs.inside.Slots.{slots}
-use Rattle.write_marks.specs.inside.Kept.{kept}
-use Rattle.write_table.proofs.Writing.{Coming}
-use Rattle.write_table.specs.Laid.{pairs_of_it}
+use Rattle.write_entries.specs.of_write_items.inside.Slots.{slots}
+use Rattle.write_entries.specs.of_write_marks.inside.Kept.{kept}
+use Rattle.write_entries.proofs.of_write_table.Writing.{Coming}
+use Rattle.write_entries.specs.of_write_table.Laid.{pairs_of_it}
 use lib.ListN.{length, drop}
 use mathlib.Core.List.{List}
 use mathlib.Core.Path.{◌≡◌}

@@ -1,7 +1,7 @@
 -- The two forms of what is written, a table or XML, and the bytes of an entry and of an attribute in each. Definitions only.
 use Rattle.std.specs.Prelude.{ℕ, ◌+◌, ◌-◌, List, [], ◌++◌, Bool, cond, not, ◌||◌, eqb}
-use Rattle.names.specs.Bytes.{bytes}
-use Rattle.table.specs.Kinds as kind
+use Rattle.write_spelled.specs.of_names.Bytes.{bytes}
+use Rattle.write_spelled.specs.of_table.Kinds as kind
 use Rattle.write_spelled.specs.Spelled.{newline, line}
 
 -- the form by number, as src/form.rt of write_form has it: a table, or XML with what stands before: an Empty tag or another one whose end

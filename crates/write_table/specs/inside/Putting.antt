@@ -1,10 +1,10 @@
 -- Items put one behind the other, as far as they have room: into the three areas of a table, or into one as XML. Definitions only.
 use Rattle.std.specs.Prelude.{ℕ, ◌+◌, ◌-◌, ◌*◌, ◌≡◌, List, [], ◌∷◌, ◌++◌, Bool, cond, ◌&&◌, length, take, drop, leb, ltb, eqb}
-use Rattle.area.specs.Area.{zeros, laid}
-use Rattle.area.specs.Limits.{most_entries, most_bytes}
-use Rattle.area.specs.declared.Stored.{Stored}
-use Rattle.area.specs.declared.Stored.TheVariants.{Put, Full}
-use Rattle.table.specs.Kinds as kind
+use Rattle.write_spelled.specs.of_area.Area.{zeros, laid}
+use Rattle.write_spelled.specs.of_area.Limits.{most_entries, most_bytes}
+use Rattle.write_spelled.specs.of_area.declared.Stored.{Stored}
+use Rattle.write_spelled.specs.of_area.declared.Stored.TheVariants.{Put, Full}
+use Rattle.write_spelled.specs.of_table.Kinds as kind
 use Rattle.write_table.specs.Laid.{Item, entry, pair, entry_words, pair_words}
 use Rattle.write_table.specs.inside.Forms as form
 use Rattle.write_table.specs.inside.Forms.{entry_text, key_text, value_text, form_behind, level_behind}

@@ -1,7 +1,7 @@
-use Rattle.list_text.proofs.Putting.{other, more, puts_none}
+use Rattle.list_values.proofs.of_list_text.Putting.{other, more, puts_none}
 use Rattle.write_tags.proofs.Tags.{before-open, before-end, before-other, before_text, before-indent, before-none}
-use Rattle.write_table.specs.inside.Forms.{lead}
-use Rattle.names.specs.Bytes.{bytes}
+use Rattle.write_form.specs.of_write_table.inside.Forms.{lead}
+use Rattle.list_values.specs.of_names.Bytes.{bytes}
 use mathlib.Core.List.{◌++◌}
 use mathlib.Core.Path.{sym, ap, ◌∙◌}
 use Prim.Native.Nat.{ℕ}

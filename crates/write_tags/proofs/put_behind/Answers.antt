@@ -1,4 +1,4 @@
-use Rattle.list_text.proofs.Putting.{other, puts_none}
+use Rattle.list_values.proofs.of_list_text.Putting.{other, puts_none}
 use Rattle.write_tags.proofs.Tags.{behind-other, behind-none}
 use Rattle.write_tags.proofs.put_behind.Goals as goal
 

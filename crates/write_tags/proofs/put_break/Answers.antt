@@ -1,5 +1,5 @@
 use native.Mathlib.Omega.{arith}
-use Rattle.list_text.proofs.Putting.{more, other}
+use Rattle.list_values.proofs.of_list_text.Putting.{more, other}
 use Rattle.write_tags.proofs.Tags.{skipped-least, break-parts}
 use mathlib.Core.Path.{ap}
 use Prim.Native.Nat.{ℕ, ◌+◌, ◌-◌, ◌*◌}

@@ -1,5 +1,5 @@
 use mathlib.Core.Path.{◌∙◌}
-use Rattle.list_text.proofs.Putting.{other}
+use Rattle.list_values.proofs.of_list_text.Putting.{other}
 use Rattle.write_tags.proofs.Tags.{closing-part}
 use Rattle.write_tags.proofs.put_closing.Goals as goal
 

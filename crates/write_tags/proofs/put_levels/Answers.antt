@@ -1,5 +1,5 @@
 use Rattle.write_tags.proofs.Tags.{level-more, no-level}
-use Rattle.list_text.proofs.Putting.{coming-start, coming_on, coming_puts, coming-done}
+use Rattle.list_values.proofs.of_list_text.Putting.{coming-start, coming_on, coming_puts, coming-done}
 use mathlib.Core.Path.{refl}
 use borrow.Author.Rules.{rules}
 use Rattle.write_tags.proofs.put_levels.Goals as goal

@@ -1,5 +1,5 @@
-use Rattle.list_text.specs.inside.Behind.{filled}
-use Rattle.list_text.proofs.Putting.{Coming}
+use Rattle.list_values.specs.of_list_text.inside.Behind.{filled}
+use Rattle.list_values.proofs.of_list_text.Putting.{Coming}
 use lib.ListN.{length, replicate}
 use mathlib.Core.Path.{◌≡◌}
 use Prim.Native.Nat.{◌*◌}

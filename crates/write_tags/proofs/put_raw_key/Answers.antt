@@ -1,4 +1,4 @@
-use Rattle.list_text.proofs.Putting.{other, more}
+use Rattle.list_values.proofs.of_list_text.Putting.{other, more}
 use Rattle.write_tags.proofs.Tags.{key-table, key-xml}
 use Rattle.write_tags.proofs.put_raw_key.Goals as goal
 

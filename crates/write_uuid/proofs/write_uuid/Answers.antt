@@ -1,7 +1,7 @@
 use mathlib.Core.Path.{ap, ◌∙◌}
 use lib.ListN.{length}
-use Rattle.area.specs.Area.{placing, laid}
-use Rattle.refusal.specs.declared.Cause.TheVariants as cause
+use Rattle.uuids.specs.of_area.Area.{placing, laid}
+use Rattle.uuids.specs.of_refusal.declared.Cause.TheVariants as cause
 use Rattle.write_uuid.proofs.write_uuid.Goals as goal
 
 pub returns : goal.returns

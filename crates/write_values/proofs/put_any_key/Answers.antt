@@ -1,5 +1,5 @@
 use Rattle.write_values.proofs.Naming.{key-cut}
-use Rattle.list_text.proofs.Putting.{other}
+use Rattle.write_bytes.proofs.of_list_text.Putting.{other}
 use Rattle.write_values.proofs.put_any_key.Goals as goal
 
 pub returns : goal.returns

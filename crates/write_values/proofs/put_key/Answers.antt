@@ -1,6 +1,6 @@
 use Rattle.write_tags.proofs.Tags.{key-table, key-xml}
-use Rattle.write_items.specs.inside.Values.{key_name}
-use Rattle.list_text.proofs.Putting.{other}
+use Rattle.write_codes.specs.of_write_items.inside.Values.{key_name}
+use Rattle.write_bytes.proofs.of_list_text.Putting.{other}
 use Rattle.write_values.proofs.put_key.Goals as goal
 
 pub returns-then-form-eq-TABLE : goal.returns-then-form-eq-TABLE

@@ -1,5 +1,5 @@
-use Rattle.names.specs.Keys.{keys}
-use Rattle.write_items.specs.inside.Values.{key_name}
+use Rattle.tree_stamp.specs.of_names.Keys.{keys}
+use Rattle.write_codes.specs.of_write_items.inside.Values.{key_name}
 use Rattle.write_values.proofs.put_key_name.Goals as goal
 
 pub returns-in-1 : goal.returns-in-1

@@ -1,6 +1,6 @@
 use Rattle.write_values.proofs.Naming.{key-texts, key-text-starts, key-text-cut}
-use Rattle.list_text.proofs.Putting.{other}
-use Rattle.write_items.specs.inside.Values.{cut_at}
+use Rattle.write_bytes.proofs.of_list_text.Putting.{other}
+use Rattle.write_codes.specs.of_write_items.inside.Values.{cut_at}
 use mathlib.Core.Path.{ap, ◌∙◌}
 use Prim.Native.Nat.{ℕ}
 use Rattle.write_values.proofs.put_key_text.Goals as goal

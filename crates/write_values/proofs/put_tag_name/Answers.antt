@@ -1,5 +1,5 @@
-use Rattle.names.specs.Tags.{tags}
-use Rattle.write_items.specs.inside.Values.{tag_name}
+use Rattle.tree_stamp.specs.of_names.Tags.{tags}
+use Rattle.write_codes.specs.of_write_items.inside.Values.{tag_name}
 use Rattle.write_values.proofs.put_tag_name.Goals as goal
 
 pub returns-in-3 : goal.returns-in-3

@@ -1,8 +1,8 @@
 use mathlib.Core.Path.{ap, ◌∙◌}
-use Rattle.write_moment.specs.Written.{timestamp_text}
+use Rattle.write_bytes.specs.of_write_moment.Written.{timestamp_text}
 use Rattle.write_values.proofs.Moments.{stamp-text}
 use borrow.Author.Tests.{eq-eqb, ne_eqb}
-use Rattle.write_items.specs.inside.Values.{value_of}
+use Rattle.write_codes.specs.of_write_items.inside.Values.{value_of}
 use Rattle.write_values.proofs.put_value.Goals as goal
 
 pub returns-then-c-eq-UUID : goal.returns-then-c-eq-UUID

@@ -1,5 +1,5 @@
-use Rattle.xml_state.specs.inside.Acts.{acted_of}
-use Rattle.xml_state.specs.declared.Step.TheVariants.{Go}
+use Rattle.xml_part.specs.of_xml_state.inside.Acts.{acted_of}
+use Rattle.xml_part.specs.of_xml_state.declared.Step.TheVariants.{Go}
 use borrow.Author.Tests.{ne_eqb}
 use mathlib.Core.Path.{refl, ap}
 use Rattle.xml_acts.proofs.acted.Goals as goal

@@ -1,4 +1,4 @@
-use Rattle.xml_state.specs.inside.Acts.{closing_of}
+use Rattle.xml_part.specs.of_xml_state.inside.Acts.{closing_of}
 use Rattle.xml_acts.proofs.closing.Goals as goal
 
 pub returns : goal.returns

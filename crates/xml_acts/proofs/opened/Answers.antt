@@ -1,4 +1,4 @@
-use Rattle.xml_state.specs.inside.Acts.{opened_of}
+use Rattle.xml_part.specs.of_xml_state.inside.Acts.{opened_of}
 use borrow.Author.Tests.{ne_eqb}
 use mathlib.Core.Path.{refl, ◌∙◌}
 use Rattle.xml_acts.proofs.opened.Goals as goal

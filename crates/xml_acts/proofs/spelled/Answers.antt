@@ -1,5 +1,5 @@
 use Rattle.xml_acts.proofs.Letters.{letter-exact, letter-lower, other-letter, word-ends, mark-ends, word-goes}
-use Rattle.xml_state.specs.inside.Acts.{words}
+use Rattle.xml_part.specs.of_xml_state.inside.Acts.{words}
 use mathlib.Core.Path.{◌∙◌}
 use Rattle.xml_acts.proofs.spelled.Goals as goal
 use Rattle.xml_acts.proofs.spelled.Goals.{then-word-lt44, else-word-lt44}

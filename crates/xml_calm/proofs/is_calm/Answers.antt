@@ -1,7 +1,7 @@
 use Prim.Native.Nat.{◌-◌}
 use mathlib.Core.Path.{refl}
 use mathlib.Core.Bool.{not}
-use Rattle.area.proofs.Sifting.{sifting-start, sifting-more, sifting-done}
+use Rattle.xml_state.proofs.of_area.Sifting.{sifting-start, sifting-more, sifting-done}
 use Rattle.xml_calm.specs.inside.Calm.{mild, mild_all}
 use Rattle.xml_calm.proofs.Calming.{mild-next}
 use Rattle.xml_calm.proofs.is_calm.Goals as goal

@@ -1,6 +1,6 @@
 use Prim.Native.Nat.{◌-◌}
 use lib.ListN.{length}
-use Rattle.area.proofs.Sifting.{Sifting}
+use Rattle.xml_state.proofs.of_area.Sifting.{Sifting}
 use Rattle.xml_calm.specs.inside.Calm.{mild_all}
 use Rattle.xml_calm.proofs.is_calm.Given as goal
 

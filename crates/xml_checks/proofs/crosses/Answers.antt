@@ -1,4 +1,4 @@
-use Rattle.xml_chars.specs.Chars.{crosses}
+use Rattle.xml_state.specs.of_xml_chars.Chars.{crosses}
 use mathlib.Core.Path.{refl}
 use Rattle.xml_checks.proofs.crosses.Goals as goal
 

@@ -1,5 +1,5 @@
 use borrow.Author.Tests.{lt-ltb, le-ltb}
-use Rattle.xml_state.specs.inside.Parts.{lead_of}
+use Rattle.xml_checks.specs.of_xml_state.inside.Parts.{lead_of}
 use Rattle.xml_part.proofs.lead.Goals as goal
 
 pub returns-then-b-lt224 : goal.returns-then-b-lt224

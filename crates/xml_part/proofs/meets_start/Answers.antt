@@ -1,6 +1,6 @@
 use Rattle.xml_part.proofs.Classes.{meets-append}
-use Rattle.xml_state.specs.inside.Parts.{low_start}
-use Rattle.xml_chars.specs.Chars.{name_start}
+use Rattle.xml_checks.specs.of_xml_state.inside.Parts.{low_start}
+use Rattle.xml_checks.specs.of_xml_chars.Chars.{name_start}
 use lib.ListN.{drop}
 use mathlib.Core.Bool.{or-false}
 use Rattle.xml_part.proofs.meets_start.Goals as goal

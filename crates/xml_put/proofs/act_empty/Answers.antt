@@ -1,4 +1,4 @@
-use Rattle.xml_state.specs.inside.Puts.{act_empty}
+use Rattle.xml_acts.specs.of_xml_state.inside.Puts.{act_empty}
 use Rattle.xml_put.proofs.act_empty.Goals as goal
 
 pub returns : goal.returns

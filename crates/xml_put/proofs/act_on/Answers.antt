@@ -1,4 +1,4 @@
-use Rattle.xml_state.specs.inside.Puts.{act_on}
+use Rattle.xml_acts.specs.of_xml_state.inside.Puts.{act_on}
 use borrow.Author.Tests.{ne_eqb}
 use Rattle.xml_put.proofs.act_on.Goals as goal
 

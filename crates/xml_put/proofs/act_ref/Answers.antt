@@ -1,4 +1,4 @@
-use Rattle.xml_state.specs.inside.Puts.{act_ref}
+use Rattle.xml_acts.specs.of_xml_state.inside.Puts.{act_ref}
 use Rattle.xml_put.proofs.act_ref.Goals as goal
 
 pub returns-then-home : goal.returns-then-home

@@ -1,5 +1,5 @@
 use Rattle.xml_write.proofs.Rooms.{room_small}
-use Rattle.xml_state.specs.inside.Puts.{putting, act_start}
+use Rattle.xml_acts.specs.of_xml_state.inside.Puts.{putting, act_start}
 use native.Mathlib.Omega.{arith}
 use mathlib.Core.Path.{sym, ◌∙◌}
 use Rattle.xml_put.proofs.act_start.Goals as goal

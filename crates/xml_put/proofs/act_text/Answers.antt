@@ -1,4 +1,4 @@
-use Rattle.xml_state.specs.inside.Puts.{act_text}
+use Rattle.xml_acts.specs.of_xml_state.inside.Puts.{act_text}
 use borrow.Author.Tests.{lt-ltb, le-ltb}
 use Rattle.xml_put.proofs.act_text.Goals as goal
 

@@ -1,10 +1,10 @@
 -- The acts that only mark a name, a key or a value. Definitions only.
 use Rattle.std.specs.Prelude.{ℕ, Bool, cond, ◌||◌, eqb}
-use Rattle.xml_state.specs.declared.Move.{Move}
-use Rattle.xml_state.specs.declared.State.{State}
-use Rattle.xml_state.specs.inside.Rows as row
-use Rattle.xml_state.specs.inside.Registers.{in_mode, at_mark_of}
-use Rattle.xml_state.specs.inside.Acts.{named_of, keyed_of, quoted_of}
+use Rattle.xml_checks.specs.of_xml_state.declared.Move.{Move}
+use Rattle.xml_checks.specs.of_xml_state.declared.State.{State}
+use Rattle.xml_checks.specs.of_xml_state.inside.Rows as row
+use Rattle.xml_checks.specs.of_xml_state.inside.Registers.{in_mode, at_mark_of}
+use Rattle.xml_checks.specs.of_xml_state.inside.Acts.{named_of, keyed_of, quoted_of}
 
 abbrev pub quick_act : ℕ → Bool
 quick_act a = eqb a row.here || (eqb a row.key_end || (eqb a row.quoted || eqb a row.name_end))

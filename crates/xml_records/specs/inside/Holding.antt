@@ -1,14 +1,14 @@
 -- What the two areas hold between two bytes, and what a turn of the loop is to the definition's run. Definitions only.
 use Rattle.std.specs.Prelude.{ℕ, ◌+◌, ◌*◌, ◌≤◌, ◌≡◌, List, length}
-use Rattle.refusal.specs.Refusal.{nowhere}
-use Rattle.xml_machine.specs.State.{State, Next, no}
-use Rattle.xml_machine.specs.Tokens.{Marks, Due, Room, Kept, Out, refuse, keep, laid_out}
-use Rattle.xml_stack.specs.Stack.{Range, Stacked}
-use Rattle.xml_state.specs.declared.State.{State as Registers}
-use Rattle.xml_state.specs.declared.Step.{Step}
-use Rattle.xml_state.specs.declared.Step.TheVariants.{Go, Full, Bad}
-use Rattle.xml_state.specs.declared.Tokenized.{Tokenized}
-use Rattle.xml_state.specs.declared.Tokenized.TheVariants.{Refused}
+use Rattle.xml_rep.specs.of_refusal.Refusal.{nowhere}
+use Rattle.xml_rep.specs.of_xml_machine.State.{State, Next, no}
+use Rattle.xml_rep.specs.of_xml_machine.Tokens.{Marks, Due, Room, Kept, Out, refuse, keep, laid_out}
+use Rattle.xml_rep.specs.of_xml_stack.Stack.{Range, Stacked}
+use Rattle.xml_rep.specs.of_xml_state.declared.State.{State as Registers}
+use Rattle.xml_rep.specs.of_xml_state.declared.Step.{Step}
+use Rattle.xml_rep.specs.of_xml_state.declared.Step.TheVariants.{Go, Full, Bad}
+use Rattle.xml_rep.specs.of_xml_state.declared.Tokenized.{Tokenized}
+use Rattle.xml_rep.specs.of_xml_state.declared.Tokenized.TheVariants.{Refused}
 use Rattle.xml_rep.specs.inside.Rep.{Rep}
 
 -- the records kept so far, with the open names rs in a source of `size` bytes

@@ -1,11 +1,11 @@
 -- The invariant of the loop over a source's bytes. Definitions only.
 use Rattle.std.specs.Prelude.{ℕ, ◌≤◌, ◌≡◌, List, length, get_or, drop}
-use Rattle.xml_machine.specs.State.{State, fresh}
-use Rattle.xml_machine.specs.Machine.{step}
-use Rattle.xml_machine.specs.Tokens.{Marks, no_marks, Kept, nothing_kept, rooms, records}
-use Rattle.xml_stack.specs.Stack.{Range}
-use Rattle.xml_state.specs.declared.State.{State as Registers}
-use Rattle.xml_state.specs.inside.Rows.{move_of}
+use Rattle.xml_rep.specs.of_xml_machine.State.{State, fresh}
+use Rattle.xml_rep.specs.of_xml_machine.Machine.{step}
+use Rattle.xml_rep.specs.of_xml_machine.Tokens.{Marks, no_marks, Kept, nothing_kept, rooms, records}
+use Rattle.xml_rep.specs.of_xml_stack.Stack.{Range}
+use Rattle.xml_rep.specs.of_xml_state.declared.State.{State as Registers}
+use Rattle.xml_rep.specs.of_xml_state.inside.Rows.{move_of}
 use Rattle.xml_rep.specs.inside.Agree.{Agree}
 use Rattle.xml_records.specs.inside.Holding.{Stands}
 

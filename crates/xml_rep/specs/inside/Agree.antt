@@ -1,10 +1,10 @@
 -- What the code's move and the definition's step have in common, act by act: what an act does, the record that is due in the words of
 -- the registers, and how the registers stand behind it. Definitions only.
 use Rattle.std.specs.Prelude.{ℕ, ◌+◌, ◌-◌, ◌≤◌, ◌≡◌, List, [], ◌∷◌, cond, eqb, length, get_or}
-use Rattle.table.specs.Kinds as kind
-use Rattle.xml_machine.specs.State.{State, Act, Next, no, go}
-use Rattle.xml_machine.specs.Tokens.{rec, unless0, over, Marks, marks_by, due, nothing, event, attribute, text_due}
-use Rattle.xml_stack.specs.Stack.{Range, range}
+use Rattle.xml_state.specs.of_table.Kinds as kind
+use Rattle.xml_state.specs.of_xml_machine.State.{State, Act, Next, no, go}
+use Rattle.xml_state.specs.of_xml_machine.Tokens.{rec, unless0, over, Marks, marks_by, due, nothing, event, attribute, text_due}
+use Rattle.xml_state.specs.of_xml_stack.Stack.{Range, range}
 use Rattle.xml_state.specs.declared.Move.{Move}
 use Rattle.xml_state.specs.declared.State.{State as Registers}
 use Rattle.xml_state.specs.declared.Step.TheVariants.{Go, Bad}

@@ -1,11 +1,11 @@
 -- The code's mode for each state of the definition, where no character stands open. Definitions only.
 use Rattle.std.specs.Prelude.{ℕ, List, [], ◌∷◌}
-use Rattle.xml_chars.specs.Chars.{Quote, single, double}
-use Rattle.xml_machine.specs.State.{Brackets, b0, b1, b2, Letters, x0, x1, x2, x3, Place, before, after, inside}
-use Rattle.xml_machine.specs.State.{State, fresh, marked, lt_first, heading, decl, literal, prolog, epilog, text, lt, misc, section, ref, tag, ending, end_space}
-use Rattle.xml_machine.specs.State.{InMisc, bang, dash, remark0, remark1, remark2, target, named, pi_data, pi_query, pi_close, InRef, ampersand, ref_name, hash, digits, hash_x, hexes}
-use Rattle.xml_machine.specs.State.{Item, version, encoding, standalone, InDecl, opening, equals, quoting, point, digit, letters, choice, chosen, valued, between}
-use Rattle.xml_machine.specs.State.{InTag, name, gap, slash, key, key_eq, quote, value, value_end}
+use Rattle.xml_state.specs.of_xml_chars.Chars.{Quote, single, double}
+use Rattle.xml_state.specs.of_xml_machine.State.{Brackets, b0, b1, b2, Letters, x0, x1, x2, x3, Place, before, after, inside}
+use Rattle.xml_state.specs.of_xml_machine.State.{State, fresh, marked, lt_first, heading, decl, literal, prolog, epilog, text, lt, misc, section, ref, tag, ending, end_space}
+use Rattle.xml_state.specs.of_xml_machine.State.{InMisc, bang, dash, remark0, remark1, remark2, target, named, pi_data, pi_query, pi_close, InRef, ampersand, ref_name, hash, digits, hash_x, hexes}
+use Rattle.xml_state.specs.of_xml_machine.State.{Item, version, encoding, standalone, InDecl, opening, equals, quoting, point, digit, letters, choice, chosen, valued, between}
+use Rattle.xml_state.specs.of_xml_machine.State.{InTag, name, gap, slash, key, key_eq, quote, value, value_end}
 use Rattle.xml_state.specs.inside.Rows as row
 
 abbrev pub head_mode : Letters → ℕ

@@ -1,15 +1,15 @@
 -- How the code's registers, and the parts of the source that are open names, stand for the definition's state and marks.
 -- Definitions only.
 use Rattle.std.specs.Prelude.{ℕ, ◌+◌, ◌-◌, ◌≤◌, ◌<◌, ◌≡◌, List, [], ◌∷◌, false, eqb, length, get_or, take, drop}
-use Rattle.xml_chars.specs.Chars as chars
-use Rattle.xml_chars.specs.Bytes.{Left, one, two, three, Part, whole, part}
-use Rattle.xml_machine.specs.State.{Place, before, after, inside, Host, content, attribute, Goal, to_marked, to_section, to_equals, to_point, to_chosen}
-use Rattle.xml_machine.specs.State.{State, fresh, marked, lt_first, heading, decl, literal, prolog, epilog, text, lt, misc, section, ref, tag, ending, end_space}
-use Rattle.xml_machine.specs.State.{InDecl, opening, equals, quoting, point, digit, letters, choice, chosen, valued, between}
-use Rattle.xml_machine.specs.State.{InTag, name, gap, slash, key, key_eq, quote, value, value_end}
-use Rattle.xml_machine.specs.Machine.{resume, reached}
-use Rattle.xml_machine.specs.Tokens.{Marks}
-use Rattle.xml_stack.specs.Stack.{Range, range}
+use Rattle.xml_state.specs.of_xml_chars.Chars as chars
+use Rattle.xml_state.specs.of_xml_chars.Bytes.{Left, one, two, three, Part, whole, part}
+use Rattle.xml_state.specs.of_xml_machine.State.{Place, before, after, inside, Host, content, attribute, Goal, to_marked, to_section, to_equals, to_point, to_chosen}
+use Rattle.xml_state.specs.of_xml_machine.State.{State, fresh, marked, lt_first, heading, decl, literal, prolog, epilog, text, lt, misc, section, ref, tag, ending, end_space}
+use Rattle.xml_state.specs.of_xml_machine.State.{InDecl, opening, equals, quoting, point, digit, letters, choice, chosen, valued, between}
+use Rattle.xml_state.specs.of_xml_machine.State.{InTag, name, gap, slash, key, key_eq, quote, value, value_end}
+use Rattle.xml_state.specs.of_xml_machine.Machine.{resume, reached}
+use Rattle.xml_state.specs.of_xml_machine.Tokens.{Marks}
+use Rattle.xml_state.specs.of_xml_stack.Stack.{Range, range}
 use Rattle.xml_state.specs.declared.Part.{Part as Open}
 use Rattle.xml_state.specs.declared.State.{State as Registers}
 use Rattle.xml_state.specs.inside.Rows as row

@@ -1,5 +1,5 @@
 use Rattle.xml_skip.specs.inside.Passes.{Keeps}
-use Rattle.xml_state.specs.inside.Rows as row
+use Rattle.xml_checks.specs.of_xml_state.inside.Rows as row
 use lib.ListN.{length}
 use Prim.Native.Nat.{◌-◌, ◌≤◌}
 use mathlib.Core.Path.{◌≡◌}

@@ -1,7 +1,7 @@
 -- What the loop over a source may leave out. Definitions only.
 use Rattle.std.specs.Prelude.{ℕ, ◌+◌, ◌≡◌, List, Bool, true, ◌&&◌, ◌||◌, ltb, eqb}
-use Rattle.xml_state.specs.declared.State.{State as Registers}
-use Rattle.xml_state.specs.inside.Rows as row
+use Rattle.xml_checks.specs.of_xml_state.declared.State.{State as Registers}
+use Rattle.xml_checks.specs.of_xml_state.inside.Rows as row
 use Rattle.xml_records.specs.inside.Loop.{At}
 
 -- in this mode, what stands behind `start` bytes stands behind `end` bytes too, registers and areas alike

@@ -1,7 +1,7 @@
 -- What the code does to its registers, on plain numbers and lists: what each contract says. Definitions only.
 use Rattle.std.specs.Prelude.{ℕ, ◌+◌, ◌-◌, ◌*◌, List, ◌∷◌, ◌++◌, cond, ltb, eqb, get_or}
-use Rattle.names.specs.Bytes.{bytes}
-use Rattle.xml_chars.specs.Chars.{lower}
+use Rattle.xml_stack.specs.of_names.Bytes.{bytes}
+use Rattle.xml_stack.specs.of_xml_chars.Chars.{lower}
 use Rattle.xml_state.specs.declared.Followed.{Followed}
 use Rattle.xml_state.specs.declared.Followed.TheVariants.{Takes, Refuses}
 use Rattle.xml_state.specs.inside.Parts.{lead_of, follow_of}

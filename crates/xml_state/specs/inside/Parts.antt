@@ -1,6 +1,6 @@
 -- What the code does with a character of which some bytes stand, on plain numbers. Definitions only.
 use Rattle.std.specs.Prelude.{ℕ, ◌+◌, ◌-◌, ◌*◌, ◌%◌, max, List, cond, ◌||◌, ltb, eqb, take}
-use Rattle.xml_chars.specs.Chars.{Range, meets, any_char, name_start, name_char}
+use Rattle.xml_stack.specs.of_xml_chars.Chars.{Range, meets, any_char, name_start, name_char}
 use Rattle.xml_state.specs.declared.Part.{Part}
 use Rattle.xml_state.specs.declared.Followed.{Followed}
 use Rattle.xml_state.specs.declared.Followed.TheVariants.{Takes, Refuses}

@@ -1,8 +1,8 @@
 -- What the code does to its registers and the two areas, on plain numbers and lists: what each contract says. Definitions only.
 use Rattle.std.specs.Prelude.{ℕ, ◌+◌, ◌-◌, ◌/◌, List, Bool, cond, ◌&&◌, ◌||◌, ltb, eqb, length, get_or, set}
-use Rattle.area.specs.Limits.{most_entries}
-use Rattle.table.specs.Kinds as kind
-use Rattle.xml_machine.specs.Tokens.{unless0}
+use Rattle.xml_stack.specs.of_area.Limits.{most_entries}
+use Rattle.xml_stack.specs.of_table.Kinds as kind
+use Rattle.xml_stack.specs.of_xml_machine.Tokens.{unless0}
 use Rattle.xml_stack.specs.Stack.{put_at}
 use Rattle.xml_state.specs.declared.Move.{Move}
 use Rattle.xml_state.specs.inside.Rows as row

@@ -1,7 +1,7 @@
 -- What the tables mean: the move of each mode, over tests of the byte. Definitions only.
 use Rattle.std.specs.Prelude.{ℕ, ◌-◌, ◌*◌, List, [], ◌∷◌, cond, ltb, eqb, get_or}
-use Rattle.xml_chars.specs.Chars.{Range, meets, any_char, name_start, name_char, is_space, is_digit, is_hex, lower, Quote, single, double, mark}
-use Rattle.xml_chars.specs.Bytes.{one, two, three, fits}
+use Rattle.xml_stack.specs.of_xml_chars.Chars.{Range, meets, any_char, name_start, name_char, is_space, is_digit, is_hex, lower, Quote, single, double, mark}
+use Rattle.xml_stack.specs.of_xml_chars.Bytes.{one, two, three, fits}
 use Rattle.xml_state.specs.declared.Move.{Move}
 
 -- modes, counted from `0` on in the order of the rows

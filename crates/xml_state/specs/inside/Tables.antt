@@ -1,6 +1,6 @@
 -- The three tables of the code, row by row. Definitions only; Rows says what they mean.
 use Rattle.std.specs.Prelude.{ℕ, List, [], ◌∷◌, ◌++◌}
-use Rattle.names.specs.Bytes.{bytes}
+use Rattle.xml_stack.specs.of_names.Bytes.{bytes}
 
 abbrev pub concat : List (List ℕ) → List ℕ
 concat [] = []

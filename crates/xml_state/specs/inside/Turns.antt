@@ -1,10 +1,10 @@
 -- The loop's turn and what is behind it, on plain numbers and lists: what each contract says. Definitions only.
 use Rattle.std.specs.Prelude.{ℕ, ◌-◌, List, Bool, not, cond, ◌&&◌, ◌||◌, leb, ltb, eqb, length, get_or, drop, replicate}
-use Rattle.names.specs.Bytes.{bytes}
-use Rattle.refusal.specs.Refusal.{nowhere}
-use Rattle.table.specs.Kinds as kind
-use Rattle.xml_chars.specs.Chars.{begins}
-use Rattle.xml_machine.specs.Tokens.{Result}
+use Rattle.xml_stack.specs.of_names.Bytes.{bytes}
+use Rattle.xml_stack.specs.of_refusal.Refusal.{nowhere}
+use Rattle.xml_stack.specs.of_table.Kinds as kind
+use Rattle.xml_stack.specs.of_xml_chars.Chars.{begins}
+use Rattle.xml_stack.specs.of_xml_machine.Tokens.{Result}
 use Rattle.xml_state.specs.Answer.{result}
 use Rattle.xml_state.specs.inside.Rows as row
 use Rattle.xml_state.specs.declared.State.{State}

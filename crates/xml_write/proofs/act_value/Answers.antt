@@ -1,5 +1,5 @@
 use Rattle.xml_write.proofs.Rooms.{room_small}
-use Rattle.xml_state.specs.inside.Puts.{act_value}
+use Rattle.xml_checks.specs.of_xml_state.inside.Puts.{act_value}
 use native.Mathlib.Omega.{arith}
 use mathlib.Core.Path.{sym, ◌∙◌}
 use Rattle.xml_write.proofs.act_value.Goals as goal

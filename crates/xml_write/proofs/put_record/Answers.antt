@@ -1,4 +1,4 @@
-use Rattle.xml_stack.specs.Stack.{put_at}
+use Rattle.xml_checks.specs.of_xml_stack.Stack.{put_at}
 use Rattle.xml_write.proofs.put_record.Goals as goal
 
 pub returns : goal.returns

@@ -1,5 +1,5 @@
 use Rattle.xml_write.proofs.Rooms.{room_small}
-use Rattle.xml_state.specs.inside.Puts.{putting}
+use Rattle.xml_checks.specs.of_xml_state.inside.Puts.{putting}
 use mathlib.Core.Path.{sym, ◌∙◌}
 use Rattle.xml_write.proofs.put_tag.Goals as goal
 

@@ -1,5 +1,5 @@
 use Rattle.port_values.proofs.Last.{last}
-use Rattle.tree_counts.specs.declared.Outcome.TheVariants as outcome
+use Rattle.build_draft.specs.of_tree_counts.declared.Outcome.TheVariants as outcome
 use native.Mathlib.Omega.{arith}
 use mathlib.Core.List.{[], ◌∷◌}
 use Rattle.port_values.proofs.codes.outcome_at.Goals as goal

@@ -1,4 +1,4 @@
-use Rattle.table.specs.Event.{part}
+use Rattle.read_element.specs.of_table.Event.{part}
 use lib.ListN.{get_or}
 use Prim.Native.Nat.{ℕ, ◌+◌, ◌*◌}
 use mathlib.Core.Path.{ap, ◌∙◌}

@@ -1,6 +1,6 @@
 use Prim.Native.Nat.{◌-◌}
 use mathlib.Core.Path.{refl}
-use Rattle.area.proofs.Sifting.{sifting-start, sifting-more, sifting-done}
+use Rattle.utf8_chars.proofs.of_area.Sifting.{sifting-start, sifting-more, sifting-done}
 use Rattle.text.specs.inside.Plain.{odd, plain}
 use Rattle.text.proofs.decode.is_plain.Goals as goal
 

@@ -1,6 +1,6 @@
 use Prim.Native.Nat.{◌-◌}
 use lib.ListN.{length}
-use Rattle.area.proofs.Sifting.{Sifting}
+use Rattle.utf8_chars.proofs.of_area.Sifting.{Sifting}
 use Rattle.text.specs.inside.Plain.{odd, plain}
 use Rattle.text.proofs.decode.is_plain.Given as goal
 

@@ -1,7 +1,7 @@
 use mathlib.Core.Path.{refl, sym, ap, ◌∙◌}
 use native.Mathlib.Omega.{arith}
-use Rattle.area.proofs.Parts.{rest_part}
-use Rattle.utf8.proofs.Encoding.{coded-front}
+use Rattle.utf8_chars.proofs.of_area.Parts.{rest_part}
+use Rattle.utf8_chars.proofs.of_utf8.Encoding.{coded-front}
 use Rattle.reference.proofs.Behind.{ref-found}
 use Rattle.reference.specs.Reference.{ref_at}
 use Rattle.text.specs.Decode.{cleaned}

@@ -3,9 +3,9 @@ use mathlib.Core.List.{List, ◌++◌}
 use mathlib.Core.Path.{sym, ap, ◌∙◌}
 use lib.Seq.{length-take-le}
 use lib.ListN.{length, take, length-drop}
-use Rattle.area.proofs.Parts.{rest_part, rest_back}
-use Rattle.area.specs.Area.{placing, laid}
-use Rattle.refusal.specs.declared.Cause.TheVariants as cause
+use Rattle.utf8_chars.proofs.of_area.Parts.{rest_part, rest_back}
+use Rattle.utf8_chars.specs.of_area.Area.{placing, laid}
+use Rattle.utf8_chars.specs.of_refusal.declared.Cause.TheVariants as cause
 use Rattle.text.proofs.decode.put_piece.Goals as goal
 
 pub slice_bounds-copy_into-end-2 : goal.slice_bounds-copy_into-end-2

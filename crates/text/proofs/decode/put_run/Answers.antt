@@ -4,10 +4,10 @@ use mathlib.Core.Path.{sym, ap, ◌∙◌}
 use native.Mathlib.Omega.{arith}
 use lib.Seq.{length-take-le}
 use lib.ListN.{length, take, drop, length-drop}
-use Rattle.area.proofs.Parts.{rest_part, rest_back}
-use Rattle.area.specs.Area.{placing, laid}
+use Rattle.utf8_chars.proofs.of_area.Parts.{rest_part, rest_back}
+use Rattle.utf8_chars.specs.of_area.Area.{placing, laid}
 use Rattle.text.proofs.Writing.{run-within}
-use Rattle.refusal.specs.declared.Cause.TheVariants as cause
+use Rattle.utf8_chars.specs.of_refusal.declared.Cause.TheVariants as cause
 use Rattle.text.proofs.decode.put_run.Goals as goal
 
 pub slice_bounds-copy_into-end-2 : goal.slice_bounds-copy_into-end-2

@@ -1,11 +1,11 @@
 use Prim.Native.Nat.{◌-◌}
 use mathlib.Core.Path.{sym, ap, ◌∙◌}
 use native.Mathlib.Omega.{arith}
-use Rattle.area.proofs.Laying.{laying-start, laying_on, laying-done}
-use Rattle.area.specs.Area.{stored_answer}
+use Rattle.utf8_chars.proofs.of_area.Laying.{laying-start, laying_on, laying-done}
+use Rattle.utf8_chars.specs.of_area.Area.{stored_answer}
 use Rattle.text.proofs.Writing.{writing_more, writing-full, writing_moves, run_more, run-full}
 use Rattle.text.proofs.Pieces.{piece-end}
-use Rattle.refusal.specs.declared.Cause.TheVariants as cause
+use Rattle.utf8_chars.specs.of_refusal.declared.Cause.TheVariants as cause
 use Rattle.text.proofs.decode.write_decoded.Goals as goal
 
 pub loop-i-init : goal.loop-i-init

@@ -1,5 +1,5 @@
 use mathlib.Core.Path.{sym, ap}
-use Rattle.area.specs.Area.{stored_answer}
+use Rattle.utf8_chars.specs.of_area.Area.{stored_answer}
 use Rattle.text.proofs.kept.kept_of.Goals as goal
 
 pub returns-in-Put : goal.returns-in-Put

@@ -1,4 +1,4 @@
-use Rattle.refusal.specs.declared.Cause.TheVariants as cause
+use Rattle.utf8_chars.specs.of_refusal.declared.Cause.TheVariants as cause
 use Rattle.text.proofs.value.store_value.Goals as goal
 
 pub returns : goal.returns

@@ -5,9 +5,9 @@ use native.Mathlib.Nat.{le_of_lt}
 use native.Mathlib.Omega.{arith}
 use lib.ListN.{length, take}
 use lib.Seq.{length-take-le}
-use Rattle.area.proofs.Parts.{rest_part}
+use Rattle.fraction.proofs.of_area.Parts.{rest_part}
 use Rattle.time.specs.Time.{fraction, formed_time}
-use Rattle.area.proofs.Seeking.{first-within}
+use Rattle.fraction.proofs.of_area.Seeking.{first-within}
 use Rattle.time.proofs.Points.{whole-at, fraction-at, whole-none, fraction-none}
 use Rattle.time.proofs.read.formed_time.Goals as goal
 use Rattle.time.proofs.read.formed_time.Goals.{Else-p-s}

@@ -1,6 +1,6 @@
 use native.Mathlib.Omega.{arith}
-use Rattle.fixed.proofs.Numerals.{field-most}
-use Rattle.fixed.specs.Fields.{part}
+use Rattle.clock.proofs.of_fixed.Numerals.{field-most}
+use Rattle.clock.specs.of_fixed.Fields.{part}
 use Rattle.timestamp.proofs.Leaves.{date-wrong, date_right}
 use Rattle.timestamp.proofs.parts.date_of.Goals as goal
 

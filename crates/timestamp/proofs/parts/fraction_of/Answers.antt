@@ -1,7 +1,7 @@
 use Prim.Native.Nat.{◌+◌}
 use Rattle.timestamp.proofs.Fractions.{point-run, fraction-none, fraction-empty, fraction-long, fraction-small, fraction-right}
 use Rattle.timestamp.specs.Timestamp.{digit_run}
-use Rattle.area.proofs.Parts.{rest_part}
+use Rattle.names.proofs.of_area.Parts.{rest_part}
 use mathlib.Core.Path.{ap, sym, ◌∙◌}
 use native.Mathlib.Omega.{arith}
 use Rattle.timestamp.proofs.parts.fraction_of.Goals as goal

@@ -1,7 +1,7 @@
 use Prim.Native.Nat.{◌+◌, ◌*◌, ◌≤◌}
 use native.Mathlib.Omega.{arith}
-use Rattle.fixed.proofs.Numerals.{field-most}
-use Rattle.fixed.specs.Fields.{part}
+use Rattle.clock.proofs.of_fixed.Numerals.{field-most}
+use Rattle.clock.specs.of_fixed.Fields.{part}
 use Rattle.timestamp.proofs.Leaves.{zone-utc, zone-byte, zone-length, zone-form, zone-plus, zone-minus, zone-sign}
 use Rattle.timestamp.proofs.parts.zone_of.Goals as goal
 use Rattle.timestamp.proofs.parts.zone_of.Goals.{After-struct_known-2-1}

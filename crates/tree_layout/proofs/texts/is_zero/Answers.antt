@@ -2,9 +2,9 @@ use Prim.Native.Nat.{◌-◌}
 use mathlib.Core.Bool.{not}
 use mathlib.Core.Path.{refl}
 use lib.Dec.{eqb}
-use Rattle.area.proofs.Sifting.{sifting-start, sifting-more, sifting-done}
-use Rattle.tree_report.specs.Layout.{all_zero}
-use Rattle.tree_slots.proofs.Zeros.{zero-next}
+use Rattle.tree_shape.proofs.of_area.Sifting.{sifting-start, sifting-more, sifting-done}
+use Rattle.tree_order.specs.of_tree_report.Layout.{all_zero}
+use Rattle.tree_shape.proofs.of_tree_slots.Zeros.{zero-next}
 use Rattle.tree_layout.proofs.texts.is_zero.Goals as goal
 
 pub loop-i-init : goal.loop-i-init

@@ -1,7 +1,7 @@
 use Prim.Native.Nat.{◌-◌}
 use lib.ListN.{length}
-use Rattle.area.proofs.Sifting.{Sifting}
-use Rattle.tree_report.specs.Layout.{all_zero}
+use Rattle.tree_shape.proofs.of_area.Sifting.{Sifting}
+use Rattle.tree_order.specs.of_tree_report.Layout.{all_zero}
 use Rattle.tree_layout.proofs.texts.is_zero.Given as goal
 
 abbrev pub invariant-loop-i : goal.invariant-loop-i

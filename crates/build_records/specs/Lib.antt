@@ -1,0 +1,3 @@
+pub use Rattle.build_draft.specs as of_build_draft
+pub use Rattle.build_draft.specs.of_refusal as of_refusal
+pub use Rattle.build_draft.specs.of_tree_record as of_tree_record

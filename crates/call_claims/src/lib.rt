@@ -1,0 +1,2 @@
+// Demand 1 in one place: its claims in specs/, their proofs in proofs/.
+#![tactic(auto)]

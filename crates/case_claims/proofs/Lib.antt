@@ -1,0 +1,4 @@
+pub mod Planned
+pub mod Growing
+pub mod Tags
+mod Examples

@@ -1,0 +1,1 @@
+pub use Rattle.area.proofs as of_area

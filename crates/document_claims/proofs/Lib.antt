@@ -1,0 +1,3 @@
+mod InUse
+mod Tokenized
+pub mod XmlBack

@@ -1,0 +1,11 @@
+pub mod White
+pub mod Following
+pub mod Beside
+pub mod Pieces
+pub mod Starting
+pub mod Simulating
+pub mod Calmed
+pub mod Back
+pub mod Gathered
+pub mod Sizes
+pub mod Examples

@@ -1,0 +1,9 @@
+pub use Rattle.list_text.specs.of_area as of_area
+pub use Rattle.list_text.specs.of_digits as of_digits
+pub use Rattle.list_text.specs.of_escape as of_escape
+pub use Rattle.list_text.specs as of_list_text
+pub use Rattle.list_text.specs.of_names as of_names
+pub use Rattle.list_text.specs.of_refusal as of_refusal
+pub use Rattle.list_text.specs.of_text_filter as of_text_filter
+pub use Rattle.list_text.specs.of_tree_record as of_tree_record
+pub use Rattle.list_text.specs.of_tree_report as of_tree_report

@@ -1,0 +1,2 @@
+// The proved cases: a table of examples of reading, listing and writing, and what the definitions say of them.
+#![tactic(auto)]

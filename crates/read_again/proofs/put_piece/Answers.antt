@@ -1,0 +1,21 @@
+use Rattle.read_pieces.specs.of_table.Event.{piece_kind, piece_bytes}
+use lib.ListN.{length}
+use Prim.Native.Nat.{◌-◌}
+use Rattle.read_again.proofs.Putting.{none-put, none-laid, piece-answers, piece-area}
+use Rattle.read_again.proofs.put_piece.Goals as goal
+
+pub returns-in-At : goal.returns-in-At
+returns-in-At c =
+    let a = c.args in
+    let told = c.in-At.is in
+    let g = c.gather_piece in record { result_value = λ o. rw told (piece-answers a.out.now a.k (piece_kind a.kind) (piece_bytes a.kind a.bytes.now) g.result _ g.ensures.result_value c.put_of.ensures); out_after = λ o. rw told (piece-area a.out.now a.k (piece_kind a.kind) (piece_bytes a.kind a.bytes.now) g.ensures.out_after) }
+
+pub returns-in-Text : goal.returns-in-Text
+returns-in-Text c =
+    let a = c.args in
+    record { result_value = λ o. rw c.in-Text.is (none-put (length a.out.now - a.k)); out_after = λ o. rw c.in-Text.is (none-laid a.out.now a.k) }
+
+pub returns-in-List : goal.returns-in-List
+returns-in-List c =
+    let a = c.args in
+    record { result_value = λ o. rw c.in-List.is (none-put (length a.out.now - a.k)); out_after = λ o. rw c.in-List.is (none-laid a.out.now a.k) }

@@ -1,0 +1,3 @@
+pub mod ElementKinds
+pub mod Adding
+pub mod Opening

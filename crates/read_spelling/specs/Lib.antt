@@ -1,0 +1,21 @@
+pub mod Spelling
+pub use Rattle.read_report.specs.of_area as of_area
+pub use Rattle.read_report.specs.of_integer as of_integer
+pub use Rattle.read_report.specs.of_read_element as of_read_element
+pub use Rattle.read_report.specs.of_read_machine as of_read_machine
+pub use Rattle.read_report.specs.of_read_path as of_read_path
+pub use Rattle.read_report.specs.of_read_place as of_read_place
+pub use Rattle.read_report.specs as of_read_report
+pub use Rattle.read_report.specs.of_read_rules as of_read_rules
+pub use Rattle.read_report.specs.of_read_state as of_read_state
+pub use Rattle.read_report.specs.of_reference as of_reference
+pub use Rattle.read_report.specs.of_refusal as of_refusal
+pub use Rattle.read_report.specs.of_text as of_text
+pub use Rattle.read_report.specs.of_text_filter as of_text_filter
+pub use Rattle.read_report.specs.of_time as of_time
+pub use Rattle.read_report.specs.of_timestamp as of_timestamp
+pub use Rattle.read_report.specs.of_tree_report as of_tree_report
+pub use Rattle.read_report.specs.of_tree_status as of_tree_status
+pub use Rattle.read_report.specs.of_trim as of_trim
+pub use Rattle.read_report.specs.of_utf8 as of_utf8
+pub use Rattle.read_report.specs.of_uuids as of_uuids

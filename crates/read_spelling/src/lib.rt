@@ -1,0 +1,2 @@
+// Empty children spelled as Start and End: definitions and laws only.
+#![tactic(auto)]

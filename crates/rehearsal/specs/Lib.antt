@@ -1,0 +1,1 @@
+pub use Rattle.order_suite.specs.of_order_report as of_order_report

@@ -1,0 +1,3 @@
+pub mod Public
+mod Examples
+mod ShortAreas

@@ -1,0 +1,21 @@
+pub mod Following
+pub mod Clean
+pub mod Steps
+pub mod Outputs
+pub mod Opening
+pub mod Closing
+pub mod Mains
+pub mod Runs
+pub mod Rows
+pub mod RunRows
+pub mod Properties
+pub mod StatusRows
+pub mod Ruled
+pub mod Statuses
+pub mod CaseRows
+pub mod CaseEnds
+pub mod Conditions
+pub mod Stages
+pub mod Childless
+pub mod Cases
+pub use Rattle.round_elements.proofs as of_round_elements

@@ -1,0 +1,2 @@
+// A case read back from its own events: that it is so.
+#![tactic(auto)]

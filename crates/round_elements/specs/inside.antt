@@ -1,0 +1,4 @@
+pub mod Opened
+pub mod Held
+pub mod Read
+pub mod PlainCase

@@ -1,0 +1,7 @@
+pub mod Keys
+pub mod Written
+pub mod Shown
+pub mod Puts
+pub mod Lookups
+pub mod Required
+pub mod Numbers

@@ -1,0 +1,2 @@
+pub mod Related
+pub mod Scratch

@@ -1,0 +1,2 @@
+// Definitions and laws only: refusal 14, exactly.
+#![tactic(auto)]

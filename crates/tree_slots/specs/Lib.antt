@@ -1,0 +1,11 @@
+pub use Rattle.tree_report.specs.of_area as of_area
+pub use Rattle.tree_report.specs.of_calendar as of_calendar
+pub use Rattle.tree_report.specs.of_names as of_names
+pub use Rattle.tree_report.specs.of_refusal as of_refusal
+pub use Rattle.tree_report.specs.of_schema as of_schema
+pub use Rattle.tree_report.specs.of_text_filter as of_text_filter
+pub use Rattle.tree_report.specs.of_timestamp as of_timestamp
+pub use Rattle.tree_report.specs.of_tree_record as of_tree_record
+pub use Rattle.tree_report.specs as of_tree_report
+pub use Rattle.tree_report.specs.of_tree_status as of_tree_status
+pub use Rattle.tree_report.specs.of_utf8 as of_utf8

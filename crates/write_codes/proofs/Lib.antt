@@ -1,0 +1,1 @@
+pub use Rattle.write_items.proofs.of_area as of_area

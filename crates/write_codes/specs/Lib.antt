@@ -1,0 +1,9 @@
+pub use Rattle.write_items.specs.of_area as of_area
+pub use Rattle.write_items.specs.of_names as of_names
+pub use Rattle.write_items.specs.of_refusal as of_refusal
+pub use Rattle.write_items.specs.of_table as of_table
+pub use Rattle.write_items.specs.of_tree_record as of_tree_record
+pub use Rattle.write_items.specs.of_tree_report as of_tree_report
+pub use Rattle.write_items.specs as of_write_items
+pub use Rattle.write_items.specs.of_write_report as of_write_report
+pub use Rattle.write_items.specs.of_write_table as of_write_table

@@ -1,0 +1,1 @@
+pub use Rattle.names.proofs.of_area as of_area

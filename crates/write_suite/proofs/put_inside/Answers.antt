@@ -1,0 +1,10 @@
+use Rattle.write_case.specs.of_write_items.inside.Suite.{inside_items}
+use Rattle.write_case.proofs.of_write_table.Writing.{then}
+use Rattle.write_suite.proofs.put_inside.Goals as goal
+
+pub returns : goal.returns
+unfolding inside_items
+returns c =
+    let put-properties = c.put_properties-properties in
+    let put-cases = c.put_cases in
+    then put-properties.ensures put-cases.ensures

@@ -1,0 +1,23 @@
+// The program: a table or an XML document from standard input, the XML document of its report to standard output. It only reads and
+// writes; crate `document_printing` says what is printed.
+#![tactic(auto)]
+
+use document_printing::print_input;
+use program_input::read_input;
+use program_input::the_list_input::front;
+use std::io;
+
+fn write_front(rt: &impl Print, out: &[u8; 65536], n: usize) -> io::Result<()> {
+    rt.write_all(front(out, n))
+}
+
+// By rule P6. There is room for three words, and a buffer each for events, attributes and source; what follows is ignored. A document may
+// have as many bytes as a buffer.
+fn main(rt: HostRuntime) -> io::Result<()> {
+    let mut room = [0u8; 196620];
+    let mut out = [0u8; 65536];
+    let given = read_input(&rt, &mut room)?;
+    let k = print_input(given, &mut out);
+    write_front(&rt, &out, k)?;
+    Ok(())
+}

@@ -1,0 +1,22 @@
+pub mod XmlListing
+pub use Rattle.public_call.specs.of_digits as of_digits
+pub use Rattle.public_call.specs.of_escape as of_escape
+pub use Rattle.public_call.specs.of_integer as of_integer
+pub use Rattle.public_call.specs.of_list_text as of_list_text
+pub use Rattle.public_call.specs.of_lister as of_lister
+pub use Rattle.public_call.specs as of_public_call
+pub use Rattle.public_call.specs.of_public_claims as of_public_claims
+pub use Rattle.public_call.specs.of_read_content as of_read_content
+pub use Rattle.public_call.specs.of_read_element as of_read_element
+pub use Rattle.public_call.specs.of_read_keys as of_read_keys
+pub use Rattle.public_call.specs.of_read_machine as of_read_machine
+pub use Rattle.public_call.specs.of_read_path as of_read_path
+pub use Rattle.public_call.specs.of_read_place as of_read_place
+pub use Rattle.public_call.specs.of_read_report as of_read_report
+pub use Rattle.public_call.specs.of_read_rules as of_read_rules
+pub use Rattle.public_call.specs.of_read_state as of_read_state
+pub use Rattle.public_call.specs.of_reader as of_reader
+pub use Rattle.public_call.specs.of_tree_report as of_tree_report
+pub use Rattle.public_call.specs.of_tree_status as of_tree_status
+pub use Rattle.public_call.specs.of_trim as of_trim
+pub use Rattle.xml_state.specs as of_xml_state

@@ -1,0 +1,2 @@
+pub mod Documents
+mod Examples

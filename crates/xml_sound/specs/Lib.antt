@@ -1,0 +1,1 @@
+pub use Rattle.xml_grammar.specs as of_xml_grammar

@@ -1,0 +1,4 @@
+use Rattle.xml_writer.proofs.refuse.Goals as goal
+
+pub returns : goal.returns
+returns c = rw c.refuse_late.ensures
