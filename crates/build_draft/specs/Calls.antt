@@ -135,7 +135,7 @@ holder_of κ b = cond (is_suites κ) b.suite b.case
 abbrev pub is_held : ℕ → Builder → List ℕ → Bool
 is_held κ b words = cond (is_suites κ) (is_of b words b.suite kind.suite) (is_of b words b.case kind.case)
 
--- the place of the record with this key among the element's extras, or no place before `placeFor` (rule B7)
+-- the place of the record with this key among the element's extras, or no place before `place_for` (rule B7)
 abbrev pub old_place : ℕ → List ℕ → List ℕ → Draft → ℕ
 old_place κ key text d =
     cond (is_extra κ) (key_place text d.words key (holder_of κ d.builder + 1) (place_for d - (holder_of κ d.builder + 1))) (place_for d)

@@ -37,7 +37,7 @@ mode_path (listing l) m = level_path l m ++ (element 4 nowhere nowhere ∷ [])
 mode_path (skipping outer name depth) m = mode_path outer m
 mode_path finished m = []
 
--- `pass`, `closeSuite`, `openText`, `openList` and `stop` never refuse, and nothing is refused where reading is finished: the path
+-- `pass`, `close_suite`, `open_text`, `open_list` and `stop` never refuse, and nothing is refused where reading is finished: the path
 -- that stands for them is a filler, so that every act has one.
 -- A suite or case has no event number while it is opened (rule F5); without a report the path is empty (rule R9).
 abbrev pub path_of : Act → Mode → Marks → List PathElement

@@ -28,7 +28,7 @@ module _ (attributes source : List ℕ) where
   length-attributes (suc n) j = ap suc (length-attributes n (j + 1))
 
 module _ (events attributes source : List ℕ) where
-  -- event i by its kind: it computes, under `unfolding eventOf`, once the kind is a literal
+  -- event i by its kind: it computes, under `unfolding event_of`, once the kind is a literal
   pub event-of-kind : (i kind : ℕ) → kind_at events i ≡ kind
       → event_at events attributes source i ≡ event_of kind (bytes_at events source i) (word events i 3) (attributes_from attributes source (word events i 4) (word events i 3))
   unfolding event_at

@@ -1,0 +1,14 @@
+use Prim.Native.Nat.{ℕ, ◌≤◌, ◌-◌}
+use mathlib.Core.List.{List}
+use native.Mathlib.Omega.{arith}
+use lib.ListN.{length, take, drop, length-drop, length-take}
+use Rattle.lister.specs.of_area.Area.{first_at}
+use Rattle.lister.proofs.of_area.Seeking.{first-within}
+use Rattle.test_building.proofs.run.Goals as goal
+
+-- a line ends within what is left
+within : (s : List ℕ) (at : ℕ) → first_at 0x0A (take (length s - at) (drop at s)) ≤ length (take (length s - at) (drop at s))
+within s at = first-within 0x0A (take (length s - at) (drop at s))
+
+pub overflow_add-at : goal.overflow_add-at
+overflow_add-at g c = omega (arith, c.first_at-end.ensures, simp (length-take, length-drop) at (within c.args.s.now c.loop-at.at))
