@@ -36,7 +36,7 @@ last-behind (x ∷ (z ∷ zs)) y ys = last-behind (z ∷ zs) y ys
 
 -- of an element, its extras and its properties
 abbrev pub pair_kind : ℕ → ℕ → ℕ → Bool → Bool → ℕ
-pair_kind κ x p noExtras noProperties = cond noProperties (cond noExtras κ x) p
+pair_kind κ x p no_extras no_properties = cond no_properties (cond no_extras κ x) p
 
 last-pairs : (p : ℕ) (head : Row) (ps : List Pair) → last_kind (head ∷ map (pair_row_of p) ps) ≡ cond (is_empty ps) head.kind p
 last-pairs p head [] = refl

@@ -2,7 +2,7 @@
 #![tactic(auto)]
 
 pub use list_text as the_list_text;
-pub use list_text::{the_area, the_names, the_tree_record};
+pub use list_text::the_tree_record;
 
 pub mod rows;
 

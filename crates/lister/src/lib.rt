@@ -18,7 +18,7 @@ use tree_layout::the_area::{Stored, least, limit};
 use tree_layout::the_refusal::{Cause, Refusal, Verdict, no_refusal, refuse_late};
 use tree_layout::the_tree_record::{field, kind, word};
 pub use tree_layout::{
-    the_area, the_fixed, the_names, the_refusal, the_timestamp, the_tree_record, the_uuids,
+    the_fixed, the_names, the_refusal, the_timestamp, the_tree_record, the_uuids,
 };
 
 // How many bytes the listing has, or why there is none.

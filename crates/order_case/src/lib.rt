@@ -12,7 +12,6 @@ ghost use Rattle.order_report.specs.inside.Items.{opening_items, main_items, fla
 
 pub use order_report as the_order_report;
 use order_report::Kind;
-pub use write_entries as the_write_entries;
 use write_entries::put_tag;
 use write_entries::the_names::{key, tag};
 use write_entries::the_table::kind::{EMPTY, END, START};

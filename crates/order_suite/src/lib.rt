@@ -14,10 +14,10 @@ ghost use Rattle.order_case.specs.of_order_report.inside.Items.{cases_items, cou
 use order_case::put_case;
 pub use order_case::the_order_report;
 use order_case::the_order_report::{Kind, Order};
-use order_case::the_write_entries::{put_declaration, put_tag};
 use write_document::put_tail;
 use write_document::the_names::{key, tag};
 use write_document::the_table::kind::{EMPTY, END, START};
+use write_document::the_write_entries::{put_declaration, put_tag};
 use write_document::the_write_marks::{Marks, store_attribute};
 use write_document::the_write_tags::put_quote;
 use write_document::the_write_values::put_key;

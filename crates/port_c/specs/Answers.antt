@@ -16,26 +16,26 @@ use Rattle.port_c.specs.declared.tables.KWriting.{KWriting}
 use Rattle.port_c.specs.declared.tables.KDocument.{KDocument}
 use Rattle.port_c.specs.declared.tables.KExplained.{KExplained}
 
-abbrev pub portListing : Listing → KListing
-portListing a = record { length = a.length; refusal = port_refusal a.verdict a.refusal }
+abbrev pub port_listing : Listing → KListing
+port_listing a = record { length = a.length; refusal = port_refusal a.verdict a.refusal }
 
-abbrev pub listingPort : Outcome ℕ → KListing
-listingPort o = portListing (listing_from o)
+abbrev pub listing_port : Outcome ℕ → KListing
+listing_port o = port_listing (listing_from o)
 
-abbrev pub portWriting : Writing → KWriting
-portWriting a = record { events = a.events; attributes = a.attributes; bytes = a.bytes; refusal = port_refusal a.verdict a.refusal }
+abbrev pub port_writing : Writing → KWriting
+port_writing a = record { events = a.events; attributes = a.attributes; bytes = a.bytes; refusal = port_refusal a.verdict a.refusal }
 
-abbrev pub writingPort : Outcome Sizes → KWriting
-writingPort o = portWriting (writing_from o)
+abbrev pub writing_port : Outcome Sizes → KWriting
+writing_port o = port_writing (writing_from o)
 
-abbrev pub portDocument : Document → KDocument
-portDocument a = record { length = a.length; refusal = port_refusal a.verdict a.refusal }
+abbrev pub port_document : Document → KDocument
+port_document a = record { length = a.length; refusal = port_refusal a.verdict a.refusal }
 
-abbrev pub documentPort : Outcome ℕ → KDocument
-documentPort o = portDocument (document_from o)
+abbrev pub document_port : Outcome ℕ → KDocument
+document_port o = port_document (document_from o)
 
-abbrev pub portExplained : Explained → KExplained
-portExplained a = record { length = a.length; refusal = port_refusal a.verdict a.refusal }
+abbrev pub port_explained : Explained → KExplained
+port_explained a = record { length = a.length; refusal = port_refusal a.verdict a.refusal }
 
-abbrev pub explainedPort : Outcome ℕ → KExplained
-explainedPort o = portExplained (explained_from o)
+abbrev pub explained_port : Outcome ℕ → KExplained
+explained_port o = port_explained (explained_from o)

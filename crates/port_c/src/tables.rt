@@ -13,7 +13,7 @@ ghost use Rattle.xml_call.specs.of_public_call.Called.{read_into, once_into, lis
 ghost use Rattle.explain.specs.of_explain_text.Explanation.{explained, explanation_in};
 ghost use Rattle.port_values.specs.of_port_refusal.Port.{port_outcome};
 ghost use Rattle.port_values.specs.of_port_refusal.Back.{plain_refusal};
-ghost use Rattle.port_c.specs.Answers.{listingPort, writingPort, documentPort, explainedPort};
+ghost use Rattle.port_c.specs.Answers.{listing_port, writing_port, document_port, explained_port};
 
 use case_tags::the_area::Stored;
 use port_values::the_port_refusal::{KRefusal, from_refusal, to_refusal};
@@ -74,7 +74,7 @@ pub extern "C" fn kerzhoma_read(
 
 #[unsafe(no_mangle)]
 pub extern "C" fn kerzhoma_list(records: &[u32], text: &[u8], out: &mut [u8]) -> KListing
-    ensures value { result ≡ listingPort (listed records.now text.now (length out.old)) }
+    ensures value { result ≡ listing_port (listed records.now text.now (length out.old)) }
     ensures out_after { out.new ≡ output_of records.now text.now (length out.old) }
 {
     let answer = xml_call::the_lister::list(records, text, out);
@@ -96,7 +96,7 @@ pub extern "C" fn kerzhoma_read_and_list(
     scratch: &mut [u8],
     out: &mut [u8],
 ) -> KListing
-    ensures answer { result ≡ listingPort
+    ensures answer { result ≡ listing_port
         (once_into events.now attributes.now source.now records.old text.old scratch.old out.old).outcome }
     ensures out { out.new ≡
         (once_into events.now attributes.now source.now records.old text.old scratch.old out.old).output }
@@ -156,7 +156,7 @@ pub extern "C" fn kerzhoma_write(
     attributes: &mut [u32],
     bytes: &mut [u8],
 ) -> KWriting
-    ensures value { result ≡ writingPort (wrote records.now text.now (length events.old) (length attributes.old) (length bytes.old)) }
+    ensures value { result ≡ writing_port (wrote records.now text.now (length events.old) (length attributes.old) (length bytes.old)) }
     ensures events_after { events.new ≡ events_left records.now text.now (length events.old) (length attributes.old) (length bytes.old) }
     ensures attributes_after { attributes.new ≡ attributes_left records.now text.now (length events.old) (length attributes.old) (length bytes.old) }
     ensures bytes_after { bytes.new ≡ bytes_left records.now text.now (length events.old) (length attributes.old) (length bytes.old) }
@@ -183,7 +183,7 @@ pub extern "C" fn kerzhoma_rehearse(
     attributes: &mut [u32],
     bytes: &mut [u8],
 ) -> KWriting
-    ensures value { result ≡ writingPort (ordered (order_of cases failures errors skipped flaky)
+    ensures value { result ≡ writing_port (ordered (order_of cases failures errors skipped flaky)
         (length events.old) (length attributes.old) (length bytes.old)) }
     ensures events_after { events.new ≡ events_ordered (order_of cases failures errors skipped flaky)
         (length events.old) (length attributes.old) (length bytes.old) }
@@ -207,7 +207,7 @@ pub extern "C" fn kerzhoma_rehearse(
 
 #[unsafe(no_mangle)]
 pub extern "C" fn kerzhoma_write_xml(records: &[u32], text: &[u8], out: &mut [u8]) -> KDocument
-    ensures value { result ≡ documentPort (wrote_xml records.now text.now (length out.old)) }
+    ensures value { result ≡ document_port (wrote_xml records.now text.now (length out.old)) }
     ensures out_after { out.new ≡ document_left records.now text.now (length out.old) }
 {
     let answer = xml_writer::write_xml(records, text, out);
@@ -229,7 +229,7 @@ pub extern "C" fn kerzhoma_explain(
     source: &[u8],
     out: &mut [u8],
 ) -> KExplained
-    ensures value { result ≡ explainedPort (explained events.now attributes.now source.now (plain_refusal refusal) lent (length out.old)) }
+    ensures value { result ≡ explained_port (explained events.now attributes.now source.now (plain_refusal refusal) lent (length out.old)) }
     ensures out_after { out.new ≡ explanation_in events.now attributes.now source.now (plain_refusal refusal) lent (length out.old) }
 {
     let answer = explain::explain(to_refusal(refusal), lent, events, attributes, source, out);

@@ -25,7 +25,7 @@ use Rattle.read_extras.specs.inside.Hinted.{Hinted}
 use Rattle.read_repeats.specs.of_read_element.Attributes.{Given, place_of, among, numbered, read_extra, by_role}
 use Rattle.read_repeats.specs.of_read_element.inside.Held.{Held, Meets}
 use Rattle.read_repeats.specs.of_read_element.inside.Refines.{went, stopped}
-use Rattle.read_extras.specs.of_read_extra_record.inside.Answers.{gaveAnswer}
+use Rattle.read_extras.specs.of_read_extra_record.inside.Answers.{gave_answer}
 use Rattle.read_repeats.specs.inside.Words.{attribute_in}
 use Rattle.read_role.specs.inside.Roles.{took_given}
 use Rattle.read_attribute.specs.inside.Steps.{taken_step, gave_step, by_key_of, Matches}
@@ -67,7 +67,7 @@ module _ {p : Place} {j : ℕ} {own text : List ℕ} where
   value-by (suc k) given (took.Not why) (stopped {f = n}) q s = let z : n ≡ why = cc in rw z stopped
 
   -- an extra's answer: they have none
-  extra-by : (found : Gave) {o : Outcome Given} {a : Answer (ℕ × ℕ)} → Meets (numbered p j) own text o a → a ≡ gaveAnswer found → Matches p own text o (gave_step found j)
+  extra-by : (found : Gave) {o : Outcome Given} {a : Answer (ℕ × ℕ)} → Meets (numbered p j) own text o a → a ≡ gave_answer found → Matches p own text o (gave_step found j)
   extra-by (gave.To given) (went {s = h} {c = (e, f)} hd) q =
       let z : e ≡ given.extras = ap (λ (b : Answer (ℕ × ℕ)). (numbers_of b).0) q in
       let y : f ≡ given.fill = ap (λ (b : Answer (ℕ × ℕ)). (numbers_of b).1) q in
@@ -93,7 +93,7 @@ module _ (kind j : ℕ) (x : Attribute) (g : Given) (rooms : Rooms) (p : Place) 
       in
       rw e (by_key (value-by key given t m refl quiet))
 
-  pub extra-step : (found : Gave) {s : Step} → r ≡ role.Extra → Meets (numbered p j) own text (read_extra rooms (numbered p j) used kind x g) (gaveAnswer found) → s ≡ gave_step found j
+  pub extra-step : (found : Gave) {s : Step} → r ≡ role.Extra → Meets (numbered p j) own text (read_extra rooms (numbered p j) used kind x g) (gave_answer found) → s ≡ gave_step found j
       → Matches p own text (by_key_of rooms (numbered p j) used kind x g) s
   unfolding by_role
   extra-step found n m e = rw e (by_key (rw n (extra-by found m refl)))

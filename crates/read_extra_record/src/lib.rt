@@ -8,7 +8,7 @@ ghost use Rattle.read_element.specs.of_area.Area.{placing, laid};
 ghost use Rattle.read_element.specs.of_text.Value.{value_text, checked_of};
 ghost use Rattle.read_element.specs.inside.Held.{moved, extra_words};
 ghost use Rattle.read_element.specs.inside.Refines.{areas};
-ghost use Rattle.read_extra_record.specs.inside.Answers.{laidAnswer};
+ghost use Rattle.read_extra_record.specs.inside.Answers.{laid_answer};
 ghost use Rattle.read_extra_record.specs.inside.Promises.{Bounded, ReplacesExtra, AddsExtra};
 ghost use Rattle.read_element.specs.of_refusal.declared.Cause.TheVariants as cause;
 
@@ -42,7 +42,7 @@ enum Laid {
 fn lay(value: &[u8], fill: usize, text: &mut [u8]) -> Laid
     requires tt_value { gives tt ≡ checked_of value.now }
     requires fill_in_bounds { fill ≤ length text.old }
-    ensures result_value { laidAnswer result ≡ moved fill (placing cause.TextFull (length text.old - fill) (value_text value.now)) }
+    ensures result_value { laid_answer result ≡ moved fill (placing cause.TextFull (length text.old - fill) (value_text value.now)) }
     ensures text_after { text.new ≡ take fill text.old ++ laid (drop fill text.old) (value_text value.now) }
 {
     let kept = store_value(&mut text[fill..], value);

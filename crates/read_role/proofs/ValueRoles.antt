@@ -31,7 +31,7 @@ use Rattle.read_values.specs.of_read_element.Attributes.{Given, storing, read_te
 use Rattle.read_values.specs.of_utf8.Characters.{joined}
 use Rattle.read_values.specs.of_read_element.inside.Held.{unmoved, moved, putting, Held, Roomy, Meets}
 use Rattle.read_values.specs.of_read_element.inside.Refines.{went, stopped}
-use Rattle.read_values.specs.inside.Answers.{tookAnswer}
+use Rattle.read_values.specs.inside.Answers.{took_answer}
 use Rattle.read_role.specs.inside.Roles.{RoleFits, took_given}
 use Rattle.read_values.specs.declared.Took.{Took}
 use Rattle.read_values.specs.declared.Took.TheVariants.{To, Not}
@@ -69,11 +69,11 @@ module _ (f : List ℕ → List ℕ) where
 
 -- a value's answer with the number of extras
 module _ (extras : ℕ) where
-  took-gives : (took : Took) {n : ℕ} → tookAnswer took ≡ gives n → took_given extras took ≡ gives (extras, n)
+  took-gives : (took : Took) {n : ℕ} → took_answer took ≡ gives n → took_given extras took ≡ gives (extras, n)
   took-gives (To k) {n} e = let z : k ≡ n = cc in ap (λ (j : ℕ). gives (extras, j)) z
   took-gives (Not why) e = let z : ◌≡◌ {A = ℕ} 0 1 = cc in absurd (omega arith)
 
-  took-refuses : (took : Took) {n : Cause} → tookAnswer took ≡ refuses n → took_given extras took ≡ refuses n
+  took-refuses : (took : Took) {n : Cause} → took_answer took ≡ refuses n → took_given extras took ≡ refuses n
   took-refuses (To k) e = let z : ◌≡◌ {A = ℕ} 0 1 = cc in absurd (omega arith)
   took-refuses (Not why) {n} e = cc
 
@@ -103,7 +103,7 @@ module _ {own text : List ℕ} {extras fill : ℕ} {g : Given} (hd : Held own te
       }
 
   text-by : {own' text' : List ℕ} (took : Took) (t u f : Bool) → leb (length v) (length text - fill) ≡ f
-      → tookAnswer took ≡ moved fill (cond t (cond u (cond f (gives (length v)) (refuses cause.TextFull)) (refuses cause.BadReference)) (refuses cause.NotUtf8))
+      → took_answer took ≡ moved fill (cond t (cond u (cond f (gives (length v)) (refuses cause.TextFull)) (refuses cause.BadReference)) (refuses cause.NotUtf8))
       → own' ≡ putting (put_text o k fill) (cond t (cond u (cond f (gives (length v)) (refuses cause.TextFull)) (refuses cause.BadReference)) (refuses cause.NotUtf8)) own
       → text' ≡ take fill text ++ cond (t && u) (laid (drop fill text) v) (drop fill text)
       → Meets p own' text'
@@ -122,21 +122,21 @@ module _ {own text : List ℕ} {extras fill : ℕ} {g : Given} (hd : Held own te
 module _ {own text : List ℕ} {extras fill : ℕ} {g : Given} (hd : Held own text extras fill g) (rooms : Rooms) (p : Place) (used kind key : ℕ)
     (x : Attribute) {value : List ℕ} (ev : x.value ≡ value) {r : Role} (fits : RoleFits r) (took : Took) {own' : List ℕ} where
   pub text-role : {text' : List ℕ} (o k : ℕ) → Roomy rooms used (length own) (length text) → r ≡ role.Text o k
-      → tookAnswer took ≡ moved fill (value_of (length text - fill) value) → own' ≡ putting (put_text o k fill) (value_of (length text - fill) value) own
+      → took_answer took ≡ moved fill (value_of (length text - fill) value) → own' ≡ putting (put_text o k fill) (value_of (length text - fill) value) own
       → text' ≡ take fill text ++ value_laid (drop fill text) value → Meets (within p key) own' text' (by_role rooms p used kind key r x g) (took_given extras took)
   unfolding by_role read_text
   text-role o k ro er e q tx =
       let fit : o + 1 < 32 = subst RoleFits er fits in
       rw (er, ev) (text-by hd ro (within p key) o k fit (value_text value) took (utf8 value) (refs_ok value 0) (leb (length (value_text value)) (length text - fill)) refl e q tx)
 
-  pub count-role : (o : ℕ) → r ≡ role.Count o → tookAnswer took ≡ unmoved fill (integer_of value) → own' ≡ putting (put_count_of o) (integer_of value) own
+  pub count-role : (o : ℕ) → r ≡ role.Count o → took_answer took ≡ unmoved fill (integer_of value) → own' ≡ putting (put_count_of o) (integer_of value) own
       → Meets (within p key) own' text (by_role rooms p used kind key r x g) (took_given extras took)
   unfolding by_role
   count-role o er e q =
       let fit : o + 1 < 32 = subst RoleFits er fits in
       rw (er, ev) (value-meets hd (put_count_of o) (λ n. pair-local o (n % 2 ^ 32) (n / 2 ^ 32) fit) (λ n. pair-length o (n % 2 ^ 32) (n / 2 ^ 32)) (within p key) (integer_of value) took e q)
 
-  pub number-role : (o k : ℕ) → r ≡ role.Number o k → tookAnswer took ≡ unmoved fill (integer_of value) → own' ≡ putting (λ n l. marked k (put_count_of o n l)) (integer_of value) own
+  pub number-role : (o k : ℕ) → r ≡ role.Number o k → took_answer took ≡ unmoved fill (integer_of value) → own' ≡ putting (λ n l. marked k (put_count_of o n l)) (integer_of value) own
       → Meets (within p key) own' text (by_role rooms p used kind key r x g) (took_given extras took)
   unfolding by_role
   number-role o k er e q =
@@ -144,19 +144,19 @@ module _ {own text : List ℕ} {extras fill : ℕ} {g : Given} (hd : Held own te
       rw (er, ev) (value-meets hd (λ n l. marked k (put_count_of o n l)) (λ n. text-local o k (n % 2 ^ 32) (n / 2 ^ 32) fit)
       (λ n. text-length o k (n % 2 ^ 32) (n / 2 ^ 32)) (within p key) (integer_of value) took e q)
 
-  pub uuid-role : r ≡ role.Uuid → tookAnswer took ≡ unmoved fill (uuid_of value) → own' ≡ putting put_uuid (uuid_of value) own
+  pub uuid-role : r ≡ role.Uuid → took_answer took ≡ unmoved fill (uuid_of value) → own' ≡ putting put_uuid (uuid_of value) own
       → Meets (within p key) own' text (by_role rooms p used kind key r x g) (took_given extras took)
   unfolding by_role
   uuid-role er e q = rw (er, ev) (value-meets hd put_uuid uuid-local uuid-length (within p key) (uuid_of value) took e q)
 
-  pub timestamp-role : (kept : Bool) → r ≡ role.Timestamp kept → tookAnswer took ≡ unmoved fill (timestamp_of value)
+  pub timestamp-role : (kept : Bool) → r ≡ role.Timestamp kept → took_answer took ≡ unmoved fill (timestamp_of value)
       → own' ≡ putting (λ m l. keep kept (put_moment m l) l) (timestamp_of value) own → Meets (within p key) own' text (by_role rooms p used kind key r x g) (took_given extras took)
   unfolding by_role
   timestamp-role kept er e q =
       rw (er, ev) (value-meets hd (λ m l. keep kept (put_moment m l) l) (λ m. keep_local (put_moment m) kept (moment-local m))
       (λ m l. keep-length (put_moment m) kept l (moment-length m l)) (within p key) (timestamp_of value) took e q)
 
-  pub time-role : (kept : Bool) → r ≡ role.Time kept → tookAnswer took ≡ unmoved fill (time_of value)
+  pub time-role : (kept : Bool) → r ≡ role.Time kept → took_answer took ≡ unmoved fill (time_of value)
       → own' ≡ putting (λ t l. keep kept (put_time t l) l) (time_of value) own → Meets (within p key) own' text (by_role rooms p used kind key r x g) (took_given extras took)
   unfolding by_role
   time-role kept er e q =

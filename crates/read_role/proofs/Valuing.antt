@@ -12,7 +12,7 @@ use Rattle.read_values.specs.of_read_element.Attributes.{Given, with_main}
 use Rattle.read_values.specs.of_utf8.Characters.{joined}
 use Rattle.read_values.specs.of_read_element.inside.Held.{unmoved, putting, Held, Meets}
 use Rattle.read_values.specs.of_read_element.inside.Refines.{went, stopped}
-use Rattle.read_values.specs.inside.Answers.{tookAnswer}
+use Rattle.read_values.specs.inside.Answers.{took_answer}
 use Rattle.read_role.specs.inside.Roles.{took_given}
 use Rattle.read_values.specs.declared.Took.{Took}
 use Rattle.read_values.specs.declared.Took.TheVariants.{To, Not}
@@ -33,7 +33,7 @@ module _ {own text : List ℕ} {extras fill : ℕ} {g : Given} (hd : Held own te
   }
 
   pub value-meets : {A : Type 0} (f : A → List ℕ → List ℕ) → ((a : A) → Local (f a)) → ((a : A) (r : List ℕ) → length (f a r) ≡ length r)
-      → (p : Place) (m : Answer A) (took : Took) {own' : List ℕ} → tookAnswer took ≡ unmoved fill m → own' ≡ putting f m own
+      → (p : Place) (m : Answer A) (took : Took) {own' : List ℕ} → took_answer took ≡ unmoved fill m → own' ≡ putting f m own
       → Meets p own' text (there p m >>= λ a. accepted (with_main g (f a g.main))) (took_given extras took)
   unfolding there ◌>>=◌
   value-meets f loc len p (gives a) (To n) e o =

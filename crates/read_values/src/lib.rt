@@ -11,7 +11,7 @@ ghost use Rattle.read_element.specs.of_time.Time.{time_of};
 ghost use Rattle.read_element.specs.of_text.Value.{value_of, value_laid};
 ghost use Rattle.read_element.specs.Attributes.{keep};
 ghost use Rattle.read_element.specs.inside.Held.{unmoved, moved, putting};
-ghost use Rattle.read_values.specs.inside.Answers.{tookAnswer};
+ghost use Rattle.read_values.specs.inside.Answers.{took_answer};
 
 use read_element::the_integer::{Integer, integer_of};
 pub use read_element::the_read_keys;
@@ -43,7 +43,7 @@ pub fn read_text(
 ) -> Took
     requires fill_in_bounds { fill ≤ length text.old }
     requires text_len_bound { length text.old ≤ 16777216 }
-    ensures result_value { tookAnswer result ≡ moved fill (value_of (length text.old - fill) value.now) }
+    ensures result_value { took_answer result ≡ moved fill (value_of (length text.old - fill) value.now) }
     ensures words_after { words.new ≡ putting (put_text o k fill) (value_of (length text.old - fill) value.now) words.old }
     ensures text_after { text.new ≡ take fill text.old ++ value_laid (drop fill text.old) value.now }
 {
@@ -61,7 +61,7 @@ pub fn read_text(
 }
 
 pub fn read_count(value: &[u8], o: usize, fill: usize, words: &mut [u32]) -> Took
-    ensures result_value { tookAnswer result ≡ unmoved fill (integer_of value.now) }
+    ensures result_value { took_answer result ≡ unmoved fill (integer_of value.now) }
     ensures words_after { words.new ≡ putting (put_count_of o) (integer_of value.now) words.old }
 {
     let read = integer_of(value);
@@ -76,7 +76,7 @@ pub fn read_count(value: &[u8], o: usize, fill: usize, words: &mut [u32]) -> Too
 }
 
 pub fn read_number(value: &[u8], o: usize, k: u32, fill: usize, words: &mut [u32]) -> Took
-    ensures result_value { tookAnswer result ≡ unmoved fill (integer_of value.now) }
+    ensures result_value { took_answer result ≡ unmoved fill (integer_of value.now) }
     ensures words_after { words.new ≡ putting (λ n x. marked k (put_count_of o n x)) (integer_of value.now) words.old }
 {
     let read = read_count(value, o, fill, words);
@@ -90,7 +90,7 @@ pub fn read_number(value: &[u8], o: usize, k: u32, fill: usize, words: &mut [u32
 }
 
 pub fn read_uuid(value: &[u8], fill: usize, words: &mut [u32]) -> Took
-    ensures result_value { tookAnswer result ≡ unmoved fill (uuid_of value.now) }
+    ensures result_value { took_answer result ≡ unmoved fill (uuid_of value.now) }
     ensures words_after { words.new ≡ putting put_uuid (uuid_of value.now) words.old }
 {
     let read = uuid_of(value);
@@ -105,7 +105,7 @@ pub fn read_uuid(value: &[u8], fill: usize, words: &mut [u32]) -> Took
 }
 
 pub fn read_timestamp(value: &[u8], kept: bool, fill: usize, words: &mut [u32]) -> Took
-    ensures result_value { tookAnswer result ≡ unmoved fill (timestamp_of value.now) }
+    ensures result_value { took_answer result ≡ unmoved fill (timestamp_of value.now) }
     ensures words_after { words.new ≡ putting (λ m x. keep kept (put_moment m x) x) (timestamp_of value.now) words.old }
 {
     let read = timestamp_of(value);
@@ -122,7 +122,7 @@ pub fn read_timestamp(value: &[u8], kept: bool, fill: usize, words: &mut [u32]) 
 }
 
 pub fn read_duration(value: &[u8], kept: bool, fill: usize, words: &mut [u32]) -> Took
-    ensures result_value { tookAnswer result ≡ unmoved fill (time_of value.now) }
+    ensures result_value { took_answer result ≡ unmoved fill (time_of value.now) }
     ensures words_after { words.new ≡ putting (λ t x. keep kept (put_time t x) x) (time_of value.now) words.old }
 {
     let read = read_time(value);

@@ -12,7 +12,7 @@ use Rattle.round_elements.specs.of_tree_report.Fields.{kind_of, is_main, is_run,
 use Rattle.round_elements.specs.of_tree_report.ReportOf.{only, pair_of, pairs_of_it, status_of}
 use Rattle.round_elements.proofs.of_tree_report.EncodeLists.{Each, done, more as others, each_append, each_on, every-each, only-front, only-behind}
 use Rattle.round_elements.specs.inside.Opened.{PairsShown, none, more}
-use Rattle.round_elements.specs.inside.Read.{BelowCase, none as no_row, more as oneRow, extra as one_extra, CaseRecords}
+use Rattle.round_elements.specs.inside.Read.{BelowCase, none as no_row, more as one_row, extra as one_extra, CaseRecords}
 use Rattle.round_elements.specs.inside.Held.{CaseHeld}
 use Rattle.round_case.specs.inside.Kept.{StatusWhole}
 
@@ -42,7 +42,7 @@ Under r = (kind.case_property ≤ kind_of r) × (kind_of r ≤ kind.rerun_error)
 
 below_rows : {rs : List (List ℕ)} → Each Under rs → BelowCase rs
 below_rows done = no_row
-below_rows (others h hs) = oneRow h (below_rows hs)
+below_rows (others h hs) = one_row h (below_rows hs)
 
 below-extras : {rs qs : List (List ℕ)} → Each (λ r. kind_of r ≡ kind.case_extra) rs → BelowCase qs → BelowCase (rs ++ qs)
 below-extras done b = b

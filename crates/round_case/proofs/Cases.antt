@@ -13,7 +13,7 @@ use Rattle.round_elements.specs.of_tree_report.inside.Cells.{every, fits_row, ca
 use Rattle.round_elements.specs.of_read_state.Control.{suite}
 use Rattle.round_elements.specs.of_read_machine.Machine.{Machine}
 use Rattle.round_elements.specs.of_write_report.Written.{start_tag, end_tag, element, case_attributes, serialize_properties, serialize_elements, serialize_outputs, serialize_test_case, numbered}
-use Rattle.round_elements.specs.inside.Opened.{CaseShown, PairsShown, none as noPairs}
+use Rattle.round_elements.specs.inside.Opened.{CaseShown, PairsShown, none as no_pairs}
 use Rattle.round_elements.specs.inside.Read.{Stands, CaseRecords, CaseRead}
 use Rattle.round_elements.specs.inside.Held.{CaseHeld}
 use Rattle.round_elements.specs.inside.PlainCase.{PlainCase}
@@ -21,7 +21,7 @@ use Rattle.round_elements.proofs.Places.{pairs-later}
 use Rattle.round_elements.proofs.Elements.{case-opened}
 use Rattle.round_elements.proofs.Gathered.{case-begun}
 use Rattle.round_case.specs.inside.Amid.{Reads}
-use Rattle.round_case.specs.inside.Kept.{StatusWhole, none as noRuns, status_tally}
+use Rattle.round_case.specs.inside.Kept.{StatusWhole, none as no_runs, status_tally}
 use Rattle.round_case.proofs.Following.{reads_then, reads_as}
 use Rattle.round_case.proofs.Properties.{properties-read}
 use Rattle.round_case.proofs.Ruled.{status-ruled}
@@ -101,8 +101,8 @@ module _ (c : TestCase) (h : CaseClean c) (plain : PlainCase c) {i : ℕ} {recor
       let T : List ℕ = texts ++ b.added in
       let shown : CaseHeld c c.system_out c.system_err T b.main =
       subst (λ (x : Option Text). CaseHeld c x c.system_err T b.main) (sym k.out) (subst (λ (x : Option Text). CaseHeld c none x T b.main) (sym k.err) (case-begun b.shown)) in
-      let properties : PairsShown kind.case_property T [] c.properties = subst (λ (x : List Pair). PairsShown kind.case_property T [] x) (sym k.properties) noPairs in
-      let status : StatusWhole c.status T [] = subst (λ (x : TestCaseStatus). StatusWhole x T []) (sym k.status) (success-whole noRuns) in
+      let properties : PairsShown kind.case_property T [] c.properties = subst (λ (x : List Pair). PairsShown kind.case_property T [] x) (sym k.properties) no_pairs in
+      let status : StatusWhole c.status T [] = subst (λ (x : TestCaseStatus). StatusWhole x T []) (sym k.status) (success-whole no_runs) in
       record {
         rows = b.main ∷ b.extras;
         added = b.added;

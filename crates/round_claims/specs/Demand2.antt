@@ -26,7 +26,7 @@ use Rattle.std.specs.Prelude.{ℕ, ◌*◌, ◌/◌, min, ◌≤◌, ◌≡◌, 
 use Rattle.public_claims.specs.of_area.Limits.{most_entries, most_records, most_words, most_bytes}
 use Rattle.public_claims.specs.of_refusal.Refusal.{number, OfRules, Refused, Outcome, accepted, refused}
 use Rattle.public_claims.specs.of_tree_report.Report.{Report}
-use Rattle.public_claims.specs.of_tree_report.Encode.{every, rows_of, fits as fitsAreas}
+use Rattle.public_claims.specs.of_tree_report.Encode.{every, rows_of, fits as fits_areas}
 use Rattle.public_claims.specs.of_read_element.Outcome.{unlimited}
 use Rattle.public_claims.specs.of_read_report.Deserialize.{Reader, steps, begin, deserialize}
 use Rattle.public_claims.specs.of_read_report.Answer.{Table, Areas, events_of, checked, answer_to, Holds}
@@ -121,11 +121,11 @@ abbrev pub are_bytes : List ℕ → Bool
 are_bytes text = every (λ (b : ℕ). leb b 255) text
 
 -- two areas of so many words and bytes, as they may be lent, that hold a report
-pub record Placed (r : Report) (manyWords manyBytes : ℕ) : Type 0 where
+pub record Placed (r : Report) (many_words many_bytes : ℕ) : Type 0 where
   pub words : List ℕ
   pub text : List ℕ
-  pub words_length : length words ≡ manyWords
-  pub text_length : length text ≡ manyBytes
+  pub words_length : length words ≡ many_words
+  pub text_length : length text ≡ many_bytes
   pub words_lent : are_words words ≡ true
   pub text_lent : are_bytes text ≡ true
   pub holds : Holds r words text
@@ -159,7 +159,7 @@ pub record Demand2 : Type 0 where
   pub own_listing : (words text : List ℕ) (r : Report) (output : ℕ) → are_words words ≡ true → Holds r words text
       → plain r ≡ true → length (render r) ≤ output → listing (own_table r) (limits output) ≡ render r
   -- G. Each report that fits has a layout (rule M9): with areas of any lengths that its records and texts fit, one behind the other.
-  pub lays_out : (r : Report) (manyWords manyBytes : ℕ) → fitsAreas r manyWords manyBytes ≡ true → Placed r manyWords manyBytes
+  pub lays_out : (r : Report) (many_words many_bytes : ℕ) → fits_areas r many_words many_bytes ≡ true → Placed r many_words many_bytes
   -- G. Its values and records are what must fit: what a layout holds is sound, and has no more records than the area has room for.
   -- Of the bytes less may do, where texts share some.
   pub holds_fitting : (words text : List ℕ) (r : Report) → are_words words ≡ true → Holds r words text

@@ -32,7 +32,7 @@ use Rattle.write_back.proofs.Escaped.{value-escaped, checked-escaped}
 use Rattle.write_back.specs.of_write_escape.Escape.{escaped}
 use Rattle.write_report.specs.Written.{attribute, extra_attribute}
 use Rattle.round_elements.specs.Plain.{keys_of, holds, is_in}
-use Rattle.round_elements.specs.inside.Opened.{PairShown, PairsShown, none as noPairs, more as onePair}
+use Rattle.round_elements.specs.inside.Opened.{PairShown, PairsShown, none as no_pairs, more as one_pair}
 use Rattle.round_elements.proofs.Keys.{or_left, or_right, Fresh, fresh-new, fresh-next, GoodKey, no-refs, plain-decoded}
 use Rattle.round_elements.proofs.Reading.{Reads, read-end, read-role}
 use Rattle.round_elements.proofs.Rows.{words, blank_row, with_first_of, put_first, put-value}
@@ -82,14 +82,14 @@ module _ (used κ : ℕ) (g : Given) (q : Place) where
 
 -- ---- all
 place_end : {κ : ℕ} {texts : List ℕ} {rs : List (List ℕ)} {ps : List Pair} (k : List ℕ) → PairsShown κ texts rs ps → among k (keys_of ps) ≡ false → place_of texts k rs ≡ length rs
-place_end k noPairs e = refl
-place_end {texts = texts} k (onePair {r = r} {p = p} {ps = ps} h hs) e =
+place_end k no_pairs e = refl
+place_end {texts = texts} k (one_pair {r = r} {p = p} {ps = ps} h hs) e =
     let a : text_at texts r 2 ≡ p.key = ap (λ (t : List ℕ). text_at t r 2) (sym (append-nil texts)) ∙ ap (λ (x : Pair). x.key) (h.pair []) in
     rw (a, or_left (same_bytes p.key k) (among k (keys_of ps)) e) (ap suc (place_end k hs (or_right (same_bytes p.key k) (among k (keys_of ps)) e)))
 
 pairs-on : {κ : ℕ} {texts r : List ℕ} {rs : List (List ℕ)} {p : Pair} {ps : List Pair} → PairsShown κ texts rs ps → PairShown κ texts r p → PairsShown κ texts (rs ++ (r ∷ [])) (ps ++ (p ∷ []))
-pairs-on noPairs q = onePair q noPairs
-pairs-on (onePair h hs) q = onePair h (pairs-on hs q)
+pairs-on no_pairs q = one_pair q no_pairs
+pairs-on (one_pair h hs) q = one_pair h (pairs-on hs q)
 
 pub record ExtrasRead (p : Place) (used κ : ℕ) (g : Given) (before ps : List Pair) : Type 0 where
   pub rows : List (List ℕ)

@@ -9,7 +9,6 @@ use builder::{
 use builder_set::{
     set_number, set_output_lossy, set_rerun_kind, set_text, set_time, set_timestamp, set_uuid,
 };
-use lister::the_area::first_at;
 use lister::the_timestamp::Moment;
 use lister::the_uuids::Words;
 use port_values::codes::{
@@ -17,6 +16,7 @@ use port_values::codes::{
 };
 use port_values::the_build_draft::{Builder, Built};
 use program_input::the_list_input::front;
+use writer::the_area::first_at;
 
 // Where the setters begin among the names of calls.
 const SETTERS: usize = 8;

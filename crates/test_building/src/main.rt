@@ -10,13 +10,13 @@ ghost use Rattle.std.specs.Prelude.{◌≤◌};
 
 use calls::{behind, perform};
 use lister::list;
-use lister::the_area::{first_at, least};
-use lister::the_refusal::Verdict;
 use port_values::the_build_draft::{Builder, no_builder};
 use program_input::read_input;
 use program_input::the_list_input::front;
 use std::io;
 use tell::{say, tell_count, tell_refusal, tell_table};
+use writer::the_area::{first_at, least};
+use writer::the_refusal::Verdict;
 use writer::write;
 
 // The builder, and how many words and bytes are lent.

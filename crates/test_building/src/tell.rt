@@ -1,11 +1,11 @@
 // How what was built is told.
 ghost use Rattle.std.specs.Prelude.{◌≤◌};
 
-use lister::the_area::least;
-use lister::the_refusal::{Refusal, number_of};
 use lister::the_tree_record::field;
 use port_values::the_build_draft::Builder;
 use std::io;
+use writer::the_area::least;
+use writer::the_refusal::{Refusal, number_of};
 
 pub fn say(rt: &impl Print, bytes: &[u8]) -> io::Result<()> {
     rt.write_all(bytes)

@@ -5,7 +5,7 @@
 ghost use Rattle.std.specs.Prelude.{◌≤◌, length, IfOk};
 
 use program_input::read_input;
-use program_input::the_list_input::{Found, front, input_of};
+use program_input::the_list_input::{Found, input_of};
 use std::io;
 use test_tell::tell_table;
 

@@ -4,12 +4,12 @@ use mathlib.Core.Path.{◌≡◌, refl, ap}
 use mathlib.Core.List.{List, ◌∷◌, ◌++◌}
 use mathlib.Core.Bool.{true, false}
 use lib.ListN.{length}
-use Rattle.write_elements.specs.of_write_table.Laid.{entry, pairs_of_it}
-use Rattle.write_elements.specs.of_write_items.inside.Values.{tag_name}
-use Rattle.write_elements.specs.of_write_items.inside.Slots.{slots}
-use Rattle.write_elements.specs.of_write_items.inside.Walk.{own_of, between}
-use Rattle.write_elements.specs.of_write_items.inside.Rows.{rows_items}
-use Rattle.write_elements.specs.of_write_items.inside.Case.{case_codes, is_childless, closing_items, opening_items, inside_items, case_items}
+use Rattle.write_marks.specs.of_write_table.Laid.{entry, pairs_of_it}
+use Rattle.write_walk.specs.of_write_items.inside.Values.{tag_name}
+use Rattle.write_walk.specs.of_write_items.inside.Slots.{slots}
+use Rattle.write_walk.specs.of_write_items.inside.Walk.{own_of, between}
+use Rattle.write_walk.specs.of_write_items.inside.Rows.{rows_items}
+use Rattle.write_walk.specs.of_write_items.inside.Case.{case_codes, is_childless, closing_items, opening_items, inside_items, case_items}
 
 module _ (rs : List (List ℕ)) (text : List ℕ) where
   pub opening-items : (r : List ℕ) (kind n : ℕ) → n ≡ length (between 14 14 (own_of 2 rs))

@@ -2,25 +2,19 @@
 #![tactic(auto)]
 
 ghost use Rattle.std.specs.Prelude.{◌≡◌};
-ghost use Rattle.write_elements.specs.of_list_sums.inside.Rows.{records_in};
-ghost use Rattle.write_elements.specs.of_write_table.inside.Putting.{Wrote};
-ghost use Rattle.write_elements.specs.of_write_marks.inside.Kept.{kept};
-ghost use Rattle.write_elements.specs.of_write_items.inside.Case.{opening_items, inside_items, case_items};
+ghost use Rattle.write_walk.specs.of_list_sums.inside.Rows.{records_in};
+ghost use Rattle.write_marks.specs.of_write_table.inside.Putting.{Wrote};
+ghost use Rattle.write_marks.specs.inside.Kept.{kept};
+ghost use Rattle.write_walk.specs.of_write_items.inside.Case.{opening_items, inside_items, case_items};
 
-pub use write_elements as the_write_elements;
-use write_elements::the_names::tag;
-use write_elements::the_table::kind::{EMPTY, START};
-use write_elements::the_tree_record::kind;
-use write_elements::the_write_marks::Marks;
-use write_elements::the_write_rows::put_rows;
-use write_elements::the_write_slots::put_element;
-use write_elements::the_write_walk::{count_kind, is_childless};
-pub use write_elements::{
-    the_list_sums, the_list_text, the_names, the_table, the_tree_record, the_write_entries,
-    the_write_form, the_write_marks, the_write_rows, the_write_slots, the_write_tags,
-    the_write_values, the_write_walk,
-};
+use names::tag;
+use table::kind::{EMPTY, START};
+use tree_record::kind;
 use write_elements::{put_closing, put_elements, put_properties};
+use write_marks::Marks;
+use write_rows::put_rows;
+use write_slots::put_element;
+use write_walk::{count_kind, is_childless};
 
 // The level of what belongs to a case (write_walk).
 const CASE: u32 = 2;

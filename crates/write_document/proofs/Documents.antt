@@ -5,21 +5,21 @@ use mathlib.Core.List.{List, [], ◌∷◌, ◌++◌, append-nil}
 use mathlib.Core.Bool.{true, false}
 use native.Mathlib.Omega.{arith}
 use lib.ListN.{length, take, drop}
-use Rattle.write_suite.specs.of_list_sums.inside.Rows.{stands, records_in}
-use Rattle.write_suite.proofs.of_list_sums.Records.{records-here, records-over}
-use Rattle.write_suite.specs.of_names.Bytes.{bytes}
-use Rattle.write_suite.specs.of_names.Tags as tag
-use Rattle.write_suite.specs.of_table.Kinds as event
-use Rattle.write_suite.specs.of_tree_report.Fields.{live}
-use Rattle.write_suite.specs.of_write_report.Written.{declaration}
-use Rattle.write_suite.specs.of_write_table.Laid.{Item, entry, pairs_of_it, items_of}
-use Rattle.write_suite.specs.of_write_table.inside.Putting.{Areas, Wrote}
-use Rattle.write_suite.proofs.of_write_table.Writing.{coming_on, coming-wrote, coming-done}
+use Rattle.list_sums.specs.inside.Rows.{stands, records_in}
+use Rattle.list_sums.proofs.Records.{records-here, records-over}
+use Rattle.names.specs.Bytes.{bytes}
+use Rattle.names.specs.Tags as tag
+use Rattle.table.specs.Kinds as event
+use Rattle.list_sums.specs.of_tree_report.Fields.{live}
+use Rattle.write_marks.specs.of_write_report.Written.{declaration}
+use Rattle.write_marks.specs.of_write_table.Laid.{Item, entry, pairs_of_it, items_of}
+use Rattle.write_marks.specs.of_write_table.inside.Putting.{Areas, Wrote}
+use Rattle.write_marks.proofs.of_write_table.Writing.{coming_on, coming-wrote, coming-done}
 use Rattle.write_suite.proofs.of_write_rows.Going.{Going}
-use Rattle.write_suite.specs.of_write_items.inside.Values.{tag_name}
-use Rattle.write_suite.specs.of_write_items.inside.Slots.{slots}
-use Rattle.write_suite.specs.of_write_items.inside.Document.{report_codes, head_items, tail_items, document_in, document_items}
-use Rattle.write_suite.specs.of_write_items.inside.Suite.{suites_items}
+use Rattle.write_marks.specs.of_write_items.inside.Values.{tag_name}
+use Rattle.write_marks.specs.of_write_items.inside.Slots.{slots}
+use Rattle.write_marks.specs.of_write_items.inside.Document.{report_codes, head_items, tail_items, document_in, document_items}
+use Rattle.write_marks.specs.of_write_items.inside.Suite.{suites_items}
 
 -- ---- a loop that looks for one record and puts what is written of it and those behind it
 module _ (shown : List (List ℕ) → List Item) {s₀ : Areas} {words : List ℕ} {s : Areas} {at : ℕ} (g : Going shown s₀ words s at) where

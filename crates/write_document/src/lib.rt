@@ -2,23 +2,25 @@
 #![tactic(auto)]
 
 ghost use Rattle.std.specs.Prelude.{List, ℕ};
-ghost use Rattle.write_suite.specs.of_list_sums.inside.Rows.{records_in};
-ghost use Rattle.write_suite.specs.of_write_table.inside.Putting.{Wrote};
-ghost use Rattle.write_suite.specs.of_write_marks.inside.Kept.{kept};
-ghost use Rattle.write_suite.specs.of_write_items.inside.Document.{head_items, tail_items, document_items, document_in};
+ghost use Rattle.list_sums.specs.inside.Rows.{records_in};
+ghost use Rattle.write_marks.specs.of_write_table.inside.Putting.{Wrote};
+ghost use Rattle.write_marks.specs.inside.Kept.{kept};
+ghost use Rattle.write_marks.specs.of_write_items.inside.Document.{head_items, tail_items, document_items, document_in};
 
+use list_sums::rows::stands_here;
+pub use list_sums::the_list_text;
+pub use names as the_names;
+use names::tag;
+pub use table as the_table;
+use table::kind::{END, EOF, INDENT, START};
+use tree_record::{field, kind, word};
+pub use write_entries as the_write_entries;
+pub use write_entries::{the_write_tags, the_write_values};
+use write_entries::{put_bare, put_declaration, put_tag};
+pub use write_marks as the_write_marks;
+use write_marks::Marks;
+use write_slots::put_element;
 use write_suite::put_suites;
-use write_suite::the_list_sums::rows::stands_here;
-use write_suite::the_names::tag;
-use write_suite::the_table::kind::{END, EOF, INDENT, START};
-use write_suite::the_tree_record::{field, kind, word};
-use write_suite::the_write_entries::{put_bare, put_declaration, put_tag};
-use write_suite::the_write_marks::Marks;
-use write_suite::the_write_slots::put_element;
-pub use write_suite::{
-    the_list_text, the_names, the_table, the_write_form, the_write_marks, the_write_tags,
-    the_write_values,
-};
 
 // The declaration, and the report's tag with name, tests, skipped, failures, errors, disabled, uuid, timestamp and time.
 fn put_head(

@@ -6,16 +6,16 @@ use mathlib.Core.Bool.{Bool, true, false}
 use native.Mathlib.Nat.{min_comm}
 use borrow.Author.Tests.{eq-eqb, ne_eqb}
 use lib.ListN.{length, take, drop}
-use Rattle.write_rows.proofs.of_area.Parts.{rest_part}
-use Rattle.write_rows.proofs.of_list_values.Cutting.{take-least}
-use Rattle.write_rows.specs.of_tree_report.Fields.{kind_of}
-use Rattle.write_rows.specs.of_tree_report.ReportOf.{reason_of}
-use Rattle.write_rows.specs.of_write_report.Written.{serialize_status}
-use Rattle.write_rows.specs.of_write_table.Laid.{entry, items_of}
-use Rattle.write_rows.specs.of_write_items.inside.Values.{tag_name}
-use Rattle.write_rows.specs.of_write_items.inside.Walk.{own_of, between, first_of}
-use Rattle.write_rows.specs.of_write_items.inside.Rows.{rows_items}
-use Rattle.write_rows.specs.of_write_items.inside.Case.{first_kind, runs_flaky, main_tag, properties_items, main_items, elements_items}
+use Rattle.area.proofs.Parts.{rest_part}
+use Rattle.write_entries.proofs.of_list_values.Cutting.{take-least}
+use Rattle.write_marks.specs.of_tree_report.Fields.{kind_of}
+use Rattle.write_marks.specs.of_tree_report.ReportOf.{reason_of}
+use Rattle.write_marks.specs.of_write_report.Written.{serialize_status}
+use Rattle.write_marks.specs.of_write_table.Laid.{entry, items_of}
+use Rattle.write_walk.specs.of_write_items.inside.Values.{tag_name}
+use Rattle.write_walk.specs.of_write_items.inside.Walk.{own_of, between, first_of}
+use Rattle.write_walk.specs.of_write_items.inside.Rows.{rows_items}
+use Rattle.write_walk.specs.of_write_items.inside.Case.{first_kind, runs_flaky, main_tag, properties_items, main_items, elements_items}
 
 -- the record at hand, cut out of the words
 pub record-there : (words f : List ℕ) (at to : ℕ) → to ≡ min 32 (length (take (length words - at) (drop at words)))

@@ -2,26 +2,20 @@
 #![tactic(auto)]
 
 ghost use Rattle.std.specs.Prelude.{◌≡◌, List, ℕ};
-ghost use Rattle.write_rows.specs.of_list_sums.inside.Rows.{records_in};
-ghost use Rattle.write_rows.specs.of_write_table.inside.Putting.{Wrote};
-ghost use Rattle.write_rows.specs.of_write_marks.inside.Kept.{kept};
-ghost use Rattle.write_rows.specs.of_write_items.inside.Case.{properties_items, closing_items, main_tag, main_items, elements_items};
+ghost use Rattle.write_walk.specs.of_list_sums.inside.Rows.{records_in};
+ghost use Rattle.write_marks.specs.of_write_table.inside.Putting.{Wrote};
+ghost use Rattle.write_marks.specs.inside.Kept.{kept};
+ghost use Rattle.write_walk.specs.of_write_items.inside.Case.{properties_items, closing_items, main_tag, main_items, elements_items};
 
-pub use write_rows as the_write_rows;
+use area::least;
+use names::tag;
+use table::kind::{END, START};
+use tree_record::{field, kind, word};
+use write_entries::put_tag;
+use write_marks::Marks;
 use write_rows::put_rows;
-use write_rows::the_area::least;
-use write_rows::the_names::tag;
-use write_rows::the_table::kind::{END, START};
-use write_rows::the_tree_record::{field, kind, word};
-use write_rows::the_write_entries::put_tag;
-use write_rows::the_write_marks::Marks;
-use write_rows::the_write_status::{put_outputs, put_status};
-use write_rows::the_write_walk::{is_flaky, kind_of_first, seek};
-pub use write_rows::{
-    the_list_sums, the_list_text, the_names, the_table, the_tree_record, the_write_entries,
-    the_write_form, the_write_marks, the_write_slots, the_write_tags, the_write_values,
-    the_write_walk,
-};
+use write_status::{put_outputs, put_status};
+use write_walk::{is_flaky, kind_of_first, seek};
 
 // The level of what belongs to a case (write_walk).
 const CASE: u32 = 2;

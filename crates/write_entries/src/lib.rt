@@ -16,9 +16,7 @@ pub use write_marks as the_write_marks;
 use write_marks::the_table::kind;
 use write_marks::the_tree_record::{field, word};
 use write_marks::the_write_form::form;
-pub use write_marks::{
-    the_list_text, the_names, the_table, the_tree_record, the_write_codes, the_write_form,
-};
+pub use write_marks::{the_list_text, the_names, the_table, the_tree_record, the_write_codes};
 use write_marks::{Marks, entry_more, store_entry, store_event, store_pair, text_more};
 pub use write_values as the_write_values;
 use write_values::the_list_values::part_of;

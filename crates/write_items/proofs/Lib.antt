@@ -9,4 +9,3 @@ pub mod Cases
 pub mod Suites
 pub mod Documents
 pub use Rattle.write_report.proofs.of_area as of_area
-pub use Rattle.write_table.proofs as of_write_table

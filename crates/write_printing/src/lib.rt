@@ -19,8 +19,8 @@ use writer::write;
 
 // A table at the front of `out`, whose other bytes become zero; of a shorter area the part that fits.
 fn print_table(events: &[u32], attributes: &[u32], bytes: &[u8], out: &mut [u8]) -> usize
-    ensures out { out.new ≡ laid (zeros (length out.old)) (table_bytes (record { events = events.entry.now; attributes = attributes.now; bytes = bytes.now })) }
-    ensures count { result ≡ min (length out.old) (length (table_bytes (record { events = events.entry.now; attributes = attributes.now; bytes = bytes.now }))) }
+    ensures out { out.new ≡ laid (zeros (length out.old)) (table_bytes (record { events = events.now; attributes = attributes.now; bytes = bytes.now })) }
+    ensures count { result ≡ min (length out.old) (length (table_bytes (record { events = events.now; attributes = attributes.now; bytes = bytes.now }))) }
 {
     clear(out);
     let put = put_table(out, Stored::Put(0), events, attributes, bytes);

@@ -5,14 +5,14 @@ use mathlib.Core.List.{List, [], ◌∷◌, ◌++◌}
 use mathlib.Core.Bool.{Bool, true, false, not, ◌&&◌, and-eq-true_iff, true≢false}
 use native.Mathlib.Omega.{arith}
 use lib.ListN.{length, take, drop}
-use Rattle.write_walk.specs.of_area.declared.Stored.{Stored}
-use Rattle.write_walk.specs.of_area.declared.Stored.TheVariants.{Put, Full}
-use Rattle.write_walk.specs.of_list_text.inside.Behind.{is_full}
-use Rattle.write_walk.specs.of_list_sums.inside.Rows.{stands, records_in}
-use Rattle.write_walk.proofs.of_list_sums.Records.{stands-room, records-here, records-over}
-use Rattle.write_walk.specs.of_write_table.Laid.{Item}
-use Rattle.write_walk.specs.of_write_table.inside.Putting.{Areas, Wrote}
-use Rattle.write_walk.proofs.of_write_table.Writing.{Coming, coming-start, coming_on, coming-wrote, coming-done, coming-shut}
+use Rattle.list_sums.specs.of_area.declared.Stored.{Stored}
+use Rattle.list_sums.specs.of_area.declared.Stored.TheVariants.{Put, Full}
+use Rattle.list_sums.specs.of_list_text.inside.Behind.{is_full}
+use Rattle.list_sums.specs.inside.Rows.{stands, records_in}
+use Rattle.list_sums.proofs.Records.{stands-room, records-here, records-over}
+use Rattle.write_marks.specs.of_write_table.Laid.{Item}
+use Rattle.write_marks.specs.of_write_table.inside.Putting.{Areas, Wrote}
+use Rattle.write_marks.proofs.of_write_table.Writing.{Coming, coming-start, coming_on, coming-wrote, coming-done, coming-shut}
 
 -- the loop goes on, and a record stands there
 pub goes_on : (a b : Bool) {x : Bool} → (a && b) ≡ true → b ≡ x → x ≡ true

@@ -1,8 +1,2 @@
 pub mod Going
 pub mod Rows
-pub use Rattle.write_walk.proofs.of_area as of_area
-pub use Rattle.write_walk.proofs.of_list_sums as of_list_sums
-pub use Rattle.write_walk.proofs.of_list_text as of_list_text
-pub use Rattle.write_run.proofs.of_list_values as of_list_values
-pub use Rattle.write_walk.proofs.of_write_items as of_write_items
-pub use Rattle.write_walk.proofs.of_write_table as of_write_table

@@ -4,11 +4,11 @@ use mathlib.Core.Path.{◌≡◌, refl}
 use mathlib.Core.List.{List, [], ◌∷◌, ◌++◌}
 use mathlib.Core.Bool.{Bool, true, false, ◌||◌}
 use lib.Dec.{eqb}
-use Rattle.write_walk.specs.of_tree_report.Fields.{kind_of, text_at}
-use Rattle.write_walk.specs.of_tree_report.ReportOf.{pair_of, run_of}
-use Rattle.write_walk.specs.of_write_escape.Escape.{escaped}
-use Rattle.write_walk.specs.of_write_report.Written.{serialize_property, serialize_rerun}
-use Rattle.write_walk.specs.of_write_table.Laid.{pair, items_of}
+use Rattle.list_sums.specs.of_tree_report.Fields.{kind_of, text_at}
+use Rattle.list_sums.specs.of_tree_report.ReportOf.{pair_of, run_of}
+use Rattle.write_marks.specs.of_write_escape.Escape.{escaped}
+use Rattle.write_marks.specs.of_write_report.Written.{serialize_property, serialize_rerun}
+use Rattle.write_marks.specs.of_write_table.Laid.{pair, items_of}
 use Rattle.write_walk.specs.of_write_items.inside.Walk.{ends_at, is_between}
 use Rattle.write_walk.specs.of_write_items.inside.Status.{family}
 use Rattle.write_walk.specs.of_write_items.inside.Rows.{row_items, rows_items}

@@ -1,25 +1,17 @@
 // The records of some kinds that belong to an element, one behind the other: properties, extras or runs.
 #![tactic(auto)]
 
-ghost use Rattle.write_walk.specs.of_list_sums.inside.Rows.{records_in};
-ghost use Rattle.write_walk.specs.of_write_table.inside.Putting.{Wrote};
-ghost use Rattle.write_run.specs.of_write_marks.inside.Kept.{kept};
+ghost use Rattle.list_sums.specs.inside.Rows.{records_in};
+ghost use Rattle.write_marks.specs.of_write_table.inside.Putting.{Wrote};
+ghost use Rattle.write_marks.specs.inside.Kept.{kept};
 ghost use Rattle.write_walk.specs.of_write_items.inside.Rows.{row_items, rows_items};
 
+use list_sums::rows::stands_here;
+use tree_record::{field, kind, word};
+use write_entries::put_extra;
+use write_marks::{Marks, is_open};
 use write_run::put_run;
-use write_run::the_write_entries::put_extra;
-use write_run::the_write_marks::{Marks, is_open};
-use write_run::the_write_status::put_property;
-pub use write_run::{
-    the_write_entries, the_write_form, the_write_marks, the_write_slots, the_write_status,
-    the_write_tags, the_write_values,
-};
-pub use write_walk as the_write_walk;
-use write_walk::the_list_sums::rows::stands_here;
-use write_walk::the_tree_record::{field, kind, word};
-pub use write_walk::{
-    the_area, the_list_sums, the_list_text, the_names, the_table, the_tree_record,
-};
+use write_status::put_property;
 use write_walk::{ends, is_between};
 
 // A property, an extra or a run.

@@ -1,1 +1,0 @@
-pub use Rattle.write_status.proofs.of_list_values as of_list_values

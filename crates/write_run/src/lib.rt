@@ -2,26 +2,21 @@
 #![tactic(auto)]
 
 ghost use Rattle.std.specs.Prelude.{◌≡◌, List, ℕ};
-ghost use Rattle.write_status.specs.of_tree_report.ReportOf.{run_of};
-ghost use Rattle.write_status.specs.of_write_report.Written.{serialize_rerun};
-ghost use Rattle.write_status.specs.of_write_table.Laid.{items_of};
-ghost use Rattle.write_status.specs.of_write_table.inside.Putting.{Wrote};
-ghost use Rattle.write_status.specs.of_write_marks.inside.Kept.{kept};
-ghost use Rattle.write_status.specs.of_write_items.inside.Values.{tag_name};
-ghost use Rattle.write_status.specs.of_write_items.inside.Status.{family, run_tag, described_run, traced_run, closed_run};
+ghost use Rattle.write_marks.specs.of_tree_report.ReportOf.{run_of};
+ghost use Rattle.write_marks.specs.of_write_report.Written.{serialize_rerun};
+ghost use Rattle.write_marks.specs.of_write_table.Laid.{items_of};
+ghost use Rattle.write_marks.specs.of_write_table.inside.Putting.{Wrote};
+ghost use Rattle.write_marks.specs.inside.Kept.{kept};
+ghost use Rattle.write_marks.specs.of_write_items.inside.Values.{tag_name};
+ghost use Rattle.write_marks.specs.of_write_items.inside.Status.{family, run_tag, described_run, traced_run, closed_run};
 
-pub use write_status as the_write_status;
-use write_status::the_names::tag;
-use write_status::the_table::kind;
-use write_status::the_tree_record::kind::{FLAKY_FAILURE, RERUN_FAILURE};
-use write_status::the_tree_record::{bit, field, has_bit, word};
-use write_status::the_write_entries::{put_bare, put_tag, put_text};
-use write_status::the_write_marks::Marks;
-use write_status::the_write_slots::put_element;
-pub use write_status::{
-    the_write_entries, the_write_form, the_write_marks, the_write_slots, the_write_tags,
-    the_write_values,
-};
+use names::tag;
+use table::kind;
+use tree_record::kind::{FLAKY_FAILURE, RERUN_FAILURE};
+use tree_record::{bit, field, has_bit, word};
+use write_entries::{put_bare, put_tag, put_text};
+use write_marks::Marks;
+use write_slots::put_element;
 use write_status::{put_optional, put_outputs};
 
 // The description, with an Indent behind it where a child follows (rule W7).

@@ -8,14 +8,9 @@ ghost use Rattle.write_entries.specs.of_write_marks.inside.Kept.{kept};
 ghost use Rattle.write_entries.specs.of_write_items.inside.Values.{tag_name};
 ghost use Rattle.write_entries.specs.of_write_items.inside.Slots.{is_present, slots, count_of};
 
-pub use write_entries as the_write_entries;
 use write_entries::the_tree_record::has_bit;
 use write_entries::the_write_codes::{ALWAYS, bit_of};
 use write_entries::the_write_marks::Marks;
-pub use write_entries::{
-    the_names, the_table, the_tree_record, the_write_form, the_write_marks, the_write_tags,
-    the_write_values,
-};
 use write_entries::{put_attribute, put_tag};
 
 fn is_present(r: &[u32], code: u8) -> bool

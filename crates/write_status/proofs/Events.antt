@@ -6,22 +6,22 @@ use mathlib.Core.Bool.{Bool, true, false, cond, ◌||◌}
 use native.Mathlib.Omega.{arith}
 use lib.Dec.{eqb}
 use lib.ListN.{length, get_or}
-use Rattle.write_slots.specs.of_names.Bytes.{bytes}
-use Rattle.write_slots.specs.of_names.Tags.{tags}
-use Rattle.write_slots.specs.of_names.Keys.{keys}
-use Rattle.write_slots.specs.of_table.Event.{Attribute, Event, TagKind, Start, Empty, Tag}
-use Rattle.write_slots.specs.of_tree_report.Report.{failure, error}
-use Rattle.write_slots.specs.of_tree_report.Report as report
-use Rattle.write_slots.specs.of_tree_report.Fields.{given, has_bit, kind_of, text_at, first, system_out, system_err, second, description, stack_trace, timestamp, time, moment_of}
-use Rattle.write_slots.specs.of_tree_report.ReportOf.{pair_of, reason_of, run_of}
-use Rattle.write_slots.specs.of_write_escape.Escape.{escaped}
-use Rattle.write_slots.specs.of_write_report.Written.{optional, textual, stamped, timed, status_attributes, start_tag, end_tag, text_event, indent, indented}
-use Rattle.write_slots.specs.of_write_report.Written.{run_children, run_name, serialize_output, serialize_outputs, serialize_property, serialize_status, serialize_rerun}
-use Rattle.write_slots.specs.of_write_table.Laid.{Item, entry, pairs_of_it, tag_number, items_of_event, items_of}
-use Rattle.write_slots.proofs.of_write_table.Writing.{items_append}
-use Rattle.write_slots.specs.of_write_items.inside.Values.{tag_name, key_name, value_of, offset_of}
-use Rattle.write_slots.specs.of_write_items.inside.Slots.{bit_of, is_present, slot_of, slots}
-use Rattle.write_slots.specs.of_write_items.inside.Status.{family, run_tag, has_child, described_run, traced_run, closed_run}
+use Rattle.names.specs.Bytes.{bytes}
+use Rattle.names.specs.Tags.{tags}
+use Rattle.names.specs.Keys.{keys}
+use Rattle.table.specs.Event.{Attribute, Event, TagKind, Start, Empty, Tag}
+use Rattle.write_marks.specs.of_tree_report.Report.{failure, error}
+use Rattle.write_marks.specs.of_tree_report.Report as report
+use Rattle.write_marks.specs.of_tree_report.Fields.{given, has_bit, kind_of, text_at, first, system_out, system_err, second, description, stack_trace, timestamp, time, moment_of}
+use Rattle.write_marks.specs.of_tree_report.ReportOf.{pair_of, reason_of, run_of}
+use Rattle.write_marks.specs.of_write_escape.Escape.{escaped}
+use Rattle.write_marks.specs.of_write_report.Written.{optional, textual, stamped, timed, status_attributes, start_tag, end_tag, text_event, indent, indented}
+use Rattle.write_marks.specs.of_write_report.Written.{run_children, run_name, serialize_output, serialize_outputs, serialize_property, serialize_status, serialize_rerun}
+use Rattle.write_marks.specs.of_write_table.Laid.{Item, entry, pairs_of_it, tag_number, items_of_event, items_of}
+use Rattle.write_marks.proofs.of_write_table.Writing.{items_append}
+use Rattle.write_marks.specs.of_write_items.inside.Values.{tag_name, key_name, value_of, offset_of}
+use Rattle.write_marks.specs.of_write_items.inside.Slots.{bit_of, is_present, slot_of, slots}
+use Rattle.write_marks.specs.of_write_items.inside.Status.{family, run_tag, has_child, described_run, traced_run, closed_run}
 
 -- ---- attributes that may be missing
 given-slot : {A : Type 0} (b : Bool) (x : A) (f : A → List Attribute) (a : Attribute) (rest rest' : List Attribute)

@@ -2,25 +2,20 @@
 #![tactic(auto)]
 
 ghost use Rattle.std.specs.Prelude.{List, ℕ, ◌≤◌};
-ghost use Rattle.write_slots.specs.of_tree_report.Fields as tree;
-ghost use Rattle.write_slots.specs.of_tree_report.ReportOf.{pair_of, reason_of};
-ghost use Rattle.write_slots.specs.of_write_report.Written.{optional, serialize_output, serialize_outputs, serialize_property, serialize_status};
-ghost use Rattle.write_slots.specs.of_write_table.Laid.{items_of};
-ghost use Rattle.write_slots.specs.of_write_table.inside.Putting.{Wrote};
-ghost use Rattle.write_slots.specs.of_write_marks.inside.Kept.{kept};
-ghost use Rattle.write_slots.specs.of_write_items.inside.Values.{tag_name};
+ghost use Rattle.write_marks.specs.of_tree_report.Fields as tree;
+ghost use Rattle.write_marks.specs.of_tree_report.ReportOf.{pair_of, reason_of};
+ghost use Rattle.write_marks.specs.of_write_report.Written.{optional, serialize_output, serialize_outputs, serialize_property, serialize_status};
+ghost use Rattle.write_marks.specs.of_write_table.Laid.{items_of};
+ghost use Rattle.write_marks.specs.of_write_table.inside.Putting.{Wrote};
+ghost use Rattle.write_marks.specs.inside.Kept.{kept};
+ghost use Rattle.write_marks.specs.of_write_items.inside.Values.{tag_name};
 
-pub use write_slots as the_write_slots;
+use names::tag;
+use table::kind;
+use tree_record::{bit, has_bit, word};
+use write_entries::{put_tag, put_text};
+use write_marks::Marks;
 use write_slots::put_element;
-use write_slots::the_names::tag;
-use write_slots::the_table::kind;
-use write_slots::the_tree_record::{bit, has_bit, word};
-use write_slots::the_write_entries::{put_tag, put_text};
-use write_slots::the_write_marks::Marks;
-pub use write_slots::{
-    the_names, the_table, the_tree_record, the_write_entries, the_write_form, the_write_marks,
-    the_write_tags, the_write_values,
-};
 
 // A gathered text as an element: the text at the words o and o + 1.
 fn put_output(

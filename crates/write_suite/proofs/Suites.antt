@@ -6,14 +6,14 @@ use mathlib.Core.Bool.{true, false, ◌&&◌, ◌||◌}
 use borrow.Author.Tests.{eq-eqb, ne_eqb}
 use lib.Dec.{eqb}
 use lib.ListN.{length}
-use Rattle.write_case.specs.of_tree_report.Fields.{kind_of, has_bit}
-use Rattle.write_case.specs.of_write_table.Laid.{entry, pairs_of_it}
-use Rattle.write_case.specs.of_write_items.inside.Values.{tag_name}
-use Rattle.write_case.specs.of_write_items.inside.Slots.{slots}
-use Rattle.write_case.specs.of_write_items.inside.Walk.{own_of, between}
-use Rattle.write_case.specs.of_write_items.inside.Rows.{rows_items}
-use Rattle.write_case.specs.of_write_items.inside.Case.{first_kind, closing_items, case_items}
-use Rattle.write_case.specs.of_write_items.inside.Suite.{suite_codes, is_childless, cases_items, opening_items, inside_items, suite_items, suites_items}
+use Rattle.list_sums.specs.of_tree_report.Fields.{kind_of, has_bit}
+use Rattle.write_marks.specs.of_write_table.Laid.{entry, pairs_of_it}
+use Rattle.write_walk.specs.of_write_items.inside.Values.{tag_name}
+use Rattle.write_walk.specs.of_write_items.inside.Slots.{slots}
+use Rattle.write_walk.specs.of_write_items.inside.Walk.{own_of, between}
+use Rattle.write_walk.specs.of_write_items.inside.Rows.{rows_items}
+use Rattle.write_walk.specs.of_write_items.inside.Case.{first_kind, closing_items, case_items}
+use Rattle.write_walk.specs.of_write_items.inside.Suite.{suite_codes, is_childless, cases_items, opening_items, inside_items, suite_items, suites_items}
 
 module _ (rs : List (List ℕ)) where
   pub childless-not : (r : List ℕ) → (has_bit 1 r || has_bit 2 r) ≡ true → false ≡ is_childless r rs

@@ -2,25 +2,21 @@
 #![tactic(auto)]
 
 ghost use Rattle.std.specs.Prelude.{◌≡◌};
-ghost use Rattle.write_case.specs.of_list_sums.inside.Rows.{records_in};
-ghost use Rattle.write_case.specs.of_write_table.inside.Putting.{Wrote};
-ghost use Rattle.write_case.specs.of_write_marks.inside.Kept.{kept};
-ghost use Rattle.write_case.specs.of_write_items.inside.Suite.{cases_items, opening_items, inside_items, is_childless, suite_items, suites_items};
+ghost use Rattle.list_sums.specs.inside.Rows.{records_in};
+ghost use Rattle.write_marks.specs.of_write_table.inside.Putting.{Wrote};
+ghost use Rattle.write_marks.specs.inside.Kept.{kept};
+ghost use Rattle.write_walk.specs.of_write_items.inside.Suite.{cases_items, opening_items, inside_items, is_childless, suite_items, suites_items};
 
+use list_sums::rows::stands_here;
+use names::tag;
+use table::kind::{EMPTY, START};
+use tree_record::{bit, field, has_bit, kind, word};
 use write_case::put_case;
-use write_case::the_list_sums::rows::stands_here;
-use write_case::the_names::tag;
-use write_case::the_table::kind::{EMPTY, START};
-use write_case::the_tree_record::{bit, field, has_bit, kind, word};
-use write_case::the_write_elements::{put_closing, put_properties};
-use write_case::the_write_marks::{Marks, is_open};
-use write_case::the_write_rows::put_rows;
-use write_case::the_write_slots::put_element;
-use write_case::the_write_walk::{count_kind, kind_of_first};
-pub use write_case::{
-    the_list_sums, the_list_text, the_names, the_table, the_tree_record, the_write_entries,
-    the_write_form, the_write_marks, the_write_slots, the_write_tags, the_write_values,
-};
+use write_elements::{put_closing, put_properties};
+use write_marks::{Marks, is_open};
+use write_rows::put_rows;
+use write_slots::put_element;
+use write_walk::{count_kind, kind_of_first};
 
 // The level of what belongs to a suite (write_walk).
 const SUITE: u32 = 1;

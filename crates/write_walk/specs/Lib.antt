@@ -1,11 +1,2 @@
-pub use Rattle.list_sums.specs.of_area as of_area
-pub use Rattle.list_sums.specs.of_digits as of_digits
 pub use Rattle.list_sums.specs as of_list_sums
-pub use Rattle.list_sums.specs.of_list_text as of_list_text
-pub use Rattle.list_sums.specs.of_names as of_names
-pub use Rattle.write_items.specs.of_table as of_table
-pub use Rattle.list_sums.specs.of_tree_report as of_tree_report
-pub use Rattle.write_items.specs.of_write_escape as of_write_escape
 pub use Rattle.write_items.specs as of_write_items
-pub use Rattle.write_items.specs.of_write_report as of_write_report
-pub use Rattle.write_items.specs.of_write_table as of_write_table

@@ -8,11 +8,8 @@ ghost use Rattle.list_sums.specs.of_tree_report.Fields.{kind_of};
 ghost use Rattle.write_items.specs.inside.Walk.{ends_at, is_between, own_of, between, first_of};
 ghost use Rattle.write_items.specs.inside.Case.{runs_flaky, is_childless};
 
-pub use list_sums as the_list_sums;
 use list_sums::rows::stands_here;
 use list_sums::the_tree_record::{bit, field, has_bit, kind, word};
-pub use list_sums::{the_area, the_list_text, the_names, the_tree_record};
-pub use write_items::the_table;
 
 // The level of what belongs to a case.
 const CASE: u32 = 2;

@@ -40,7 +40,7 @@ pub fn put_table(
     attributes: &[u32],
     bytes: &[u8],
 ) -> Stored
-    ensures { Puts (filled k out.old) (table_bytes (record { events = events.entry.now; attributes = attributes.now; bytes = bytes.now })) (filled result out.new) }
+    ensures { Puts (filled k out.old) (table_bytes (record { events = events.now; attributes = attributes.now; bytes = bytes.now })) (filled result out.new) }
 {
     let first = put_word(out, k, events.len() / 5);
     let second = put_word(out, first, attributes.len() / 5);

@@ -2,11 +2,11 @@
 use Prim.Native.Nat.{ℕ}
 use mathlib.Core.Path.{◌≡◌, refl, ap, ◌∙◌}
 use mathlib.Core.List.{List}
-use Rattle.clearing.specs.of_refusal.Refusal.{refused, late, no_refusal}
-use Rattle.clearing.specs.of_refusal.declared.Cause.{Cause}
-use Rattle.clearing.specs.of_refusal.declared.Refusal.{Refusal}
-use Rattle.clearing.specs.of_refusal.declared.Verdict.TheVariants.{Accepted}
-use Rattle.clearing.specs.of_area.Answer.{Answer, gives, refuses}
+use Rattle.refusal.specs.Refusal.{refused, late, no_refusal}
+use Rattle.refusal.specs.declared.Cause.{Cause}
+use Rattle.refusal.specs.declared.Refusal.{Refusal}
+use Rattle.refusal.specs.declared.Verdict.TheVariants.{Accepted}
+use Rattle.area.specs.Answer.{Answer, gives, refuses}
 use Rattle.write_answer.specs.Answer.{Sizes, outcome_of, wrote, events_left, attributes_left, bytes_left}
 use Rattle.writer.specs.declared.Writing.{Writing}
 use Rattle.writer.specs.Answer.{writing_from}

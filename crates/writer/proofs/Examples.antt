@@ -1,8 +1,8 @@
 -- Answers of writing worked out. Assumes nothing.
 use mathlib.Core.Path.{◌≡◌, refl}
-use Rattle.clearing.specs.of_refusal.Refusal.{accepted, refused, late, empty_path, no_refusal}
-use Rattle.clearing.specs.of_refusal.declared.Cause.TheVariants.{NotLayout, OutputFull}
-use Rattle.clearing.specs.of_refusal.declared.Verdict.TheVariants.{Accepted, Refused}
+use Rattle.refusal.specs.Refusal.{accepted, refused, late, empty_path, no_refusal}
+use Rattle.refusal.specs.declared.Cause.TheVariants.{NotLayout, OutputFull}
+use Rattle.refusal.specs.declared.Verdict.TheVariants.{Accepted, Refused}
 use Rattle.writer.specs.Answer.{writing_from}
 
 wrote : writing_from (accepted (record { events = 5; attributes = 4; bytes = 80 })) ≡ record { verdict = Accepted; events = 5; attributes = 4; bytes = 80; refusal = no_refusal }

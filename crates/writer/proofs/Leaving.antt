@@ -4,17 +4,17 @@ use mathlib.Core.Path.{◌≡◌, refl, sym, ap, ◌∙◌}
 use mathlib.Core.List.{List}
 use mathlib.Core.Bool.{Bool, true, false}
 use lib.Dec.{eqb}
-use Rattle.clearing.specs.of_refusal.declared.Cause.TheVariants as cause
-use Rattle.clearing.specs.of_area.Answer.{Answer, gives, refuses}
-use Rattle.clearing.specs.of_area.Area.{zeros}
-use Rattle.clearing.specs.of_area.declared.Stored.{Stored}
-use Rattle.clearing.specs.of_area.declared.Stored.TheVariants.{Put, Full}
+use Rattle.refusal.specs.declared.Cause.TheVariants as cause
+use Rattle.area.specs.Answer.{Answer, gives, refuses}
+use Rattle.area.specs.Area.{zeros}
+use Rattle.area.specs.declared.Stored.{Stored}
+use Rattle.area.specs.declared.Stored.TheVariants.{Put, Full}
 use Rattle.tree_layout.specs.of_tree_report.Layout.{layout}
 use Rattle.write_answer.specs.of_write_table.Laid.{Table, items_of, fits}
 use Rattle.write_answer.specs.of_write_table.inside.Putting.{Held, Spelling, Kept, none, some, Areas, held_by_of, held, fresh, Wrote, put_all}
 use Rattle.write_answer.proofs.of_write_table.Rooms.{never-xml}
 use Rattle.write_answer.proofs.of_write_table.Laying.{holding, put_some, none-fits}
-use Rattle.write_document.specs.of_write_marks.inside.Kept.{empty, kept}
+use Rattle.write_marks.specs.inside.Kept.{empty, kept}
 use Rattle.write_answer.specs.Answer.{Sizes, events_of, table_of, writing_answer, left_for, events_left, attributes_left, bytes_left}
 
 -- the numbers of what is held

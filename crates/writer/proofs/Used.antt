@@ -4,7 +4,7 @@ use mathlib.Core.Path.{◌≡◌, refl, ap, ◌∙◌}
 use mathlib.Core.List.{List}
 use mathlib.Core.Option.{Option, none, some}
 use lib.ListN.{length, take}
-use Rattle.clearing.specs.of_area.Limits.{most_words, most_bytes}
+use Rattle.area.specs.Limits.{most_words, most_bytes}
 use Rattle.tree_layout.specs.of_tree_report.Report.{Report}
 use Rattle.tree_layout.specs.of_tree_report.Layout.{used_words, used_text, records_of}
 use Rattle.tree_layout.specs.of_tree_report.ReportOf.{report_of}
@@ -12,8 +12,8 @@ use Rattle.write_document.proofs.of_list_values.Cutting.{take-least}
 use Rattle.write_document.specs.of_list_sums.inside.Rows.{records_in}
 use Rattle.write_document.proofs.of_list_sums.Used.{records-used}
 use Rattle.write_answer.specs.of_write_table.Laid.{items_of}
-use Rattle.write_document.specs.of_write_items.inside.Document.{document_in}
-use Rattle.write_document.proofs.of_write_items.Documents.{tree-items, no_items}
+use Rattle.write_marks.specs.of_write_items.inside.Document.{document_in}
+use Rattle.write_marks.proofs.of_write_items.Documents.{tree-items, no_items}
 use Rattle.write_answer.specs.Answer.{written_or, events_of}
 
 document-events : (words text : List ℕ) → document_in (used_text text) (records_of words) ≡ items_of (events_of words text)

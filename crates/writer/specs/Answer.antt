@@ -1,5 +1,5 @@
 -- What writing answers. Definitions only.
-use Rattle.clearing.specs.of_refusal.Refusal.{Outcome, accepted, refused, verdict_of, refusal_of}
+use Rattle.refusal.specs.Refusal.{Outcome, accepted, refused, verdict_of, refusal_of}
 use Rattle.write_answer.specs.Answer.{Sizes}
 use Rattle.writer.specs.declared.Writing.{Writing}
 

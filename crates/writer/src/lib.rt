@@ -2,24 +2,26 @@
 #![tactic(auto)]
 
 ghost use Rattle.std.specs.Prelude.{◌≡◌, length};
-ghost use Rattle.clearing.specs.of_refusal.Refusal.{refused, late};
+ghost use Rattle.refusal.specs.Refusal.{refused, late};
 ghost use Rattle.write_answer.specs.of_write_table.Laid.{items_of};
 ghost use Rattle.write_answer.specs.of_write_table.inside.Putting.{Wrote};
-ghost use Rattle.write_document.specs.of_write_marks.inside.Kept.{empty, kept};
+ghost use Rattle.write_marks.specs.inside.Kept.{empty, kept};
 ghost use Rattle.write_answer.specs.Answer.{events_of, wrote, events_left, attributes_left, bytes_left};
 ghost use Rattle.writer.specs.Answer.{writing_from};
 
+pub use area as the_area;
+use area::{Stored, least, limit};
 pub use clearing as the_clearing;
 use clearing::clear_table;
-use clearing::the_area::{Stored, least, limit};
-use clearing::the_refusal::{Cause, Refusal, Verdict, no_refusal, refuse_late};
-pub use clearing::{the_area, the_refusal};
+pub use refusal as the_refusal;
+use refusal::{Cause, Refusal, Verdict, no_refusal, refuse_late};
 pub use tree_layout as the_tree_layout;
 pub use write_document as the_write_document;
 use write_document::put_document;
-use write_document::the_write_form::form;
-use write_document::the_write_marks::Marks;
-pub use write_document::{the_write_form, the_write_marks};
+pub use write_form as the_write_form;
+use write_form::form;
+pub use write_marks as the_write_marks;
+use write_marks::Marks;
 
 // How many events, attributes and bytes the table has, or why there is none.
 #[derive(Clone, Copy)]

@@ -14,18 +14,18 @@ text_bits k =
     (cond (leb k kind.rerun_error) 231 3))))
 
 abbrev pub has_text : Bool → ℕ → List ℕ → Bool
-has_text isSlot k r = isSlot && has_bit k r
+has_text is_slot k r = is_slot && has_bit k r
 
 -- one text: its bytes, how many, its start
 unfoldable pub text_at : Bool → ℕ → ℕ → (texts r : List ℕ) → List ℕ
-text_at isSlot k o texts r = cond (has_text isSlot k r) (words.text_at texts r o) []
+text_at is_slot k o texts r = cond (has_text is_slot k r) (words.text_at texts r o) []
 
 unfoldable pub size_at : Bool → ℕ → ℕ → List ℕ → ℕ
-size_at isSlot k o r = cond (has_text isSlot k r) (get_or r (o + 1) 0) 0
+size_at is_slot k o r = cond (has_text is_slot k r) (get_or r (o + 1) 0) 0
 
 -- into the words s
 unfoldable pub start_at : Bool → ℕ → ℕ → (r : List ℕ) → ℕ → (s : List ℕ) → List ℕ
-start_at isSlot k o r fill s = cond (has_text isSlot k r) (set s o fill) s
+start_at is_slot k o r fill s = cond (has_text is_slot k r) (set s o fill) s
 
 -- ---- three before the times, four behind them
 module _ (m : ℕ) (texts : List ℕ) where

@@ -1,6 +1,6 @@
 use Rattle.read_extra_record.proofs.NewExtras.{laid-size, new-spent, key-full, value-full, new-put}
 use Rattle.read_extra_record.proofs.Storing.{end-put}
-use Rattle.read_extra_record.specs.inside.Answers.{laidAnswer}
+use Rattle.read_extra_record.specs.inside.Answers.{laid_answer}
 use Rattle.read_element.specs.of_text.Value.{value_text}
 use lib.ListN.{length}
 use native.Mathlib.Omega.{arith}
@@ -17,7 +17,7 @@ pub returns-in_default : goal.returns-in_default
 returns-in_default c =
     let args = c.args in
     let lay = c.lay-keyed in
-    λ g rooms p used hd ro. key-full hd ro p args.kind (value_text args.key.now) (value_text args.value.now) (omega arith) (sym (ap laidAnswer c.in_default.is) ∙ lay.ensures.result_value)
+    λ g rooms p used hd ro. key-full hd ro p args.kind (value_text args.key.now) (value_text args.value.now) (omega arith) (sym (ap laid_answer c.in_default.is) ∙ lay.ensures.result_value)
 
 pub lay-laid-requires : goal.lay-laid-requires
 lay-laid-requires c =
@@ -25,7 +25,7 @@ lay-laid-requires c =
     let pre = c.requires in
     let lay = c.lay-keyed in record {
       tt_value = pre.tt_value_2;
-      fill_in_bounds = (let h = end-put args.given.fill (length args.text.now - args.given.fill) (value_text args.key.now) (sym (ap laidAnswer c.in-To.is) ∙ lay.ensures.result_value) in
+      fill_in_bounds = (let h = end-put args.given.fill (length args.text.now - args.given.fill) (value_text args.key.now) (sym (ap laid_answer c.in-To.is) ∙ lay.ensures.result_value) in
           let a = h.0 in let b = h.1 in let s = laid-size args.text.now (value_text args.key.now) args.given.fill pre.bounded.0 lay.ensures.text_after in
           let q = pre.bounded.0 in omega arith);
     }
@@ -36,7 +36,7 @@ returns-in_default-laid c =
     let lay = c.lay-keyed in
     let lay2 = c.lay-laid in
     λ g rooms p used hd ro. value-full hd ro p args.kind (value_text args.key.now) (value_text args.value.now) (omega arith)
-    (sym (ap laidAnswer c.in-To.is) ∙ lay.ensures.result_value) lay.ensures.text_after (sym (ap laidAnswer c.in_default-laid.is) ∙ lay2.ensures.result_value)
+    (sym (ap laid_answer c.in-To.is) ∙ lay.ensures.result_value) lay.ensures.text_after (sym (ap laid_answer c.in_default-laid.is) ∙ lay2.ensures.result_value)
 
 pub put_extra_words-requires : goal.put_extra_words-requires
 put_extra_words-requires c =
@@ -44,9 +44,9 @@ put_extra_words-requires c =
     let pre = c.requires in
     let lay = c.lay-keyed in
     let lay2 = c.lay-laid in
-    let h = end-put args.given.fill (length args.text.now - args.given.fill) (value_text args.key.now) (sym (ap laidAnswer c.in-To.is) ∙ lay.ensures.result_value) in let a = h.0 in
+    let h = end-put args.given.fill (length args.text.now - args.given.fill) (value_text args.key.now) (sym (ap laid_answer c.in-To.is) ∙ lay.ensures.result_value) in let a = h.0 in
     let b = h.1 in let s = laid-size args.text.now (value_text args.key.now) args.given.fill pre.bounded.0 lay.ensures.text_after in let h₂ = end-put c.in-To.middle
-    (length lay.new.text - c.in-To.middle) (value_text args.value.now) (sym (ap laidAnswer c.in-To-laid.is) ∙ lay2.ensures.result_value) in
+    (length lay.new.text - c.in-To.middle) (value_text args.value.now) (sym (ap laid_answer c.in-To-laid.is) ∙ lay2.ensures.result_value) in
     let a₂ = h₂.0 in let b₂ = h₂.1 in let q = pre.bounded.0 in let q₂ = pre.bounded.1.0 in record { start_le_middle = omega arith; middle_le_end = omega arith; end_bound = omega arith }
 
 pub overflow_add-result : goal.overflow_add-result
@@ -57,5 +57,5 @@ returns c =
     let args = c.args in
     let lay = c.lay-keyed in
     let lay2 = c.lay-laid in
-    λ g rooms p used hd ro. new-put hd ro p args.kind (value_text args.key.now) (value_text args.value.now) (omega arith) (sym (ap laidAnswer c.in-To.is) ∙ lay.ensures.result_value)
-    lay.ensures.text_after (sym (ap laidAnswer c.in-To-laid.is) ∙ lay2.ensures.result_value) lay2.ensures.text_after c.put_extra_words.ensures
+    λ g rooms p used hd ro. new-put hd ro p args.kind (value_text args.key.now) (value_text args.value.now) (omega arith) (sym (ap laid_answer c.in-To.is) ∙ lay.ensures.result_value)
+    lay.ensures.text_after (sym (ap laid_answer c.in-To-laid.is) ∙ lay2.ensures.result_value) lay2.ensures.text_after c.put_extra_words.ensures

@@ -7,11 +7,11 @@ use Rattle.read_extra_record.specs.declared.Laid.{Laid}
 use Rattle.read_extra_record.specs.declared.Laid.TheVariants as lay
 use Rattle.read_element.specs.of_refusal.declared.Cause.TheVariants as cause
 
-abbrev pub laidAnswer : Laid → Answer ℕ
-laidAnswer (lay.To end) = gives end
-laidAnswer lay.Full = refuses cause.TextFull
+abbrev pub laid_answer : Laid → Answer ℕ
+laid_answer (lay.To end) = gives end
+laid_answer lay.Full = refuses cause.TextFull
 
 -- the number of extras and the end of the texts, or the refusal
-abbrev pub gaveAnswer : Gave → Answer (ℕ × ℕ)
-gaveAnswer (gave.To given) = gives (given.extras, given.fill)
-gaveAnswer (gave.Not why) = refuses why
+abbrev pub gave_answer : Gave → Answer (ℕ × ℕ)
+gave_answer (gave.To given) = gives (given.extras, given.fill)
+gave_answer (gave.Not why) = refuses why

@@ -7,7 +7,7 @@ use Rattle.read_element.specs.inside.Held.{Held, Roomy, Meets}
 use Rattle.read_element.specs.inside.Refines.{Areas}
 use Rattle.read_extra_record.specs.declared.Given.{Given as Counted}
 use Rattle.read_extra_record.specs.declared.Gave.{Gave}
-use Rattle.read_extra_record.specs.inside.Answers.{gaveAnswer}
+use Rattle.read_extra_record.specs.inside.Answers.{gave_answer}
 
 -- the texts end within their area, which is no longer than the limit, and the extras' records within theirs
 abbrev pub Bounded : Counted → Areas → Type 0
@@ -19,7 +19,7 @@ ReplacesExtra value i given before after r =
     (g : Given) (rooms : Rooms) (p : Place) (used : ℕ)
     → Held before.records before.text given.extras given.fill g
     → Roomy rooms used (length before.records) (length before.text)
-    → Meets p after.records after.text (old_extra rooms p (value_text value) i g) (gaveAnswer r)
+    → Meets p after.records after.text (old_extra rooms p (value_text value) i g) (gave_answer r)
 
 -- puts a record behind the extras, with key and value stored behind the texts, or says which area is too short
 abbrev pub AddsExtra : ℕ → List ℕ → List ℕ → Counted → Areas → Areas → Gave → Type 0
@@ -27,4 +27,4 @@ AddsExtra kind key value given before after r =
     (g : Given) (rooms : Rooms) (p : Place) (used : ℕ)
     → Held before.records before.text given.extras given.fill g
     → Roomy rooms used (length before.records) (length before.text)
-    → Meets p after.records after.text (new_extra rooms p used kind (value_text key) (value_text value) g) (gaveAnswer r)
+    → Meets p after.records after.text (new_extra rooms p used kind (value_text key) (value_text value) g) (gave_answer r)

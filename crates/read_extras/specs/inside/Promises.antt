@@ -8,7 +8,7 @@ use Rattle.read_extra_record.specs.of_read_element.inside.Held.{place_at, put_ex
 use Rattle.read_extra_record.specs.of_read_element.inside.Refines.{Areas}
 use Rattle.read_extra_record.specs.declared.Given.{Given as Counted}
 use Rattle.read_extra_record.specs.declared.Gave.{Gave}
-use Rattle.read_extra_record.specs.inside.Answers.{gaveAnswer}
+use Rattle.read_extra_record.specs.inside.Answers.{gave_answer}
 use Rattle.read_extras.specs.inside.Hinted.{Hinted}
 
 -- finds the place of the extra with this key, or the number of extras, where a hint that isn't larger than that number is right
@@ -23,7 +23,7 @@ PutsExtra kind key value hint given before after r =
     → Held before.records before.text given.extras given.fill g
     → Roomy rooms used (length before.records) (length before.text)
     → Hinted hint g (value_text key)
-    → Meets p after.records after.text (put_extra rooms p used kind (value_text key) (value_text value) g) (gaveAnswer r)
+    → Meets p after.records after.text (put_extra rooms p used kind (value_text key) (value_text value) g) (gave_answer r)
 
 -- reads an attribute of this key and value as an extra
 abbrev pub ReadsExtra : ℕ → List ℕ → List ℕ → ℕ → Counted → Areas → Areas → Gave → Type 0
@@ -33,4 +33,4 @@ ReadsExtra kind key value hint given before after r =
     → Held before.records before.text given.extras given.fill g
     → Roomy rooms used (length before.records) (length before.text)
     → Hinted hint g (value_text x.key)
-    → Meets p after.records after.text (read_extra rooms p used kind x g) (gaveAnswer r)
+    → Meets p after.records after.text (read_extra rooms p used kind x g) (gave_answer r)

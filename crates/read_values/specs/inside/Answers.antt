@@ -5,6 +5,6 @@ use Rattle.read_values.specs.declared.Took.{Took}
 use Rattle.read_values.specs.declared.Took.TheVariants.{To, Not}
 
 -- where the texts end, or the refusal
-abbrev pub tookAnswer : Took → Answer ℕ
-tookAnswer (To fill) = gives fill
-tookAnswer (Not why) = refuses why
+abbrev pub took_answer : Took → Answer ℕ
+took_answer (To fill) = gives fill
+took_answer (Not why) = refuses why

@@ -2,8 +2,8 @@ use Prim.Native.Nat.{ℕ, ◌≤◌, ◌-◌}
 use mathlib.Core.List.{List}
 use native.Mathlib.Omega.{arith}
 use lib.ListN.{length, take, drop, length-drop, length-take}
-use Rattle.lister.specs.of_area.Area.{first_at}
-use Rattle.lister.proofs.of_area.Seeking.{first-within}
+use Rattle.writer.specs.of_area.Area.{first_at}
+use Rattle.writer.proofs.of_area.Seeking.{first-within}
 use Rattle.test_building.proofs.run.Goals as goal
 
 -- a line ends within what is left

@@ -35,3 +35,9 @@ slice_bounds-replay-end-in-Is-2 g c =
     let i = c.input_of-found in
     let l = parts-lie i.result _ c.in-Is.is _ _ _ _ _ i.auto.events i.auto.attributes i.ensures.value in
     l.1.1
+
+pub returns-in_ok-replay-in-Is : goal.returns-in_ok-replay-in-Is
+returns-in_ok-replay-in-Is g c =
+    let i = c.input_of-found in
+    let l = parts-lie i.result _ c.in-Is.is _ _ _ _ _ i.auto.events i.auto.attributes i.ensures.value in
+    l.1.1

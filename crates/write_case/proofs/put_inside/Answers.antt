@@ -1,5 +1,5 @@
-use Rattle.write_elements.specs.of_write_items.inside.Case.{inside_items}
-use Rattle.write_elements.proofs.of_write_table.Writing.{then}
+use Rattle.write_walk.specs.of_write_items.inside.Case.{inside_items}
+use Rattle.write_marks.proofs.of_write_table.Writing.{then}
 use Rattle.write_case.proofs.put_inside.Goals as goal
 
 pub returns : goal.returns

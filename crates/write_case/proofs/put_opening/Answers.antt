@@ -1,6 +1,6 @@
 use Rattle.write_case.proofs.Cases.{opening-items}
-use Rattle.write_elements.proofs.of_write_table.Writing.{then, said}
-use Rattle.write_elements.specs.of_list_sums.inside.Rows.{records_in}
+use Rattle.write_marks.proofs.of_write_table.Writing.{then, said}
+use Rattle.write_walk.specs.of_list_sums.inside.Rows.{records_in}
 use native.Mathlib.Omega.{arith}
 use borrow.Author.Rules.{rules}
 use Rattle.write_case.proofs.put_opening.Goals as goal

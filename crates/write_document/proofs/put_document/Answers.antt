@@ -1,8 +1,8 @@
 use Rattle.write_document.proofs.Documents.{going-over, going-last, document-over, document-live, document-dead}
-use Rattle.write_suite.specs.of_write_items.inside.Document.{document_in}
+use Rattle.write_marks.specs.of_write_items.inside.Document.{document_in}
 use Rattle.write_suite.proofs.of_write_rows.Going.{going_start, going-pass}
-use Rattle.write_suite.proofs.of_list_sums.Records.{stands-room, records-behind}
-use Rattle.write_suite.specs.of_list_sums.inside.Rows.{records_in}
+use Rattle.list_sums.proofs.Records.{stands-room, records-behind}
+use Rattle.list_sums.specs.inside.Rows.{records_in}
 use lib.ListN.{take, drop, get_or}
 use borrow.Author.Tests.{lt-ltb, le-ltb}
 use native.Mathlib.Omega.{arith}

@@ -1,6 +1,6 @@
-use Rattle.write_suite.specs.of_write_items.inside.Document.{document_in}
+use Rattle.write_marks.specs.of_write_items.inside.Document.{document_in}
 use Rattle.write_suite.proofs.of_write_rows.Going.{Going}
-use Rattle.write_suite.specs.of_write_marks.inside.Kept.{kept}
+use Rattle.write_marks.specs.inside.Kept.{kept}
 use lib.ListN.{length}
 use Prim.Native.Nat.{◌-◌}
 use Rattle.write_document.proofs.put_document.Given as goal

@@ -1,5 +1,5 @@
 use Rattle.write_document.proofs.Documents.{head-parts}
-use Rattle.write_suite.proofs.of_write_table.Writing.{then, said}
+use Rattle.write_marks.proofs.of_write_table.Writing.{then, said}
 use Rattle.write_document.proofs.put_head.Goals as goal
 
 pub returns : goal.returns

@@ -1,4 +1,4 @@
-use Rattle.write_suite.proofs.of_write_table.Writing.{then}
+use Rattle.write_marks.proofs.of_write_table.Writing.{then}
 use Rattle.write_document.proofs.put_tail.Goals as goal
 
 pub returns : goal.returns

@@ -1,6 +1,6 @@
 use Rattle.write_document.proofs.Documents.{document-parts}
-use Rattle.write_suite.specs.of_list_sums.inside.Rows.{records_in}
-use Rattle.write_suite.proofs.of_write_table.Writing.{then, said}
+use Rattle.list_sums.specs.inside.Rows.{records_in}
+use Rattle.write_marks.proofs.of_write_table.Writing.{then, said}
 use Rattle.write_document.proofs.put_whole.Goals as goal
 
 pub returns : goal.returns

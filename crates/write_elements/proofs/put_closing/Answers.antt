@@ -1,5 +1,5 @@
-use Rattle.write_rows.specs.of_write_items.inside.Case.{closing_items}
-use Rattle.write_rows.proofs.of_write_table.Writing.{then}
+use Rattle.write_walk.specs.of_write_items.inside.Case.{closing_items}
+use Rattle.write_marks.proofs.of_write_table.Writing.{then}
 use Rattle.write_elements.proofs.put_closing.Goals as goal
 
 pub returns : goal.returns

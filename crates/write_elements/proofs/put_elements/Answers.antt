@@ -1,6 +1,6 @@
 use Rattle.write_elements.proofs.Elements.{record-there, elements-runs, elements-main}
-use Rattle.write_rows.proofs.of_write_table.Writing.{said}
-use Rattle.write_rows.specs.of_list_sums.inside.Rows.{records_in}
+use Rattle.write_marks.proofs.of_write_table.Writing.{said}
+use Rattle.write_walk.specs.of_list_sums.inside.Rows.{records_in}
 use lib.Seq.{length-take-le}
 use lib.ListN.{length, take, drop}
 use native.Mathlib.Omega.{arith}

@@ -1,6 +1,6 @@
 use Rattle.write_elements.proofs.Elements.{main-skipped, main_runs}
-use Rattle.write_rows.proofs.of_write_table.Writing.{then, said}
-use Rattle.write_rows.specs.of_list_sums.inside.Rows.{records_in}
+use Rattle.write_marks.proofs.of_write_table.Writing.{then, said}
+use Rattle.write_walk.specs.of_list_sums.inside.Rows.{records_in}
 use mathlib.Core.Path.{sym, ◌∙◌}
 use Rattle.write_elements.proofs.put_main.Goals as goal
 

@@ -1,6 +1,6 @@
 use Rattle.write_elements.proofs.Elements.{properties-none, properties-some}
-use Rattle.write_rows.proofs.of_write_table.Writing.{then, said, wrote_nothing}
-use Rattle.write_rows.specs.of_list_sums.inside.Rows.{records_in}
+use Rattle.write_marks.proofs.of_write_table.Writing.{then, said, wrote_nothing}
+use Rattle.write_walk.specs.of_list_sums.inside.Rows.{records_in}
 use Rattle.write_elements.proofs.put_properties.Goals as goal
 
 pub returns-then-kind_of_first-eq0 : goal.returns-then-kind_of_first-eq0

@@ -1,5 +1,5 @@
 use Rattle.write_rows.proofs.Rows.{row-property, row-extra, row-run}
-use Rattle.write_walk.proofs.of_write_table.Writing.{said}
+use Rattle.write_marks.proofs.of_write_table.Writing.{said}
 use Rattle.write_rows.proofs.put_row.Goals as goal
 
 pub returns-then-here : goal.returns-then-here

@@ -1,8 +1,8 @@
 use Rattle.write_rows.proofs.Rows.{rows-over, rows_end, rows_row, rows_pass}
 use Rattle.write_rows.proofs.Going.{goes_on, going_start, going-stop, going_end, going-pass, going-wrote}
 use Rattle.write_walk.specs.of_write_items.inside.Rows.{rows_items}
-use Rattle.write_walk.proofs.of_list_sums.Records.{stands-room}
-use Rattle.write_walk.specs.of_list_sums.inside.Rows.{records_in}
+use Rattle.list_sums.proofs.Records.{stands-room}
+use Rattle.list_sums.specs.inside.Rows.{records_in}
 use lib.ListN.{take, drop}
 use borrow.Author.Rules.{rules}
 use native.Mathlib.Omega.{arith}

@@ -1,6 +1,6 @@
 use Rattle.write_rows.proofs.Going.{Going}
 use Rattle.write_walk.specs.of_write_items.inside.Rows.{rows_items}
-use Rattle.write_run.specs.of_write_marks.inside.Kept.{kept}
+use Rattle.write_marks.specs.inside.Kept.{kept}
 use lib.ListN.{length}
 use Prim.Native.Nat.{◌-◌}
 use Rattle.write_rows.proofs.put_rows.Given as goal

@@ -1,5 +1,5 @@
 use Rattle.write_status.proofs.Events.{not-described, described-indented, described-alone}
-use Rattle.write_status.proofs.of_write_table.Writing.{then, said, wrote_nothing}
+use Rattle.write_marks.proofs.of_write_table.Writing.{then, said, wrote_nothing}
 use mathlib.Core.Path.{sym, ◌∙◌}
 use Rattle.write_run.proofs.put_description.Goals as goal
 

@@ -1,5 +1,5 @@
 use Rattle.write_status.proofs.Events.{run-items}
-use Rattle.write_status.proofs.of_write_table.Writing.{then, said}
+use Rattle.write_marks.proofs.of_write_table.Writing.{then, said}
 use Rattle.write_run.proofs.put_run.Goals as goal
 
 pub returns : goal.returns

@@ -1,4 +1,4 @@
-use Rattle.write_status.specs.of_write_items.inside.Status.{run_tag}
+use Rattle.write_marks.specs.of_write_items.inside.Status.{run_tag}
 use Rattle.write_run.proofs.run_tag.Goals as goal
 
 pub returns-then-flaky : goal.returns-then-flaky

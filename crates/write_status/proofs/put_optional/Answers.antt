@@ -1,7 +1,7 @@
 use Rattle.write_status.proofs.Events.{optional-yes, optional-no}
-use Rattle.write_slots.specs.of_write_items.inside.Values.{tag_name}
-use Rattle.write_slots.specs.of_write_report.Written.{serialize_output}
-use Rattle.write_slots.proofs.of_write_table.Writing.{said, wrote_nothing}
+use Rattle.write_marks.specs.of_write_items.inside.Values.{tag_name}
+use Rattle.write_marks.specs.of_write_report.Written.{serialize_output}
+use Rattle.write_marks.proofs.of_write_table.Writing.{said, wrote_nothing}
 use mathlib.Core.Path.{sym, ◌∙◌}
 use Rattle.write_status.proofs.put_optional.Goals as goal
 

@@ -1,5 +1,5 @@
 use Rattle.write_status.proofs.Events.{outputs-items}
-use Rattle.write_slots.proofs.of_write_table.Writing.{then, said}
+use Rattle.write_marks.proofs.of_write_table.Writing.{then, said}
 use Rattle.write_status.proofs.put_outputs.Goals as goal
 
 pub returns : goal.returns

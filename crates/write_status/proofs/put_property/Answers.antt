@@ -1,5 +1,5 @@
 use Rattle.write_status.proofs.Events.{property-items}
-use Rattle.write_slots.proofs.of_write_table.Writing.{said}
+use Rattle.write_marks.proofs.of_write_table.Writing.{said}
 use Rattle.write_status.proofs.put_property.Goals as goal
 
 pub returns : goal.returns

@@ -1,5 +1,5 @@
 use Rattle.write_status.proofs.Events.{status-described, status-empty}
-use Rattle.write_slots.proofs.of_write_table.Writing.{then, said}
+use Rattle.write_marks.proofs.of_write_table.Writing.{then, said}
 use mathlib.Core.Path.{sym, ◌∙◌}
 use Rattle.write_status.proofs.put_status.Goals as goal
 

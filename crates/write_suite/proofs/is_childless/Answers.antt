@@ -1,5 +1,5 @@
 use Rattle.write_suite.proofs.Suites.{childless-not, childless-may}
-use Rattle.write_case.specs.of_list_sums.inside.Rows.{records_in}
+use Rattle.list_sums.specs.inside.Rows.{records_in}
 use Rattle.write_suite.proofs.is_childless.Goals as goal
 
 pub returns-then-has_bit : goal.returns-then-has_bit

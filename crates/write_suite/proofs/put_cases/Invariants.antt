@@ -1,6 +1,6 @@
-use Rattle.write_case.specs.of_write_items.inside.Suite.{cases_items}
-use Rattle.write_case.proofs.of_write_rows.Going.{Going}
-use Rattle.write_case.specs.of_write_marks.inside.Kept.{kept}
+use Rattle.write_walk.specs.of_write_items.inside.Suite.{cases_items}
+use Rattle.write_rows.proofs.Going.{Going}
+use Rattle.write_marks.specs.inside.Kept.{kept}
 use lib.ListN.{length}
 use Prim.Native.Nat.{◌-◌}
 use Rattle.write_suite.proofs.put_cases.Given as goal

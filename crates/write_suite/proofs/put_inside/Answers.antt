@@ -1,5 +1,5 @@
-use Rattle.write_case.specs.of_write_items.inside.Suite.{inside_items}
-use Rattle.write_case.proofs.of_write_table.Writing.{then}
+use Rattle.write_walk.specs.of_write_items.inside.Suite.{inside_items}
+use Rattle.write_marks.proofs.of_write_table.Writing.{then}
 use Rattle.write_suite.proofs.put_inside.Goals as goal
 
 pub returns : goal.returns

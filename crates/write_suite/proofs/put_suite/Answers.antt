@@ -1,6 +1,6 @@
 use Rattle.write_suite.proofs.Suites.{suite-childless, suite-parent}
-use Rattle.write_case.proofs.of_write_table.Writing.{then, said}
-use Rattle.write_case.specs.of_list_sums.inside.Rows.{records_in}
+use Rattle.write_marks.proofs.of_write_table.Writing.{then, said}
+use Rattle.list_sums.specs.inside.Rows.{records_in}
 use mathlib.Core.Path.{sym, ◌∙◌}
 use Rattle.write_suite.proofs.put_suite.Goals as goal
 

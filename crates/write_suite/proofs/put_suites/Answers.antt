@@ -1,8 +1,8 @@
 use Rattle.write_suite.proofs.Suites.{suites-over, suites-suite, suites-other}
-use Rattle.write_case.specs.of_write_items.inside.Suite.{suites_items}
-use Rattle.write_case.proofs.of_write_rows.Going.{goes_on, going_start, going-stop, going-pass, going-wrote}
-use Rattle.write_case.proofs.of_list_sums.Records.{stands-room, records-behind}
-use Rattle.write_case.specs.of_list_sums.inside.Rows.{records_in}
+use Rattle.write_walk.specs.of_write_items.inside.Suite.{suites_items}
+use Rattle.write_rows.proofs.Going.{goes_on, going_start, going-stop, going-pass, going-wrote}
+use Rattle.list_sums.proofs.Records.{stands-room, records-behind}
+use Rattle.list_sums.specs.inside.Rows.{records_in}
 use lib.ListN.{take, drop}
 use borrow.Author.Rules.{rules}
 use native.Mathlib.Omega.{arith}

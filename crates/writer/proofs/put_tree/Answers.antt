@@ -1,6 +1,6 @@
 use Rattle.writer.proofs.Used.{used-items}
 use Rattle.write_answer.proofs.of_write_table.Writing.{said}
-use Rattle.clearing.specs.of_area.Limits.{most_words, most_bytes}
+use Rattle.area.specs.Limits.{most_words, most_bytes}
 use lib.ListN.{length}
 use lib.Seq.{length-take-le}
 use native.Mathlib.Omega.{arith}

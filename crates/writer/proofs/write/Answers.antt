@@ -1,6 +1,6 @@
 use Rattle.writer.proofs.Answered.{refused-whole, written-whole}
 use Rattle.writer.proofs.Leaving.{no-writing, whole-writing, short-writing}
-use Rattle.clearing.specs.of_area.Area.{zeros}
+use Rattle.area.specs.Area.{zeros}
 use lib.ListN.{length}
 use mathlib.Core.Path.{◌≡◌, sym, ap, ◌∙◌}
 use Rattle.writer.proofs.write.Goals as goal
