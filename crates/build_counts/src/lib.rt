@@ -12,7 +12,7 @@ use build_draft::the_refusal::{Cause, Verdict};
 use build_draft::the_tree_counts::{Counted, Counts, Outcome};
 use build_draft::the_tree_put::put_count;
 use build_draft::the_tree_record::{bit, field, has_bit, kind, put_bit, word};
-use build_draft::{Builder, Step, is_of};
+use build_draft::{Builder, is_of};
 
 // The count at the words o and o + 1.
 fn number_at(r: &[u32], o: usize) -> u64
@@ -56,6 +56,7 @@ fn put_disabled(r: &mut [u32], presence: bool, n: u64)
 }
 
 // Into the record at the front of the part.
+#[tactic(auto, unfolding(build_draft::specs::Parts::put_counts))]
 pub fn put_counts(r: &mut [u32], c: Counts)
     ensures { r.new ≡ put_counts c r.old }
 {
@@ -67,26 +68,26 @@ pub fn put_counts(r: &mut [u32], c: Counts)
 }
 
 // The counts that a method gave go into record i, unless it refused.
-fn put_counted(b: Builder, records: &mut [u32], i: u32, counted: Counted) -> Step
+fn put_counted(b: Builder, records: &mut [u32], i: u32, counted: Counted) -> Result<Builder, Cause>
     ensures { (text : List ℕ) (old more : Sums) → counted ≡ counted_from old (with_suite old more)
         → draft_of result records.new text ≡ counting i (with_suite old more) (record { builder = b; words = records.old; text = text }) }
 {
-    let verdict = counted.verdict;
-    let Verdict::Accepted = verdict else {
-        return Step::Not(Cause::CountLimit);
+    let Verdict::Accepted = counted.verdict else {
+        return Err(Cause::CountLimit);
     };
     let at = build_draft::the_area::least((i as usize) * 32, records.len());
     let c = counted.counts;
     put_counts(&mut records[at..], c);
-    Step::Done(b)
+    Ok(b)
 }
 
 // The open suite's counts are added to the report's, if one is open (rule B8).
-pub fn sum_suite(b: Builder, records: &mut [u32]) -> Step
+#[tactic(auto, unfolding(build_draft::specs::Parts::summing, build_draft::specs::Draft::draft_of))]
+pub fn sum_suite(b: Builder, records: &mut [u32]) -> Result<Builder, Cause>
     ensures { (text : List ℕ) → draft_of result records.new text ≡ summing (record { builder = b; words = records.old; text = text }) }
 {
     if !is_of(b, records, b.suite, kind::SUITE) {
-        return Step::Done(b);
+        return Ok(b);
     }
     let report = counts_at(records, b.report);
     let suite = counts_at(records, b.suite);
@@ -94,7 +95,7 @@ pub fn sum_suite(b: Builder, records: &mut [u32]) -> Step
 }
 
 // A case of this outcome is added to the open suite's counts (rule B8).
-pub fn count_case(b: Builder, records: &mut [u32], outcome: Outcome) -> Step
+pub fn count_case(b: Builder, records: &mut [u32], outcome: Outcome) -> Result<Builder, Cause>
     ensures { (text : List ℕ) → draft_of result records.new text
         ≡ counting b.suite (with_case (counts_at records.old b.suite) outcome) (record { builder = b; words = records.old; text = text }) }
 {

@@ -10,21 +10,20 @@ use Rattle.tree_counts.specs.of_refusal.declared.Cause.{Cause}
 use Rattle.tree_counts.specs.of_refusal.declared.Verdict.TheVariants.{Accepted, Refused}
 use Rattle.build_draft.specs.declared.Builder.{Builder}
 use Rattle.build_draft.specs.declared.Built.{Built}
-use Rattle.build_draft.specs.declared.Step.{Step}
-use Rattle.build_draft.specs.declared.Step.TheVariants.{Done, Not}
+use Rattle.std.specs.Prelude.{Result, Ok, Err}
 use Rattle.build_draft.specs.Draft.{Draft, no_builder, draft_of, built_from, words_left_of, text_left}
 
 -- the answer and both areas at once
-abbrev pub Settled : Step → List ℕ → List ℕ → Built → List ℕ → List ℕ → Type 0
+abbrev pub Settled : Result Builder Cause → List ℕ → List ℕ → Built → List ℕ → List ℕ → Type 0
 Settled s words text r words' text' =
     (r ≡ built_from (draft_of s words text)) × ((words' ≡ words_left_of (length words) (draft_of s words text)) × (text' ≡ text_left (length text) (draft_of s words text)))
 
-pub settled-done : {s : Step} {b : Builder} {f : Refusal} (words text : List ℕ) → s ≡ Done b → f ≡ no_refusal
+pub settled-done : {s : Result Builder Cause} {b : Builder} {f : Refusal} (words text : List ℕ) → s ≡ Ok b → f ≡ no_refusal
     → Settled s words text (record { verdict = Accepted; builder = b; refusal = f }) words text
 unfolding draft_of
 settled-done {b = b} words text e h = rw e (ap (λ (x : Refusal). record { verdict = Accepted; builder = b; refusal = x }) h, (refl, refl))
 
-pub settled-not : {s : Step} {why : Cause} {b : Builder} {f : Refusal} {words' text' : List ℕ} (words text : List ℕ) → s ≡ Not why → b ≡ no_builder → f ≡ refusal_from (late why)
+pub settled-not : {s : Result Builder Cause} {why : Cause} {b : Builder} {f : Refusal} {words' text' : List ℕ} (words text : List ℕ) → s ≡ Err why → b ≡ no_builder → f ≡ refusal_from (late why)
     → words' ≡ zeros (length words) → text' ≡ zeros (length text) → Settled s words text (record { verdict = Refused; builder = b; refusal = f }) words' text'
 unfolding draft_of
 settled-not words text e h k w t = rw e ((λ i. record { verdict = Refused; builder = h i; refusal = k i }), (w, t))
@@ -35,7 +34,7 @@ Ends o words text r words' text' =
     (r ≡ built_from o) × ((words' ≡ words_left_of (length words) o) × (text' ≡ text_left (length text) o))
 
 -- the steps keep the areas' lengths
-pub ends : (words text : List ℕ) (s : Step) (words₁ text₁ : List ℕ) {o : Outcome Draft} {r : Built} {words' text' : List ℕ} → draft_of s words₁ text₁ ≡ o
+pub ends : (words text : List ℕ) (s : Result Builder Cause) (words₁ text₁ : List ℕ) {o : Outcome Draft} {r : Built} {words' text' : List ℕ} → draft_of s words₁ text₁ ≡ o
     → length words₁ ≡ length words → length text₁ ≡ length text → Settled s words₁ text₁ r words' text' → Ends o words text r words' text'
 ends words text s words₁ text₁ {o} e w t h = (
   h.0 ∙ ap built_from e,

@@ -1,12 +1,10 @@
 -- A report being built in two lent areas: the builder's marks, what a call answers and leaves. Definitions only.
-use Rattle.std.specs.Prelude.{ℕ, ◌-◌, ◌*◌, ◌/◌, min, List, ◌++◌, Bool, true, false, cond, ◌&&◌, length, get_or, take, drop, leb, ltb, eqb}
+use Rattle.std.specs.Prelude.{ℕ, ◌-◌, ◌*◌, ◌/◌, min, List, ◌++◌, Bool, true, false, cond, ◌&&◌, length, get_or, take, drop, leb, ltb, eqb, Result, Ok, Err}
 use Rattle.text_lossy.specs.of_area.Area.{zeros}
 use Rattle.text_lossy.specs.of_area.Limits.{most_records, most_bytes}
 use Rattle.tree_counts.specs.of_refusal.Refusal.{nowhere, Outcome, accepted, refused, late, verdict_of, refusal_of}
 use Rattle.tree_counts.specs.of_refusal.declared.Cause.{Cause}
 use Rattle.build_draft.specs.declared.Builder.{Builder}
-use Rattle.build_draft.specs.declared.Step.{Step}
-use Rattle.build_draft.specs.declared.Step.TheVariants.{Done, Not}
 use Rattle.build_draft.specs.declared.Built.{Built}
 use Rattle.build_draft.specs.declared.Element.{Element}
 use Rattle.build_draft.specs.declared.Element.TheVariants.{Report, Suite, Case, Status, Last}
@@ -38,9 +36,9 @@ asks true why m = m
 asks false why m = refused (late why)
 
 -- what a part of the code came to, with the areas as it left them
-unfoldable pub draft_of : Step → List ℕ → List ℕ → Outcome Draft
-draft_of (Done b) words text = accepted (record { builder = b; words = words; text = text })
-draft_of (Not why) words text = refused (late why)
+unfoldable pub draft_of : Result Builder Cause → List ℕ → List ℕ → Outcome Draft
+draft_of (Ok b) words text = accepted (record { builder = b; words = words; text = text })
+draft_of (Err why) words text = refused (late why)
 
 -- ---- the whole answer of a call, and what it leaves in areas of so many words and bytes: zeros at a refusal (rule B11)
 abbrev pub builder_of : Outcome Draft → Builder

@@ -28,13 +28,6 @@ pub struct Builder {
     pub main: u32,
 }
 
-// A part of a call: the builder behind it, or why the call refuses.
-#[derive(Clone, Copy)]
-pub enum Step {
-    Done(Builder),
-    Not(Cause),
-}
-
 // What a call answers; at a refusal no builder.
 #[derive(Clone, Copy)]
 pub struct Built {
@@ -112,6 +105,7 @@ pub fn room_for(words: &[u32]) -> usize
 }
 
 // Whether i is the number of a record that is used and lies in the area.
+#[tactic(auto, unfolding(crate::specs::Draft::is_record))]
 pub fn is_record(b: Builder, words: &[u32], i: u32) -> bool
     ensures { result ≡ is_record b words.now i }
 {
@@ -126,6 +120,7 @@ pub fn kind_at(words: &[u32], i: u32) -> u32
 }
 
 // By rule B4.
+#[tactic(auto, unfolding(crate::specs::Draft::is_of))]
 pub fn is_of(b: Builder, words: &[u32], i: u32, kind: u32) -> bool
     ensures { result ≡ is_of b words.now i kind }
 {
@@ -136,10 +131,7 @@ pub fn is_of(b: Builder, words: &[u32], i: u32, kind: u32) -> bool
 pub fn last_of(b: Builder) -> u32
     ensures { result ≡ last_of b }
 {
-    if b.records == 0 {
-        return 0;
-    }
-    b.records - 1
+    b.records.saturating_sub(1)
 }
 
 // The last record while the report is open; after the end there is none (rule B12).
@@ -174,18 +166,18 @@ fn clear_both(records: &mut [u32], text: &mut [u8])
 }
 
 // The answer of a call whose last part came to this; at a refusal both areas become zero (rule B11).
-pub fn settle(step: Step, records: &mut [u32], text: &mut [u8]) -> Built
+pub fn settle(step: Result<Builder, Cause>, records: &mut [u32], text: &mut [u8]) -> Built
     ensures value { result ≡ built_from (draft_of step records.old text.old) }
     ensures records_after { records.new ≡ words_left_of (length records.old) (draft_of step records.old text.old) }
     ensures text_after { text.new ≡ text_left (length text.old) (draft_of step records.old text.old) }
 {
     match step {
-        Step::Done(b) => Built {
+        Ok(b) => Built {
             verdict: Verdict::Accepted,
             builder: b,
             refusal: no_refusal(),
         },
-        Step::Not(cause) => {
+        Err(cause) => {
             clear_both(records, text);
             Built {
                 verdict: Verdict::Refused,

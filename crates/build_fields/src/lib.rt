@@ -11,7 +11,7 @@ ghost use Rattle.build_draft.specs.Parts.{put_number, is_status, is_run, has_tex
 ghost use Rattle.build_draft.specs.Calls.{is_timed, set_uuid, set_number};
 ghost use Rattle.build_draft.specs.declared.TextField.TheVariants as field;
 
-use build_draft::{Builder, NumberField, Step, TextField, is_of, is_record, kind_at};
+use build_draft::{Builder, NumberField, TextField, is_of, is_record, kind_at};
 use tree_values::the_area::least;
 use tree_values::the_refusal::Cause;
 use tree_values::the_timestamp::Moment;
@@ -44,12 +44,9 @@ pub fn has_text(k: u32, field: TextField) -> bool
 {
     match field {
         TextField::Classname => k == kind::CASE,
-        TextField::Message => is_status(k),
-        TextField::Ty => is_status(k),
-        TextField::Description => is_status(k),
+        TextField::Message | TextField::Ty | TextField::Description => is_status(k),
         TextField::StackTrace => is_run(k),
-        TextField::SystemOut => has_outputs(k),
-        TextField::SystemErr => has_outputs(k),
+        TextField::SystemOut | TextField::SystemErr => has_outputs(k),
         TextField::Hostname => k == kind::SUITE,
     }
 }
@@ -87,16 +84,7 @@ pub fn bit_for(field: TextField) -> u32
 pub fn is_output(field: TextField) -> bool
     ensures { result ≡ is_output field }
 {
-    match field {
-        TextField::SystemOut => true,
-        TextField::SystemErr => true,
-        TextField::Classname => false,
-        TextField::Message => false,
-        TextField::Ty => false,
-        TextField::Description => false,
-        TextField::StackTrace => false,
-        TextField::Hostname => false,
-    }
+    matches!(field, TextField::SystemOut | TextField::SystemErr)
 }
 
 fn has_times(k: u32) -> bool
@@ -112,65 +100,80 @@ fn is_timed(b: Builder, words: &[u32], i: u32) -> bool
 }
 
 // The timestamp of record i.
-pub fn stamp(b: Builder, records: &mut [u32], i: u32, m: Moment) -> Step
+pub fn stamp(b: Builder, records: &mut [u32], i: u32, m: Moment) -> Result<Builder, Cause>
     ensures { (text : List ℕ) → draft_of result records.new text ≡ asks (is_timed i (record { builder = b; words = records.old; text = text }))
         cause.NotLayout (asks (in_range m) cause.BadTimestamp (accepted (record { builder = b; words = on_record_of i (put_moment m) records.old; text = text }))) }
 {
     if !is_timed(b, records, i) {
-        return Step::Not(Cause::NotLayout);
+        return Err(Cause::NotLayout);
     }
     if !tree_values::the_timestamp::in_range(m) {
-        return Step::Not(Cause::BadTimestamp);
+        return Err(Cause::BadTimestamp);
     }
     let at = least((i as usize) * 32, records.len());
     put_moment(&mut records[at..], m);
-    Step::Done(b)
+    Ok(b)
 }
 
 // The time of record i.
-pub fn clock(b: Builder, records: &mut [u32], i: u32, seconds: u32, nanos: u32) -> Step
+pub fn clock(
+    b: Builder,
+    records: &mut [u32],
+    i: u32,
+    seconds: u32,
+    nanos: u32,
+) -> Result<Builder, Cause>
     ensures { (text : List ℕ) → draft_of result records.new text ≡ asks (is_timed i (record { builder = b; words = records.old; text = text })) cause.NotLayout
         (asks (leb seconds 8388607 && leb nanos 999999999) cause.BadTime (accepted (record { builder = b; words = on_record_of i (put_time (seconds, nanos)) records.old; text = text }))) }
 {
     if !is_timed(b, records, i) {
-        return Step::Not(Cause::NotLayout);
+        return Err(Cause::NotLayout);
     }
     if !((seconds <= 8388607) & (nanos <= 999999999)) {
-        return Step::Not(Cause::BadTime);
+        return Err(Cause::BadTime);
     }
     let at = least((i as usize) * 32, records.len());
     put_time(&mut records[at..], seconds, nanos);
-    Step::Done(b)
+    Ok(b)
 }
 
-pub fn identify(b: Builder, records: &mut [u32], w: Words) -> Step
+pub fn identify(b: Builder, records: &mut [u32], w: Words) -> Result<Builder, Cause>
     ensures { (text : List ℕ) → draft_of result records.new text ≡ set_uuid w (record { builder = b; words = records.old; text = text }) }
 {
     if !is_of(b, records, b.report, kind::REPORT) {
-        return Step::Not(Cause::NotLayout);
+        return Err(Cause::NotLayout);
     }
     let at = least((b.report as usize) * 32, records.len());
     put_uuid(&mut records[at..], w);
-    Step::Done(b)
+    Ok(b)
 }
 
 // A count with a presence bit, in record i of a kind.
-fn put_number(b: Builder, records: &mut [u32], i: u32, kind: u32, o: usize, k: u32, n: u64) -> Step
+fn put_number(
+    b: Builder,
+    records: &mut [u32],
+    i: u32,
+    kind: u32,
+    o: usize,
+    k: u32,
+    n: u64,
+) -> Result<Builder, Cause>
     ensures { (text : List ℕ) → draft_of result records.new text
         ≡ asks (is_of b records.old i kind) cause.NotLayout (accepted (record { builder = b; words = on_record_of i (put_number o k n) records.old; text = text })) }
 {
     if !is_of(b, records, i, kind) {
-        return Step::Not(Cause::NotLayout);
+        return Err(Cause::NotLayout);
     }
     let at = least((i as usize) * 32, records.len());
     let r = &mut records[at..];
     put_count(r, o, n);
     put_bit(r, k);
-    Step::Done(b)
+    Ok(b)
 }
 
 // A case's assertions, or a suite's `disabled`.
-pub fn number(b: Builder, records: &mut [u32], field: NumberField, n: u64) -> Step
+#[tactic(auto, unfolding(build_draft::specs::Calls::set_number))]
+pub fn number(b: Builder, records: &mut [u32], field: NumberField, n: u64) -> Result<Builder, Cause>
     ensures { (text : List ℕ) → draft_of result records.new text ≡ set_number field n (record { builder = b; words = records.old; text = text }) }
 {
     match field {

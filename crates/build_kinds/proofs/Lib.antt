@@ -1,2 +1,1 @@
-pub mod Behind
 pub use Rattle.build_draft.proofs as of_build_draft

@@ -45,15 +45,15 @@ pub fn main_kind(outcome: Outcome) -> u32
 pub fn may_stand_behind(k: u32, before: u32) -> bool
     ensures { result ≡ may_stand_behind k before }
 {
-    if k == kind::SUITE_EXTRA {
-        return (before == kind::SUITE) | (before == kind::SUITE_EXTRA);
+    match k {
+        kind::SUITE_EXTRA => matches!(before, kind::SUITE | kind::SUITE_EXTRA),
+        kind::SUITE_PROPERTY => {
+            matches!(
+                before,
+                kind::SUITE | kind::SUITE_EXTRA | kind::SUITE_PROPERTY
+            )
+        }
+        kind::CASE_EXTRA => matches!(before, kind::CASE | kind::CASE_EXTRA),
+        _ => matches!(before, kind::CASE | kind::CASE_EXTRA | kind::CASE_PROPERTY),
     }
-    if k == kind::SUITE_PROPERTY {
-        return (before == kind::SUITE)
-            | ((before == kind::SUITE_EXTRA) | (before == kind::SUITE_PROPERTY));
-    }
-    if k == kind::CASE_EXTRA {
-        return (before == kind::CASE) | (before == kind::CASE_EXTRA);
-    }
-    (before == kind::CASE) | ((before == kind::CASE_EXTRA) | (before == kind::CASE_PROPERTY))
 }

@@ -8,6 +8,7 @@ use lib.Dec.{leb, ltb, eqb}
 use lib.ListN.{length, take, drop, length-append, length-drop}
 use lib.Seq.{length-take-le, take-add, take_at, drop_at}
 use borrow.Author.Tests.{lt-ltb, le-ltb, ltb-true, leb-true}
+use Rattle.std.specs.Prelude.{Result, Ok, Err}
 use Rattle.list_values.specs.of_text_filter.Filter.{filtered}
 use Rattle.list_values.specs.of_refusal.Refusal.{Outcome, accepted, refused}
 use Rattle.list_values.specs.of_refusal.declared.Cause.{Cause}
@@ -15,8 +16,6 @@ use Rattle.list_values.specs.of_refusal.declared.Cause.TheVariants as cause
 use Rattle.list_values.specs.of_tree_record.Words as word
 use Rattle.build_kinds.specs.of_tree_put.Put.{put_pair}
 use Rattle.build_kinds.specs.of_build_draft.declared.Builder.{Builder}
-use Rattle.build_kinds.specs.of_build_draft.declared.Step.{Step}
-use Rattle.build_kinds.specs.of_build_draft.declared.Step.TheVariants.{Done, Not}
 use Rattle.build_kinds.specs.of_build_draft.Draft.{Draft, draft_of, ◌>>=◌, next, asks, room_for, is_record, kind_at, is_of, on_record_of, last_of, with_words}
 use Rattle.build_kinds.specs.of_build_draft.Parts.{put_at, keeping, taking, is_main_kind, place_for, may_stand_behind}
 use Rattle.list_values.specs.of_tree_record.Kinds as kind
@@ -76,7 +75,7 @@ module _ (b d : Builder) (words text : List ℕ) (k y : ℕ) {place i : ℕ} (p 
   unfolding chosen
   chosen_is t e = (λ n. chosen (sym e n) i place) ∙ (λ n. chosen (ltb (old n) (p text n)) (old n) (p text n))
 
-  pub kept-old : {words₁ : List ℕ} → i < place → words₁ ≡ on_record_of i (put_pair word.value y (d.bytes - y)) words → draft_of (Done d) words₁ text ≡ putting_kept k b y (plain d words text)
+  pub kept-old : {words₁ : List ℕ} → i < place → words₁ ≡ on_record_of i (put_pair word.value y (d.bytes - y)) words → draft_of (Ok d) words₁ text ≡ putting_kept k b y (plain d words text)
   unfolding draft_of chosen
   kept-old h w = ap (λ (v : List ℕ). accepted (plain d v text)) w ∙ chosen_is true (lt-ltb i place h)
 
@@ -118,8 +117,8 @@ put-stays x f g t h k =
     ∙ put-there x f t h
 
 -- ---- the value
-module _ (b c : Builder) (words text value : List ℕ) (valued : Step) (text₁ : List ℕ) (vv : (w : List ℕ) → draft_of valued w text₁ ≡ keeping false value (plain c w text))
-    {d : Builder} (q : valued ≡ Done d) where
+module _ (b c : Builder) (words text value : List ℕ) (valued : Result Builder Cause) (text₁ : List ℕ) (vv : (w : List ℕ) → draft_of valued w text₁ ≡ keeping false value (plain c w text))
+    {d : Builder} (q : valued ≡ Ok d) where
   pub value-fits : (is_record b words (last_of b) ≡ true) × (c.records ≡ b.records) × (b.bytes ≤ c.bytes)
       → (is_record b words (last_of b) ≡ true) × (d.records ≡ b.records) × (b.bytes ≤ c.bytes) × (c.bytes ≤ d.bytes) × (c.bytes ≤ length text₁)
   value-fits h =
@@ -141,7 +140,7 @@ module _ (b : Builder) (words text : List ℕ) (k : ℕ) (key value : List ℕ) 
   tested : (is_held k b words && may_stand_behind k (kind_at words (place_for (plain b words text) - 1))) ≡ t
   tested = sym (m ∙ ap (λ (q : ℕ). is_held k b words && may_stand_behind k (kind_at words (q - 1))) (p text))
 
-  pub added-nowhere : t ≡ false → (words' text' : List ℕ) → draft_of (Not cause.NotLayout) words' text' ≡ add_pair k key value (plain b words text)
+  pub added-nowhere : t ≡ false → (words' text' : List ℕ) → draft_of (Err cause.NotLayout) words' text' ≡ add_pair k key value (plain b words text)
   unfolding add_pair asks draft_of
   added-nowhere h words' text' = rw (tested ∙ h) refl
 
@@ -163,11 +162,11 @@ module _ (b : Builder) (words text : List ℕ) (k : ℕ) (key value : List ℕ) 
     unfolding add_pair asks
     is-added = rw (tested ∙ h) refl
 
-    module _ (keyed : Step) (t₁ : List ℕ) (kk : (w : List ℕ) → draft_of keyed w t₁ ≡ keeping false key (plain b w text)) where
-      pub key-refused : {why : Cause} → keyed ≡ Not why → draft_of keyed words t₁ ≡ add_pair k key value (plain b words text)
+    module _ (keyed : Result Builder Cause) (t₁ : List ℕ) (kk : (w : List ℕ) → draft_of keyed w t₁ ≡ keeping false key (plain b w text)) where
+      pub key-refused : {why : Cause} → keyed ≡ Err why → draft_of keyed words t₁ ≡ add_pair k key value (plain b words text)
       key-refused e = then-refused keyed words t₁ behind-key words t₁ e (kk words) ∙ is-added
 
-      module _ {c : Builder} (g : keyed ≡ Done c) where
+      module _ {c : Builder} (g : keyed ≡ Ok c) where
         key-kept : Kept false key (plain b words text) (plain c words t₁)
         key-kept = is-kept false key (plain b words text) (plain c words t₁) (is-done keyed words t₁ g (kk words))
 

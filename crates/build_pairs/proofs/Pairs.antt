@@ -6,6 +6,7 @@ use native.Mathlib.Omega.{arith}
 use lib.Dec.{ltb}
 use lib.ListN.{length, set, length-set}
 use borrow.Author.Tests.{lt-ltb, le-ltb, ltb-true}
+use Rattle.std.specs.Prelude.{Result, Ok, Err}
 use Rattle.list_values.specs.of_refusal.Refusal.{Outcome, accepted}
 use Rattle.list_values.specs.of_refusal.declared.Cause.{Cause}
 use Rattle.list_values.specs.of_refusal.declared.Cause.TheVariants as cause
@@ -13,8 +14,6 @@ use Rattle.list_values.specs.of_tree_record.Words as word
 use Rattle.list_values.specs.of_tree_record.Bits as bit
 use Rattle.build_kinds.specs.of_tree_put.Put.{put_text}
 use Rattle.build_kinds.specs.of_build_draft.declared.Builder.{Builder}
-use Rattle.build_kinds.specs.of_build_draft.declared.Step.{Step}
-use Rattle.build_kinds.specs.of_build_draft.declared.Step.TheVariants.{Done, Not}
 use Rattle.build_kinds.specs.of_build_draft.Draft.{Draft, draft_of, next, room_for, on_record_of, last_of}
 use Rattle.build_kinds.specs.of_build_draft.Parts.{taking, exchanged}
 use Rattle.build_kinds.specs.of_build_draft.Calls.{marks, put_pair_in}
@@ -62,15 +61,15 @@ is-taken k d e h =
       words = ap (λ (y : Draft). y.words) q;
     }
 
-module _ (step : Step) (k : ℕ) (b : Builder) (words : List ℕ) (place x y : ℕ) (words₁ : List ℕ) (h : (text : List ℕ) → draft_of step words₁ text ≡ taking k (plain b words text)) where
+module _ (step : Result Builder Cause) (k : ℕ) (b : Builder) (words : List ℕ) (place x y : ℕ) (words₁ : List ℕ) (h : (text : List ℕ) → draft_of step words₁ text ≡ taking k (plain b words text)) where
   into : Draft → Outcome Draft
   into g = accepted (put_pair_in place x y b.bytes g)
 
-  pub new-refused : {why : Cause} → step ≡ Not why → (text : List ℕ) → draft_of step words₁ text ≡ next (taking k (plain b words text)) (λ g. accepted (put_pair_in place x y b.bytes g))
+  pub new-refused : {why : Cause} → step ≡ Err why → (text : List ℕ) → draft_of step words₁ text ≡ next (taking k (plain b words text)) (λ g. accepted (put_pair_in place x y b.bytes g))
   unfolding into
   new-refused e text = then-refused step words₁ text into words₁ text e (h text)
 
-  module _ {c : Builder} (e : step ≡ Done c) where
+  module _ {c : Builder} (e : step ≡ Ok c) where
     taken : Taken k (plain b words words) (plain c words₁ words)
     taken = is-taken k (plain b words words) (plain c words₁ words) (is-done step words₁ words e (h words))
 
@@ -82,6 +81,6 @@ module _ (step : Step) (k : ℕ) (b : Builder) (words : List ℕ) (place x y : �
         (omega arith, omega arith, omega arith)
 
     pub new-done : {d : Builder} {words₂ : List ℕ} → ((text : List ℕ) → plain d words₂ text ≡ put_pair_in place x y b.bytes (plain c words₁ text))
-        → (text : List ℕ) → draft_of (Done d) words₂ text ≡ next (taking k (plain b words text)) (λ g. accepted (put_pair_in place x y b.bytes g))
+        → (text : List ℕ) → draft_of (Ok d) words₂ text ≡ next (taking k (plain b words text)) (λ g. accepted (put_pair_in place x y b.bytes g))
     unfolding draft_of into
     new-done q text = ap (λ (g : Draft). accepted g) (q text) ∙ then-done step words₁ text into e (h text)

@@ -14,7 +14,7 @@ ghost use Rattle.build_kinds.specs.of_build_draft.Calls.{is_suites, holder_of, i
 ghost use Rattle.build_pairs.specs.inside.Adding.{putting_kept};
 
 use build_kinds::may_stand_behind;
-use build_kinds::the_build_draft::{Builder, Step, is_of, kind_at, last_of};
+use build_kinds::the_build_draft::{Builder, is_of, kind_at, last_of};
 use build_kinds::the_tree_put::{put_pair, put_text};
 use build_records::{exchange, take_record};
 pub use build_text as the_build_text;
@@ -55,15 +55,13 @@ fn key_place(records: &[u32], text: &[u8], key: &[u8], from: usize, to: usize) -
     requires { to ≤ 65536 }
     ensures { result ≡ key_place text.now records.now key.now from (to - from) }
 {
-    let mut i = from;
-    while i < to {
+    for i in from..to {
         let at = least(i * 32, records.len());
         if has_key(&records[at..], text, key) {
             return i;
         }
-        i += 1;
     }
-    i
+    from.max(to)
 }
 
 // Whether a record of kind k, a property or extra, is a suite's.
@@ -136,34 +134,46 @@ fn put_pair_in(b: Builder, records: &mut [u32], place: u32, x: u32, y: u32, z: u
         return b;
     }
     exchange(records, place as usize);
-    let mut c = b;
-    c.main = place + 1;
-    c
+    Builder {
+        main: place + 1,
+        ..b
+    }
 }
 
 // A record for a key that is new.
-fn new_pair(b: Builder, records: &mut [u32], k: u32, place: u32, x: u32, y: u32) -> Step
+fn new_pair(
+    b: Builder,
+    records: &mut [u32],
+    k: u32,
+    place: u32,
+    x: u32,
+    y: u32,
+) -> Result<Builder, Cause>
     requires { (place ≤ b.records) × (x ≤ y) × (y ≤ b.bytes) }
     ensures { (text : List ℕ)
         → draft_of result records.new text ≡ next (taking k (record { builder = b; words = records.old; text = text })) (λ g. accepted (put_pair_in place x y b.bytes g)) }
 {
-    let taken = take_record(b, records, k);
-    let Step::Done(c) = taken else {
-        return taken;
-    };
-    Step::Done(put_pair_in(c, records, place, x, y, b.bytes))
+    let c = take_record(b, records, k)?;
+    Ok(put_pair_in(c, records, place, x, y, b.bytes))
 }
 
 // Whether a property or extra of kind k may be added at `place`.
 fn may_add(b: Builder, records: &[u32], k: u32, place: u32) -> bool
     ensures { result ≡ (is_held k b records.now && may_stand_behind k (kind_at records.now (place - 1))) }
 {
-    let before = if place == 0 { 0 } else { place - 1 };
+    let before = place.saturating_sub(1);
     is_held(b, records, k) & may_stand_behind(k, kind_at(records, before))
 }
 
 // Both texts are stored: behind x the key, from y on the value. The key's record gets them, an old one or a new one.
-fn put_kept(b: Builder, d: Builder, records: &mut [u32], text: &[u8], k: u32, y: u32) -> Step
+fn put_kept(
+    b: Builder,
+    d: Builder,
+    records: &mut [u32],
+    text: &[u8],
+    k: u32,
+    y: u32,
+) -> Result<Builder, Cause>
     requires { (is_record b records.old (last_of b) ≡ true) × (d.records ≡ b.records) × (b.bytes ≤ y) × (y ≤ d.bytes) × (y ≤ length text.now) }
     ensures { draft_of result records.new text.now ≡ putting_kept k b y (record { builder = d; words = records.old; text = text.now }) }
 {
@@ -173,7 +183,7 @@ fn put_kept(b: Builder, d: Builder, records: &mut [u32], text: &[u8], k: u32, y:
     let i = old_place(b, records, text, &text[x..e], k, place);
     if i < (place as usize) {
         put_value(records, i, y, d.bytes - y);
-        return Step::Done(d);
+        return Ok(d);
     }
     new_pair(d, records, k, place, b.bytes, y)
 }
@@ -186,15 +196,12 @@ fn add_value(
     text: &mut [u8],
     k: u32,
     value: &[u8],
-) -> Step
+) -> Result<Builder, Cause>
     requires { (is_record b records.old (last_of b) ≡ true) × (c.records ≡ b.records) × (b.bytes ≤ c.bytes) }
     ensures { draft_of result records.new text.new
         ≡ next (keeping false value.now (record { builder = c; words = records.old; text = text.old })) (putting_kept k b c.bytes) }
 {
-    let valued = keep(c, text, value, false);
-    let Step::Done(d) = valued else {
-        return valued;
-    };
+    let d = keep(c, text, value, false)?;
     put_kept(b, d, records, text, k, c.bytes)
 }
 
@@ -206,15 +213,12 @@ pub fn add_pair(
     k: u32,
     key: &[u8],
     value: &[u8],
-) -> Step
+) -> Result<Builder, Cause>
     ensures { draft_of result records.new text.new ≡ add_pair k key.now value.now (record { builder = b; words = records.old; text = text.old }) }
 {
     if !may_add(b, records, k, place_for(b, records)) {
-        return Step::Not(Cause::NotLayout);
+        return Err(Cause::NotLayout);
     }
-    let keyed = keep(b, text, key, false);
-    let Step::Done(c) = keyed else {
-        return keyed;
-    };
+    let c = keep(b, text, key, false)?;
     add_value(b, c, records, text, k, value)
 }

@@ -9,20 +9,21 @@ pub use build_draft as the_build_draft;
 use build_draft::the_refusal::Cause;
 use build_draft::the_tree_record::put_field;
 pub use build_draft::{the_area, the_refusal, the_tree_record};
-use build_draft::{Builder, Step, room_for};
+use build_draft::{Builder, room_for};
 
 // A record more, of a kind.
-pub fn take_record(b: Builder, records: &mut [u32], kind: u32) -> Step
+pub fn take_record(b: Builder, records: &mut [u32], kind: u32) -> Result<Builder, Cause>
     ensures { (text : List ℕ) → draft_of result records.new text ≡ taking kind (record { builder = b; words = records.old; text = text }) }
 {
     let n = b.records as usize;
     if room_for(records) <= n {
-        return Step::Not(Cause::RecordsSpent);
+        return Err(Cause::RecordsSpent);
     }
     put_field(records, n * 32, kind);
-    let mut taken = b;
-    taken.records = (n + 1) as u32;
-    Step::Done(taken)
+    Ok(Builder {
+        records: (n + 1) as u32,
+        ..b
+    })
 }
 
 // Exchanges the records i and i + 1.
@@ -31,13 +32,5 @@ pub fn exchange(records: &mut [u32], i: usize)
     ensures { records.new ≡ exchanged i records.old }
 {
     let at = i * 32;
-    let mut j = 0;
-    while j < 32 {
-        let a = at + j;
-        let b = a + 32;
-        let front = records[a];
-        records[a] = records[b];
-        records[b] = front;
-        j += 1;
-    }
+    records[at..at + 64].rotate_left(32);
 }

@@ -6,13 +6,13 @@ use mathlib.Core.List.{List}
 use borrow.Author.Tests.{eq-eqb, ne_eqb, not-true, not-false}
 use lib.Dec.{leb}
 use lib.ListN.{drop}
+use Rattle.std.specs.Prelude.{Err}
 use Rattle.build_records.specs.of_refusal.Refusal.{nowhere, Outcome}
 use Rattle.build_records.specs.of_refusal.declared.Cause.TheVariants as cause
 use Rattle.build_records.specs.of_tree_record.Bits as bit
 use Rattle.build_records.specs.of_tree_record.Kinds as kind
 use Rattle.build_records.specs.of_tree_record.Record.{has_bit, unmarked}
 use Rattle.build_records.specs.of_build_draft.declared.Builder.{Builder}
-use Rattle.build_records.specs.of_build_draft.declared.Step.TheVariants.{Not}
 use Rattle.build_records.specs.of_build_draft.declared.NonSuccessKind.{NonSuccessKind}
 use Rattle.build_records.specs.of_build_draft.declared.FlakyOrRerun.{FlakyOrRerun}
 use Rattle.build_records.specs.of_build_draft.declared.FlakyOrRerun.TheVariants.{Flaky}
@@ -35,7 +35,7 @@ module _ (b : Builder) (words text : List ℕ) where
 
   module _ (k : NonSuccessKind) where
     -- no failure or error
-    pub no_main : {t : Bool} → t ≡ is_non_success d → not t ≡ true → draft_of (Not cause.NotLayout) words text ≡ add_to_main k d
+    pub no_main : {t : Bool} → t ≡ is_non_success d → not t ≡ true → draft_of (Err cause.NotLayout) words text ≡ add_to_main k d
     unfolding draft_of asks add_to_main
     no_main {t} e h = rw (sym e ∙ not-true t h) refl
 
@@ -47,7 +47,7 @@ module _ (b : Builder) (words text : List ℕ) where
 
     module _ {t : Bool} (e : t ≡ is_of b words b.case kind.case) where
       -- no open case
-      pub no-case : not t ≡ true → draft_of (Not cause.NotLayout) words text ≡ add_rerun k d
+      pub no-case : not t ≡ true → draft_of (Err cause.NotLayout) words text ≡ add_rerun k d
       unfolding draft_of asks add_rerun
       no-case h = rw (sym e ∙ not-true t h) refl
 

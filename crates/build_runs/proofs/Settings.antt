@@ -6,10 +6,10 @@ use mathlib.Core.List.{List}
 use native.Mathlib.Omega.{arith}
 use borrow.Author.Tests.{eq-eqb, ne_eqb, leb-true, not-true, not-false}
 use lib.Dec.{leb, ltb, eqb}
+use Rattle.std.specs.Prelude.{Ok, Err}
 use Rattle.build_records.specs.of_refusal.declared.Cause.TheVariants as cause
 use Rattle.build_records.specs.of_tree_record.Kinds as kind
 use Rattle.build_records.specs.of_build_draft.declared.Builder.{Builder}
-use Rattle.build_records.specs.of_build_draft.declared.Step.TheVariants.{Done, Not}
 use Rattle.build_records.specs.of_build_draft.declared.FlakyOrRerun.{FlakyOrRerun}
 use Rattle.build_records.specs.of_build_draft.Draft.{Draft, draft_of, asks, is_record, is_of, kind_at, on_record_of, room_for}
 use Rattle.build_records.specs.of_build_draft.Parts.{turn_runs}
@@ -33,17 +33,17 @@ module _ (b : Builder) (words text : List ℕ) where
 
     module _ (f : FlakyOrRerun) where
       -- no failure or error
-      pub turns-none : not t ≡ true → draft_of (Not cause.NotLayout) words text ≡ set_rerun_kind f d
+      pub turns-none : not t ≡ true → draft_of (Err cause.NotLayout) words text ≡ set_rerun_kind f d
       unfolding draft_of asks set_rerun_kind
       turns-none h = rw (sym e ∙ not-true t h) refl
 
       -- there are runs: their kinds
       pub turns-runs : {words' : List ℕ} → not t ≡ false → (b.main + 1 ≡ b.records → ⊥) → words' ≡ turn_runs f (b.main + 1) (b.records - (b.main + 1)) words
-          → draft_of (Done b) words' text ≡ set_rerun_kind f d
+          → draft_of (Ok b) words' text ≡ set_rerun_kind f d
       unfolding draft_of asks set_rerun_kind
       turns-runs h n q = rw (sym e ∙ not-false t h, ne_eqb (b.main + 1) b.records n, q) refl
 
       -- there are none: the flaky bit
-      pub turns-flag : {words' : List ℕ} → not t ≡ false → b.main + 1 ≡ b.records → words' ≡ on_record_of b.main (flagged f) words → draft_of (Done b) words' text ≡ set_rerun_kind f d
+      pub turns-flag : {words' : List ℕ} → not t ≡ false → b.main + 1 ≡ b.records → words' ≡ on_record_of b.main (flagged f) words → draft_of (Ok b) words' text ≡ set_rerun_kind f d
       unfolding draft_of asks set_rerun_kind
       turns-flag h n q = rw (sym e ∙ not-false t h, eq-eqb (b.main + 1) b.records n, q) refl

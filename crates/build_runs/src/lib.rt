@@ -12,7 +12,7 @@ ghost use Rattle.build_records.specs.of_build_draft.Calls.{is_non_success, famil
 use build_records::take_record;
 use build_records::the_area::least;
 use build_records::the_build_draft::{
-    Builder, FlakyOrRerun, NonSuccessKind, Step, is_of, kind_at, last_of,
+    Builder, FlakyOrRerun, NonSuccessKind, is_of, kind_at, last_of,
 };
 use build_records::the_refusal::{Cause, NOWHERE};
 use build_records::the_tree_record::{bit, field, has_bit, kind, put_bit, put_field, word};
@@ -79,11 +79,11 @@ fn family_of(b: Builder, words: &[u32]) -> FlakyOrRerun
 }
 
 // A run of the open case's failure or error.
-fn take_run(b: Builder, records: &mut [u32], k: NonSuccessKind) -> Step
+fn take_run(b: Builder, records: &mut [u32], k: NonSuccessKind) -> Result<Builder, Cause>
     ensures { (text : List ℕ) → draft_of result records.new text ≡ add_to_main k (record { builder = b; words = records.old; text = text }) }
 {
     if !is_non_success(b, records) {
-        return Step::Not(Cause::NotLayout);
+        return Err(Cause::NotLayout);
     }
     let family = family_of(b, records);
     let at = least((b.main as usize) * 32, records.len());
@@ -92,11 +92,11 @@ fn take_run(b: Builder, records: &mut [u32], k: NonSuccessKind) -> Step
 }
 
 // A run of the open case (rule B9).
-pub fn open_run(b: Builder, records: &mut [u32], k: NonSuccessKind) -> Step
+pub fn open_run(b: Builder, records: &mut [u32], k: NonSuccessKind) -> Result<Builder, Cause>
     ensures { (text : List ℕ) → draft_of result records.new text ≡ add_rerun k (record { builder = b; words = records.old; text = text }) }
 {
     if !is_of(b, records, b.case, kind::CASE) {
-        return Step::Not(Cause::NotLayout);
+        return Err(Cause::NotLayout);
     }
     if b.main == NOWHERE {
         return take_record(b, records, run_kind(FlakyOrRerun::Flaky, k));
@@ -125,28 +125,26 @@ fn turn_runs(records: &mut [u32], family: FlakyOrRerun, from: usize, to: usize)
     requires { to ≤ 65536 }
     ensures { records.new ≡ turn_runs family from (to - from) records.old }
 {
-    let mut i = from;
-    while i < to {
+    for i in from..to {
         let at = least(i * 32, records.len());
         turn(&mut records[at..], family);
-        i += 1;
     }
 }
 
 // Sets the family of the runs of the open case's failure or error (rule B4), also while there are none.
-pub fn turn_case(b: Builder, records: &mut [u32], family: FlakyOrRerun) -> Step
+pub fn turn_case(b: Builder, records: &mut [u32], family: FlakyOrRerun) -> Result<Builder, Cause>
     ensures { (text : List ℕ) → draft_of result records.new text ≡ set_rerun_kind family (record { builder = b; words = records.old; text = text }) }
 {
     if !is_non_success(b, records) {
-        return Step::Not(Cause::NotLayout);
+        return Err(Cause::NotLayout);
     }
     let from = (b.main as usize) + 1;
     let to = b.records as usize;
     if from != to {
         turn_runs(records, family, from, to);
-        return Step::Done(b);
+        return Ok(b);
     }
     let at = least((b.main as usize) * 32, records.len());
     flag(&mut records[at..], family);
-    Step::Done(b)
+    Ok(b)
 }

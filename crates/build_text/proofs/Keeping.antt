@@ -9,9 +9,8 @@ use lib.ListN.{length, take, drop, take-append-drop}
 use lib.Seq.{drop-append-le, drop-drop}
 use borrow.Author.Tests.{le-leb, lt-leb, leb-true, not-true, not-false}
 use borrow.Rule.Slice.PartMut.{put_mid}
+use Rattle.std.specs.Prelude.{Option, Some, None, Ok, Err}
 use Rattle.build_draft.specs.of_area.Area.{stored_answer, placing, laid}
-use Rattle.build_draft.specs.of_area.declared.Stored.{Stored}
-use Rattle.build_draft.specs.of_area.declared.Stored.TheVariants.{Put, Full}
 use Rattle.build_draft.proofs.of_area.Laying.{laid-fits, put-fits, full-over}
 use Rattle.build_draft.proofs.of_area.Parts.{length_part}
 use Rattle.build_draft.specs.of_utf8.Utf8.{utf8}
@@ -19,7 +18,6 @@ use Rattle.build_draft.specs.of_refusal.Refusal.{Outcome, accepted}
 use Rattle.build_draft.specs.of_refusal.declared.Cause.{Cause}
 use Rattle.build_draft.specs.of_refusal.declared.Cause.TheVariants as cause
 use Rattle.build_draft.specs.declared.Builder.{Builder}
-use Rattle.build_draft.specs.declared.Step.TheVariants.{Done, Not}
 use Rattle.build_draft.specs.Draft.{Draft, draft_of, asks, bytes_for}
 use Rattle.build_draft.specs.Parts.{text_for, put_at, keeping}
 use Rattle.build_draft.proofs.Steps.{plain}
@@ -32,7 +30,7 @@ module _ (b : Builder) (text s : List ℕ) (lossy : Bool) where
   abbrev stored : List ℕ
   stored = text_for lossy s
 
-  pub kept-foul : {t : Bool} → t ≡ not (lossy || utf8 s) → t ≡ true → (words text' : List ℕ) → draft_of (Not cause.NotUtf8) words text' ≡ keeping lossy s (plain b words text)
+  pub kept-foul : {t : Bool} → t ≡ not (lossy || utf8 s) → t ≡ true → (words text' : List ℕ) → draft_of (Err cause.NotUtf8) words text' ≡ keeping lossy s (plain b words text)
   unfolding keeping asks draft_of
   kept-foul e h words text' = rw (not-true (lossy || utf8 s) (sym e ∙ h)) refl
 
@@ -40,25 +38,25 @@ module _ (b : Builder) (text s : List ℕ) (lossy : Bool) where
     passed : (lossy || utf8 s) ≡ true
     passed = not-false (lossy || utf8 s) (sym e ∙ h)
 
-    full : bytes_for text < b.bytes + length stored → (words text' : List ℕ) → draft_of (Not cause.TextFull) words text' ≡ keeping lossy s (plain b words text)
+    full : bytes_for text < b.bytes + length stored → (words text' : List ℕ) → draft_of (Err cause.TextFull) words text' ≡ keeping lossy s (plain b words text)
     unfolding keeping asks draft_of
     full f words text' = rw (passed, lt-leb (b.bytes + length stored) (bytes_for text) f) refl
 
     -- the texts that are there end behind what may be used
-    pub kept-behind : {m : ℕ} → m ≡ bytes_for text → m < b.bytes → (words text' : List ℕ) → draft_of (Not cause.TextFull) words text' ≡ keeping lossy s (plain b words text)
+    pub kept-behind : {m : ℕ} → m ≡ bytes_for text → m < b.bytes → (words text' : List ℕ) → draft_of (Err cause.TextFull) words text' ≡ keeping lossy s (plain b words text)
     kept-behind {m} q f = full (omega arith)
 
     module _ {m : ℕ} (q : m ≡ bytes_for text) (f : b.bytes ≤ m) where
       inside : m ≤ length text
       inside = omega arith
 
-      pub kept_full : {p : Stored} → p ≡ Full → stored_answer cause.TextFull p ≡ placing cause.TextFull (length (take (m - b.bytes) (drop b.bytes text))) stored
-          → (words text' : List ℕ) → draft_of (Not cause.TextFull) words text' ≡ keeping lossy s (plain b words text)
+      pub kept_full : {p : Option ℕ} → p ≡ None → stored_answer cause.TextFull p ≡ placing cause.TextFull (length (take (m - b.bytes) (drop b.bytes text))) stored
+          → (words text' : List ℕ) → draft_of (Err cause.TextFull) words text' ≡ keeping lossy s (plain b words text)
       kept_full {p} g a =
           let o = full-over cause.TextFull (length (take (m - b.bytes) (drop b.bytes text))) stored (sym (ap (stored_answer cause.TextFull) g) ∙ a) in
           let n = length_part text b.bytes m inside in full (omega arith)
 
-      module _ {p : Stored} {n : ℕ} (g : p ≡ Put n) (a : stored_answer cause.TextFull p ≡ placing cause.TextFull (length (take (m - b.bytes) (drop b.bytes text))) stored) where
+      module _ {p : Option ℕ} {n : ℕ} (g : p ≡ Some n) (a : stored_answer cause.TextFull p ≡ placing cause.TextFull (length (take (m - b.bytes) (drop b.bytes text))) stored) where
         fitted : (length stored ≤ length (take (m - b.bytes) (drop b.bytes text))) × (n ≡ length stored)
         fitted = put-fits cause.TextFull (length (take (m - b.bytes) (drop b.bytes text))) stored n (sym (ap (stored_answer cause.TextFull) g) ∙ a)
 
@@ -76,7 +74,7 @@ module _ (b : Builder) (text s : List ℕ) (lossy : Bool) where
             (sym (drop-append-le (length stored) (take k l) (drop k l) fitted.0) ∙ ap (drop (length stored)) (take-append-drop k l) ∙ drop-drop (length stored) b.bytes text))
 
         pub kept-done : {ys : List ℕ} → ys ≡ laid (take (m - b.bytes) (drop b.bytes text)) stored
-            → (words : List ℕ) → draft_of (Done (with_bytes (b.bytes + n) b)) words (put_mid b.bytes (m - b.bytes) text ys) ≡ keeping lossy s (plain b words text)
+            → (words : List ℕ) → draft_of (Ok (with_bytes (b.bytes + n) b)) words (put_mid b.bytes (m - b.bytes) text ys) ≡ keeping lossy s (plain b words text)
         unfolding keeping asks draft_of
         kept-done {ys} y words =
             let l = length_part text b.bytes m inside in

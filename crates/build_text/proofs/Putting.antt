@@ -7,19 +7,16 @@ use native.Mathlib.Omega.{arith}
 use lib.ListN.{length, take, drop, set, drop_of_length-le}
 use lib.Seq.{take_all}
 use borrow.Rule.Slice.PartMut.{put_mid}
+use Rattle.std.specs.Prelude.{Result, Ok, Err}
 use Rattle.build_draft.proofs.of_area.Parts.{rest_part, rest_back}
 use Rattle.build_draft.specs.of_refusal.Refusal.{Outcome, accepted}
 use Rattle.build_draft.specs.of_refusal.declared.Cause.{Cause}
 use Rattle.build_draft.specs.of_refusal.declared.Cause.TheVariants as cause
-use Rattle.build_draft.specs.of_tree_record.Words as word
-use Rattle.build_draft.specs.of_tree_record.Bits as bit
 use Rattle.build_draft.specs.of_tree_record.Record.{mask_of, has_bit, marked}
 use Rattle.build_draft.specs.of_tree_put.Put.{put_text}
 use Rattle.build_draft.specs.declared.Builder.{Builder}
-use Rattle.build_draft.specs.declared.Step.{Step}
-use Rattle.build_draft.specs.declared.Step.TheVariants.{Done, Not}
-use Rattle.build_draft.specs.Draft.{Draft, draft_of, ◌>>=◌, asks, is_record, on_record_of, last_of, with_words, next}
-use Rattle.build_draft.specs.Parts.{text_for, keeping, putting, naming}
+use Rattle.build_draft.specs.Draft.{Draft, draft_of, ◌>>=◌, asks, is_record, on_record_of, with_words}
+use Rattle.build_draft.specs.Parts.{text_for, keeping, putting}
 use Rattle.build_text.proofs.Keeping.{is-kept}
 use Rattle.build_draft.proofs.Steps.{plain, then-refused, then-done, is-done}
 
@@ -49,38 +46,28 @@ module _ (b : Builder) (words text s : List ℕ) (i o k : ℕ) (lossy : Bool) wh
   into : Draft → Outcome Draft
   into e = accepted (with_words e (on_record_of i (put_text o k b.bytes (length (text_for lossy s))) e.words))
 
-  pub put-nowhere : is_record b words i ≡ false → (words' text' : List ℕ) → draft_of (Not cause.NotLayout) words' text' ≡ putting i o k lossy s (plain b words text)
+  pub put-nowhere : is_record b words i ≡ false → (words' text' : List ℕ) → draft_of (Err cause.NotLayout) words' text' ≡ putting i o k lossy s (plain b words text)
   unfolding putting asks draft_of
   put-nowhere e words' text' = rw e refl
 
-  module _ (e : is_record b words i ≡ true) (step : Step) (text' : List ℕ) (h : (w : List ℕ) → draft_of step w text' ≡ keeping lossy s (plain b w text)) where
+  module _ (e : is_record b words i ≡ true) (step : Result Builder Cause) (text' : List ℕ) (h : (w : List ℕ) → draft_of step w text' ≡ keeping lossy s (plain b w text)) where
     is-put : (keeping lossy s (plain b words text) >>= into) ≡ putting i o k lossy s (plain b words text)
     unfolding putting asks into
     is-put = rw e refl
 
-    pub put_refused : {why : Cause} → step ≡ Not why → draft_of step words text' ≡ putting i o k lossy s (plain b words text)
+    pub put_refused : {why : Cause} → step ≡ Err why → draft_of step words text' ≡ putting i o k lossy s (plain b words text)
     put_refused g = then-refused step words text' into words text' g (h words) ∙ is-put
 
-    module _ {c : Builder} (g : step ≡ Done c) where
+    module _ {c : Builder} (g : step ≡ Ok c) where
       longer : c.bytes ≡ b.bytes + length (text_for lossy s)
       longer = ap (λ (x : Draft). x.builder.bytes) (is-kept lossy s (plain b words text) (plain c words text') (is-done step words text' g (h words))).made
 
       pub put-longer : b.bytes ≤ c.bytes
       put-longer = let l = longer in omega arith
 
-      pub put-done : {words' : List ℕ} → words' ≡ on_record_of i (put_text o k b.bytes (c.bytes - b.bytes)) words → draft_of (Done c) words' text' ≡ putting i o k lossy s (plain b words text)
+      pub put-done : {words' : List ℕ} → words' ≡ on_record_of i (put_text o k b.bytes (c.bytes - b.bytes)) words → draft_of (Ok c) words' text' ≡ putting i o k lossy s (plain b words text)
       unfolding draft_of into
       put-done {words'} w =
           let l = longer in
           let n : c.bytes - b.bytes ≡ length (text_for lossy s) = omega arith in
           ap (λ (x : List ℕ). accepted (plain c x text')) (w ∙ ap (λ (x : ℕ). on_record_of i (put_text o k b.bytes x) words) n) ∙ then-done step words text' into g (h words) ∙ is-put
-
--- ---- a name
-module _ (step : Step) (words text s : List ℕ) where
-  pub named-refused : {why : Cause} → step ≡ Not why → draft_of step words text ≡ next (draft_of step words text) (naming s)
-  named-refused e = then-refused step words text (naming s) words text e refl
-
-  pub named-done : {b : Builder} {i : ℕ} {m : Outcome Draft} → step ≡ Done b → i ≡ last_of b
-      → m ≡ putting i word.name bit.name false s (plain b words text) → m ≡ next (draft_of step words text) (naming s)
-  unfolding naming
-  named-done {b} e f h = h ∙ ap (λ (x : ℕ). putting x word.name bit.name false s (plain b words text)) f ∙ then-done step words text (naming s) e refl

@@ -10,7 +10,7 @@ ghost use Rattle.build_draft.specs.Draft.{draft_of, on_record_of, next};
 ghost use Rattle.build_draft.specs.Parts.{text_for, keeping, putting, naming};
 
 pub use build_draft as the_build_draft;
-use build_draft::the_area::{Stored, least, limit};
+use build_draft::the_area::{least, limit};
 use build_draft::the_refusal::Cause;
 use build_draft::the_text_filter::store;
 use build_draft::the_text_lossy::store_lossy;
@@ -18,55 +18,43 @@ use build_draft::the_tree_put::put_text;
 use build_draft::the_tree_record::{bit, word};
 use build_draft::the_utf8::is_utf8;
 pub use build_draft::{the_refusal, the_timestamp, the_uuids};
-use build_draft::{Builder, Step, is_record, last_of};
+use build_draft::{Builder, is_record, last_of};
 
-// A text that goes in as it is.
-fn store_plain(out: &mut [u8], s: &[u8]) -> Stored
-    ensures result_value { stored_answer cause.TextFull result ≡ placing cause.TextFull (length out.old) (text_for false s.now) }
-    ensures out_after { out.new ≡ laid out.old (text_for false s.now) }
-{
-    store(out, s)
-}
-
-fn store_text(out: &mut [u8], s: &[u8], lossy: bool) -> Stored
+fn store_text(out: &mut [u8], s: &[u8], lossy: bool) -> Option<usize>
     ensures result_value { stored_answer cause.TextFull result ≡ placing cause.TextFull (length out.old) (text_for lossy s.now) }
     ensures out_after { out.new ≡ laid out.old (text_for lossy s.now) }
 {
     if lossy {
-        return store_lossy(out, s);
+        store_lossy(out, s)
+    } else {
+        store(out, s)
     }
-    store_plain(out, s)
 }
 
 // A text that goes in as it is must be UTF-8.
 fn is_refused(s: &[u8], lossy: bool) -> bool
     ensures { result ≡ not (lossy || utf8 s.now) }
 {
-    if lossy {
-        return false;
-    }
-    !is_utf8(s)
+    !lossy && !is_utf8(s)
 }
 
 // Stores a text behind the texts already there (rule B6).
-pub fn keep(b: Builder, text: &mut [u8], s: &[u8], lossy: bool) -> Step
+pub fn keep(b: Builder, text: &mut [u8], s: &[u8], lossy: bool) -> Result<Builder, Cause>
     ensures { (words : List ℕ) → draft_of result words text.new ≡ keeping lossy s.now (record { builder = b; words = words; text = text.old }) }
 {
     if is_refused(s, lossy) {
-        return Step::Not(Cause::NotUtf8);
+        return Err(Cause::NotUtf8);
     }
     let limit = least(text.len(), limit::BYTES);
     let fill = b.bytes as usize;
     if limit < fill {
-        return Step::Not(Cause::TextFull);
+        return Err(Cause::TextFull);
     }
-    let put = store_text(&mut text[fill..limit], s, lossy);
-    let Stored::Put(n) = put else {
-        return Step::Not(Cause::TextFull);
-    };
-    let mut kept = b;
-    kept.bytes = (fill + n) as u32;
-    Step::Done(kept)
+    let n = store_text(&mut text[fill..limit], s, lossy).ok_or(Cause::TextFull)?;
+    Ok(Builder {
+        bytes: (fill + n) as u32,
+        ..b
+    })
 }
 
 // The text of n bytes from `start` on, in record i.
@@ -90,27 +78,28 @@ pub fn put_at(
     k: u32,
     s: &[u8],
     lossy: bool,
-) -> Step
+) -> Result<Builder, Cause>
     ensures { draft_of result records.new text.new ≡ putting i o k lossy s.now (record { builder = b; words = records.old; text = text.old }) }
 {
     if !is_record(b, records, i) {
-        return Step::Not(Cause::NotLayout);
+        return Err(Cause::NotLayout);
     }
-    let kept = keep(b, text, s, lossy);
-    let Step::Done(c) = kept else {
-        return kept;
-    };
+    let c = keep(b, text, s, lossy)?;
     put_into(records, i, o, k, b.bytes, c.bytes - b.bytes);
-    Step::Done(c)
+    Ok(c)
 }
 
 // The name of the record that was taken last.
-pub fn put_name(step: Step, records: &mut [u32], text: &mut [u8], name: &[u8]) -> Step
+#[tactic(auto, unfolding(build_draft::specs::Parts::naming))]
+pub fn put_name(
+    step: Result<Builder, Cause>,
+    records: &mut [u32],
+    text: &mut [u8],
+    name: &[u8],
+) -> Result<Builder, Cause>
     ensures { draft_of result records.new text.new ≡ next (draft_of step records.old text.old) (naming name.now) }
 {
-    let Step::Done(b) = step else {
-        return step;
-    };
+    let b = step?;
     put_at(
         b,
         records,

@@ -3,9 +3,10 @@
 #![tactic(auto)]
 
 ghost use Rattle.std.specs.Prelude.{◌≡◌, length};
-ghost use Rattle.build_elements.specs.of_build_draft.Draft.{built_from, words_left_of, text_left};
+ghost use Rattle.build_elements.specs.of_build_draft.Draft.{draft_of, built_from, words_left_of, text_left};
 ghost use Rattle.build_elements.specs.of_build_draft.Calls.{unnamed_report, new_report, add_test_suite, add_test_case, add_rerun, add_property, add_extra, finish};
 
+use build_elements::the_build_draft::the_refusal::Cause;
 use build_elements::the_build_draft::{Builder, Built, Holder, NonSuccessKind, settle};
 use build_elements::the_build_kinds::{extra_kind, property_kind};
 use build_elements::the_tree_counts::Outcome;
@@ -24,15 +25,34 @@ pub fn unnamed_report(records: &mut [u32], text: &mut [u8]) -> Built
     settle(step, records, text)
 }
 
+// A report with its name.
+fn open_named(records: &mut [u32], text: &mut [u8], name: &[u8]) -> Result<Builder, Cause>
+    ensures { draft_of result records.new text.new ≡ new_report name.now (length records.old) (length text.old) }
+{
+    let step = open_report(records, text);
+    put_name(step, records, text, name)
+}
+
 // By rule B1.
 pub fn new_report(records: &mut [u32], text: &mut [u8], name: &[u8]) -> Built
     ensures value { result ≡ built_from (new_report name.now (length records.old) (length text.old)) }
     ensures records_after { records.new ≡ words_left_of (length records.old) (new_report name.now (length records.old) (length text.old)) }
     ensures text_after { text.new ≡ text_left (length text.old) (new_report name.now (length records.old) (length text.old)) }
 {
-    let step = open_report(records, text);
-    let named = put_name(step, records, text, name);
-    settle(named, records, text)
+    let step = open_named(records, text, name);
+    settle(step, records, text)
+}
+
+fn begin_suite(
+    b: Builder,
+    records: &mut [u32],
+    text: &mut [u8],
+    name: &[u8],
+) -> Result<Builder, Cause>
+    ensures { draft_of result records.new text.new ≡ add_test_suite name.now (record { builder = b; words = records.old; text = text.old }) }
+{
+    let step = open_suite(b, records);
+    put_name(step, records, text, name)
 }
 
 // By rule B2. The suite is open from then on; the one before is added to the report's sums (rule B8).
@@ -41,9 +61,22 @@ pub fn add_test_suite(b: Builder, records: &mut [u32], text: &mut [u8], name: &[
     ensures records_after { records.new ≡ words_left_of (length records.old) (add_test_suite name.now (record { builder = b; words = records.old; text = text.old })) }
     ensures text_after { text.new ≡ text_left (length text.old) (add_test_suite name.now (record { builder = b; words = records.old; text = text.old })) }
 {
-    let step = open_suite(b, records);
+    let step = begin_suite(b, records, text, name);
+    settle(step, records, text)
+}
+
+fn begin_case(
+    b: Builder,
+    records: &mut [u32],
+    text: &mut [u8],
+    name: &[u8],
+    outcome: Outcome,
+) -> Result<Builder, Cause>
+    ensures { draft_of result records.new text.new ≡ add_test_case name.now outcome (record { builder = b; words = records.old; text = text.old }) }
+{
+    let step = open_case(b, records, outcome);
     let named = put_name(step, records, text, name);
-    settle(named, records, text)
+    open_main(named, records, outcome)
 }
 
 // By rules B2 and B5. The case is open from then on; its status counts at once (rule B8).
@@ -59,10 +92,8 @@ pub fn add_test_case(
         ≡ words_left_of (length records.old) (add_test_case name.now outcome (record { builder = b; words = records.old; text = text.old })) }
     ensures text_after { text.new ≡ text_left (length text.old) (add_test_case name.now outcome (record { builder = b; words = records.old; text = text.old })) }
 {
-    let step = open_case(b, records, outcome);
-    let named = put_name(step, records, text, name);
-    let whole = open_main(named, records, outcome);
-    settle(whole, records, text)
+    let step = begin_case(b, records, text, name, outcome);
+    settle(step, records, text)
 }
 
 // A run of the open case.

@@ -3,11 +3,11 @@ use Prim.Native.Nat.{ℕ}
 use mathlib.Core.Path.{◌≡◌, refl, ap, ◌∙◌}
 use mathlib.Core.List.{List}
 use mathlib.Core.Bool.{Bool, true, false, cond, not, ◌&&◌, ◌||◌, or-true, or-false}
+use Rattle.std.specs.Prelude.{Err}
 use Rattle.build_text.specs.of_refusal.Refusal.{Outcome}
 use Rattle.build_text.specs.of_refusal.declared.Cause.TheVariants as cause
 use Rattle.build_text.specs.of_build_draft.declared.Element.{Element}
 use Rattle.build_text.specs.of_build_draft.declared.TextField.{TextField}
-use Rattle.build_text.specs.of_build_draft.declared.Step.TheVariants.{Not}
 use Rattle.build_text.specs.of_build_draft.Draft.{Draft, asks, draft_of, kind_at, mark_of}
 use Rattle.build_text.specs.of_build_draft.Parts.{putting, has_text, word_for, bit_for, is_output}
 use Rattle.build_text.specs.of_build_draft.Calls.{set_text, set_output_lossy}
@@ -34,7 +34,7 @@ either true e f s d = rw (or-false (is_output f)) refl
 either false e f s d = rw (or-true (is_output f)) refl
 
 module _ (lossy : Bool) (e : Element) (f : TextField) (s : List ℕ) (d : Draft) {r : Bool} (same : r ≡ apt lossy e f s d) where
-  pub field-lacking : not r ≡ true → (words text : List ℕ) → draft_of (Not cause.NotLayout) words text ≡ set_either lossy e f s d
+  pub field-lacking : not r ≡ true → (words text : List ℕ) → draft_of (Err cause.NotLayout) words text ≡ set_either lossy e f s d
   unfolding asks draft_of
   field-lacking h words text = rw (either lossy e f s d, fails same h) refl
 

@@ -10,7 +10,7 @@ use build_fields::{bit_for, clock, has_text, identify, is_output, number, stamp,
 use build_runs::turn_case;
 use build_text::put_at;
 use build_text::the_build_draft::{
-    Builder, Built, Element, FlakyOrRerun, NumberField, Step, TextField, kind_at, mark_of, settle,
+    Builder, Built, Element, FlakyOrRerun, NumberField, TextField, kind_at, mark_of, settle,
 };
 use build_text::the_refusal::Cause;
 use build_text::the_timestamp::Moment;
@@ -25,7 +25,7 @@ fn write_field(
     field: TextField,
     s: &[u8],
     lossy: bool,
-) -> Step
+) -> Result<Builder, Cause>
     ensures { draft_of result records.new text.new ≡ cond lossy (set_output_lossy element field s.now (record {
       builder = b;
       words = records.old;
@@ -34,7 +34,7 @@ fn write_field(
 {
     let i = mark_of(b, element);
     if !((is_output(field) | !lossy) & has_text(kind_at(records, i), field)) {
-        return Step::Not(Cause::NotLayout);
+        return Err(Cause::NotLayout);
     }
     put_at(
         b,

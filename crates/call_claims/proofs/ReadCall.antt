@@ -12,9 +12,8 @@ use Rattle.explain_text.specs.of_refusal.Refusal.{number, OfRules, Refused, Outc
 use Rattle.explain_text.specs.of_refusal.declared.Cause.{Cause}
 use Rattle.explain_text.specs.of_refusal.declared.Cause.TheVariants as cause
 use Rattle.explain_text.specs.of_table.Event.{resolve}
-use Rattle.explain_text.specs.of_table.Table.{check_of, checked_answer, table_of}
-use Rattle.explain_text.specs.of_table.declared.Checked.{Checked}
-use Rattle.explain_text.specs.of_table.declared.Checked.TheVariants.{Good, Bad}
+use Rattle.explain_text.specs.of_table.Table.{check_of, checked_answer, table_of, Checked}
+use Rattle.std.specs.Prelude.{Ok, Err}
 use Rattle.xml_listing.specs.of_read_element.Outcome.{◌>>=◌, rooms_of}
 use Rattle.xml_listing.proofs.of_read_element.Rooms.{IsShort}
 use Rattle.xml_listing.specs.of_read_machine.Machine.{Machine, run, begin}
@@ -95,12 +94,12 @@ not_table c (inr (inr (inr h))) e = absurd (omega arith)
 
 -- ---- reading
 told-table : (c : Checked) → Told (checked_answer c)
-told-table Good = fine
-told-table (Bad i j) = told (lit≤ tt)
+told-table (Ok u) = fine
+told-table (Err (i, j)) = told (lit≤ tt)
 
 pathless-table : (c : Checked) (why : Refused) → checked_answer c ≡ refused why → why.path ≡ []
-pathless-table Good why e = let z : ◌≡◌ {A = ℕ} 0 1 = cc in absurd (omega arith)
-pathless-table (Bad i j) why e = let z : record { cause = cause.BadTable; path = []; event = i; attribute = j } ≡ why = cc in sym (ap (λ (x : Refused). x.path) z)
+pathless-table (Ok u) why e = let z : ◌≡◌ {A = ℕ} 0 1 = cc in absurd (omega arith)
+pathless-table (Err (i, j)) why e = let z : record { cause = cause.BadTable; path = []; event = i; attribute = j } ≡ why = cc in sym (ap (λ (x : Refused). x.path) z)
 
 told-as : (n m k : ℕ) {o : Outcome Machine} → Told o → Told (read_as n m k o).outcome
 unfolding read_as

@@ -8,7 +8,7 @@ use borrow.Author.Tests.{lt-leb, leb-true, leb-false, eq-eqb, ne_eqb}
 use lib.Dec.{leb, eqb}
 use Rattle.table_events.specs.of_names.Tags.{tag_of}
 use Rattle.table_events.specs.of_table.Table.{word, count_of}
-use Rattle.table_events.specs.of_table.Event.{Attribute, Event, Tag, Start, Empty, End, Piece, Text, CData, Ref, Other, Indent, Eof, Fault, kind_at, bytes_at, attributes_from, event_of, event_at, resolve_from, resolve}
+use Rattle.table_events.specs.of_table.Event.{Attribute, Tag, End, Piece, Text, CData, Ref, Other, Indent, Eof, Fault, kind_at, bytes_at, attributes_from, event_of, event_at, resolve_from, resolve}
 use Rattle.table_events.proofs.of_table.Resolving.{event-of-kind, resolve-end, resolve-next}
 use Rattle.table_events.proofs.Numbered.{bytes-in}
 use Rattle.case_tags.specs.Tags.{case_tag, case_tags}

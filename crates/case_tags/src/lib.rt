@@ -29,12 +29,9 @@ fn case_tag(events: &[u32], source: &[u8], i: usize) -> usize
 pub fn case_tags(events: &[u32], source: &[u8]) -> usize
     ensures { (attributes : List ℕ) → result ≡ case_tags (resolve events.now attributes source.now) }
 {
-    let n = events.len() / 5;
-    let mut count: usize = 0;
-    let mut i = 0;
-    while i < n {
+    let mut count = 0;
+    for i in 0..events.len() / 5 {
         count += case_tag(events, source, i);
-        i += 1;
     }
     count
 }

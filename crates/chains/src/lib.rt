@@ -13,10 +13,8 @@ pub fn hash_from(from: usize, bytes: &[u8]) -> usize
     ensures { result ≡ hash_from from bytes.now }
 {
     let mut h = from;
-    let mut i = 0;
-    while i < bytes.len() {
-        h = (h * 16777619 + h / 65536 + bytes[i] as usize) % 4294967296;
-        i += 1;
+    for b in bytes {
+        h = (h * 16777619 + h / 65536 + *b as usize) % 4294967296;
     }
     h
 }

@@ -1,10 +1,10 @@
 -- The next byte that would be stored for a key, piece by piece. Assumes nothing.
 use Prim.Native.Nat.{ℕ, ◌+◌, ◌-◌, ◌≤◌, ◌<◌}
-use mathlib.Core.Path.{◌≡◌, refl, sym, ap, subst, ◌∙◌}
+use mathlib.Core.Path.{◌≡◌, refl, sym, ap, ◌∙◌}
 use mathlib.Core.List.{List, [], ◌∷◌, ◌++◌}
 use mathlib.Core.Bool.{true}
 use native.Mathlib.Omega.{arith}
-use lib.ListN.{length, get_or, take, drop, length-append}
+use lib.ListN.{length, get_or, take, drop}
 use lib.Seq.{drop-append-add, drop-append-le, drop-nil}
 use Rattle.text_key.proofs.of_area.Lists.{drop-next}
 use Rattle.text_key.specs.of_text.Decode.{cleaned, piece_of, piece_width, Pieced}

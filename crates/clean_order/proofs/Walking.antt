@@ -1,15 +1,14 @@
 -- Two keys for which as many bytes would be stored are compared byte by byte. Assumes nothing.
-use Prim.Native.Nat.{ℕ, min, ◌+◌, ◌≤◌, ◌<◌}
-use mathlib.Core.Path.{◌≡◌, refl, sym, ap, subst, ◌∙◌}
-use mathlib.Core.List.{List, [], ◌∷◌}
+use Prim.Native.Nat.{ℕ, ◌+◌, ◌≤◌, ◌<◌}
+use mathlib.Core.Path.{◌≡◌, refl, sym, ap, ◌∙◌}
+use mathlib.Core.List.{List, ◌∷◌}
 use mathlib.Core.Bool.{Bool, true, false}
 use native.Mathlib.Omega.{arith}
 use lib.ListN.{length, get_or, drop, length-drop}
-use lib.Seq.{get_or-drop}
 use lib.Dec.{leb, ltb}
 use Rattle.text_key.proofs.of_area.Lists.{drop-next}
 use Rattle.text_key.specs.of_text.Value.{value_text}
-use Rattle.key_order.specs.inside.KeyOrder.{common_length, comes}
+use Rattle.key_order.specs.inside.KeyOrder.{comes}
 use Rattle.key_order.proofs.Commoning.{Commoning, commoning-start, commoning-more, commoning_unlike, commoning-done}
 use Rattle.key_order.proofs.Testing.{by_length, by_number, by_byte}
 use Rattle.key_order.specs.of_table.Event.{key_at}

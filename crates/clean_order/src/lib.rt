@@ -38,6 +38,7 @@ fn next_of(key: &[u8], at: usize, passed: usize) -> Next
 {
     let mut i = at;
     let mut left = passed;
+    // while: each step passes a whole piece.
     while i < key.len() {
         let p = piece_of(&key[i..], true);
         let n = p.n;
@@ -66,20 +67,18 @@ fn walk(a: &[u8], b: &[u8], n: usize, i: u32, j: u32) -> bool
     requires n_value_2 { n ≡ length (value_text b.now) }
     ensures { result ≡ comes (value_text a.now) (value_text b.now) i j }
 {
-    let mut k = 0;
     let mut x = Next {
         byte: 0,
         at: 0,
         passed: 0,
     };
     let mut y = x;
-    while k < n {
+    for _ in 0..n {
         x = next_of(a, x.at, x.passed);
         y = next_of(b, y.at, y.passed);
         if x.byte != y.byte {
             return x.byte < y.byte;
         }
-        k += 1;
     }
     i <= j
 }

@@ -5,35 +5,37 @@ use mathlib.Core.Bool.{Bool, true, false, ◌&&◌, ◌||◌, and_assoc, and-tru
 use mathlib.Core.List.{List}
 use lib.Dec.{eqb}
 use lib.ListN.{get_or}
-use Rattle.fixed.specs.Fields.{part, all, field_of}
-use Rattle.fixed.specs.declared.Field.{Field}
-use Rattle.fixed.proofs.Tests.{passes}
-use Rattle.fixed.proofs.Numerals.{field-good, field-number}
+use Rattle.std.specs.Prelude.{Some, None}
+use Rattle.fixed.specs.of_digits.Digits.{number_in}
+use Rattle.fixed.specs.Fields.{part, all}
+use Rattle.fixed.proofs.of_digits.Numbers.{is-number}
+use Rattle.fixed.proofs.Tests.{fails}
 use Rattle.clock.specs.Clock.{clock_tests}
 use Rattle.clock.specs.inside.Leaves.{clock_of}
-use Rattle.clock.specs.declared.Clock.TheVariants.{At, NoClock}
 
-module _ (s : List ℕ) (h m x : Field)
-    (eh : h ≡ field_of 10 23 (part 11 2 s)) (em : m ≡ field_of 10 59 (part 14 2 s)) (ex : x ≡ field_of 10 59 (part 17 2 s)) where
-  abbrev clock_flag : Bool
-  clock_flag = (eqb (get_or s 10 0) 0x54 || eqb (get_or s 10 0) 0x74) && h.good && eqb (get_or s 13 0) 0x3A && m.good && eqb (get_or s 16 0) 0x3A && x.good
-
-  clock-tests : clock_flag ≡ all (clock_tests s)
-  clock-tests =
-      rw (field-good 10 23 (part 11 2 s) h eh, field-good 10 59 (part 14 2 s) m em, field-good 10 59 (part 17 2 s) x ex)
-      (simp (and_assoc, and-true))
-
-  pub clock-wrong : clock_flag ≡ false → NoClock ≡ clock_of s
+module _ (s : List ℕ) where
+  pub no_clock : all (clock_tests s) ≡ false → None ≡ clock_of s
   unfolding clock_of
-  clock-wrong e = rw (sym clock-tests ∙ e)
+  no_clock e = rw e
 
-  pub clock-right : clock_flag ≡ true → At h.number m.number x.number ≡ clock_of s
-  unfolding clock_of
-  clock-right e =
-      let t : all (clock_tests s) ≡ true = sym clock-tests ∙ e in
-      rw (
-        t,
-        field-number 10 23 (part 11 2 s) h eh (field-good 10 23 (part 11 2 s) h eh ∙ passes (clock_tests s) 1 t),
-        field-number 10 59 (part 14 2 s) m em (field-good 10 59 (part 14 2 s) m em ∙ passes (clock_tests s) 3 t),
-        field-number 10 59 (part 17 2 s) x ex (field-good 10 59 (part 17 2 s) x ex ∙ passes (clock_tests s) 5 t),
-      )
+  -- a test that fails
+  pub clock-none : (k : ℕ) → get_or (clock_tests s) k true ≡ false → None ≡ clock_of s
+  clock-none k e = no_clock (fails (clock_tests s) k e)
+
+  -- the letter and the colons, between numbers
+  module _ (h m x : ℕ) (eh : Some h ≡ number_in 10 23 (part 11 2 s)) (em : Some m ≡ number_in 10 59 (part 14 2 s)) (ex : Some x ≡ number_in 10 59 (part 17 2 s)) where
+    abbrev marks : Bool
+    marks = (eqb (get_or s 10 0) 0x54 || eqb (get_or s 10 0) 0x74) && eqb (get_or s 13 0) 0x3A && eqb (get_or s 16 0) 0x3A
+
+    clock-tests : marks ≡ all (clock_tests s)
+    clock-tests =
+        rw ((is-number 10 23 (part 11 2 s) h eh).0, (is-number 10 59 (part 14 2 s) m em).0, (is-number 10 59 (part 17 2 s) x ex).0)
+        (simp (and_assoc, and-true))
+
+    pub clock-wrong : marks ≡ false → None ≡ clock_of s
+    clock-wrong e = no_clock (sym clock-tests ∙ e)
+
+    pub clock-right : marks ≡ true → Some (h, m, x) ≡ clock_of s
+    unfolding clock_of
+    clock-right e =
+        rw (sym clock-tests ∙ e, (is-number 10 23 (part 11 2 s) h eh).1, (is-number 10 59 (part 14 2 s) m em).1, (is-number 10 59 (part 17 2 s) x ex).1)

@@ -7,24 +7,17 @@ ghost use Rattle.clock.specs.inside.Leaves.{clock_of};
 pub use fixed as the_fixed;
 use fixed::decimal_at;
 
-// Hour, minute and second.
-#[derive(Clone, Copy)]
-pub enum Clock {
-    At(u8, u8, u8),
-    NoClock,
-}
-
-// By rule V7.
-pub fn clock_of(s: &[u8]) -> Clock
+// Hour, minute and second. By rule V7.
+pub fn clock_of(s: &[u8]) -> Option<(u8, u8, u8)>
     requires { 20 ≤ length s.now }
     ensures { result ≡ clock_of s.now }
 {
-    let hour = decimal_at(s, 11, 2, 23);
-    let minute = decimal_at(s, 14, 2, 59);
-    let second = decimal_at(s, 17, 2, 59);
+    let hour = decimal_at(s, 11, 2, 23)?;
+    let minute = decimal_at(s, 14, 2, 59)?;
+    let second = decimal_at(s, 17, 2, 59)?;
     let letter = (s[10] == 0x54) | (s[10] == 0x74);
-    if letter & hour.good & (s[13] == 0x3a) & minute.good & (s[16] == 0x3a) & second.good {
-        return Clock::At(hour.number as u8, minute.number as u8, second.number as u8);
+    if letter & (s[13] == 0x3a) & (s[16] == 0x3a) {
+        return Some((hour as u8, minute as u8, second as u8));
     }
-    Clock::NoClock
+    None
 }

@@ -1,12 +1,12 @@
 -- A text is put at the front of an area that has room for it, several bytes at a time, some of them twice. Assumes nothing.
-use Prim.Native.Nat.{ℕ, suc, ◌+◌, ◌-◌, ◌≤◌, ◌<◌}
+use Prim.Native.Nat.{ℕ, ◌+◌, ◌-◌, ◌≤◌, ◌<◌}
 use mathlib.Core.Path.{◌≡◌, refl, sym, ap, ◌∙◌}
-use mathlib.Core.List.{List, [], ◌∷◌, ◌++◌, append_assoc, append-nil}
+use mathlib.Core.List.{List, [], ◌∷◌, ◌++◌, append_assoc}
 use native.Mathlib.Omega.{arith}
 use native.Mathlib.Numerals.{add-one}
 use borrow.Rule.Slice.PartMut.{put_mid}
-use lib.ListN.{length, take, drop, set, get_or, length-append, length-set, length-drop, drop_of_length-le, take-append-drop}
-use lib.Seq.{take-suc, take-suc-set, drop-set-lt, drop-drop, take-take, take-add, take_at, drop_at, take_all, length-take-le, take-length}
+use lib.ListN.{length, take, drop, set, get_or, length-append, length-set, length-drop, take-append-drop}
+use lib.Seq.{take-suc, take-suc-set, drop-set-lt, drop-drop, take-take, take-add, take_at, drop_at, length-take-le, take-length}
 use Rattle.area.specs.Area.{laid}
 use Rattle.area.proofs.Laying.{laid-fits}
 use Rattle.area.proofs.Parts.{rest_part, rest_back}
@@ -98,16 +98,3 @@ pub copied-first : (s out : List ℕ) (n : ℕ) → length s ≤ length out → 
 copied-first s out n room h out' e =
     let z : 0 + n ≡ n = omega arith in
     rw z at (copied-part (copied-start s out room) 0 n (omega arith) (omega arith) (omega (arith, h)) out' e)
-
--- a text as long as the area
-pub laid_same : (out f : List ℕ) → length f ≡ length out → laid out f ≡ f
-laid_same out f e =
-    laid-fits out f (omega (arith, e)) ∙ ap (λ (z : List ℕ). f ++ z) (drop_of_length-le out {i = length f} (omega (arith, e))) ∙ append-nil f
-
--- by way of an array of that length
-pub by_way : (out room room' part out' : List ℕ) → length part ≡ length room → room' ≡ laid room part → out' ≡ laid out room' → out' ≡ laid out part
-by_way out room room' part out' n e w = w ∙ ap (laid out) (e ∙ laid_same room part n)
-
--- what is lent from p on has room for n bytes
-pub lent-room : (l : List ℕ) (p n : ℕ) → p + n ≤ length l → n ≤ length (take (length l - p) (drop p l))
-lent-room l p n h = rw (rest_part l p, length-drop p l) (omega arith)

@@ -1,50 +1,37 @@
-// Texts put at the front of an area in runs. Sixteen, eight or four bytes go by way of an array of their own, which nothing else can
-// reach: so the compiler moves them at once, where it can't know that two slices don't overlap.
+// Texts put at the front of an area in runs of sixteen, eight or four bytes: a copy whose length the compiler knows is no call.
 #![tactic(auto)]
 
-ghost use Rattle.std.specs.Prelude.{◌≡◌, ◌≤◌, length, take};
+ghost use Rattle.std.specs.Prelude.{◌≡◌, ◌+◌, ◌≤◌, length, take};
 ghost use Rattle.area.specs.Area.{stored_answer, placing, laid};
 ghost use Rattle.area.specs.of_refusal.declared.Cause.TheVariants as cause;
 
 pub use area as the_area;
-use area::Stored;
 
 fn copy_each(out: &mut [u8], s: &[u8])
     requires { length s.now ≤ length out.old }
     ensures { out.new ≡ laid out.old s.now }
 {
-    let mut i = 0;
-    while i < s.len() {
+    for i in 0..s.len() {
         out[i] = s[i];
-        i += 1;
     }
 }
 
-fn copy_sixteen(out: &mut [u8], s: &[u8])
-    requires { (16 ≤ length s.now) × (16 ≤ length out.old) }
-    ensures { out.new ≡ laid out.old (take 16 s.now) }
+// The first N bytes, which the compiler moves at once.
+fn copy_first<const N: usize>(out: &mut [u8], s: &[u8])
+    requires { (N ≤ length s.now) × (N ≤ length out.old) }
+    ensures { out.new ≡ laid out.old (take N s.now) }
 {
-    let mut room = [0u8; 16];
-    copy_each(&mut room, &s[..16]);
-    copy_each(out, &room);
+    out[..N].copy_from_slice(&s[..N]);
 }
 
-fn copy_eight(out: &mut [u8], s: &[u8])
-    requires { (8 ≤ length s.now) × (8 ≤ length out.old) }
-    ensures { out.new ≡ laid out.old (take 8 s.now) }
+// The first N bytes and the last N, which together are all.
+fn copy_ends<const N: usize>(out: &mut [u8], s: &[u8])
+    requires { (N ≤ length s.now) × (length s.now ≤ N + N) × (length s.now ≤ length out.old) }
+    ensures { out.new ≡ laid out.old s.now }
 {
-    let mut room = [0u8; 8];
-    copy_each(&mut room, &s[..8]);
-    copy_each(out, &room);
-}
-
-fn copy_four(out: &mut [u8], s: &[u8])
-    requires { (4 ≤ length s.now) × (4 ≤ length out.old) }
-    ensures { out.new ≡ laid out.old (take 4 s.now) }
-{
-    let mut room = [0u8; 4];
-    copy_each(&mut room, &s[..4]);
-    copy_each(out, &room);
+    copy_first::<N>(out, s);
+    let last = s.len() - N;
+    copy_first::<N>(&mut out[last..], &s[last..]);
 }
 
 // Block by block, and the last one up to the end, over some bytes again.
@@ -52,31 +39,12 @@ fn copy_blocks(out: &mut [u8], s: &[u8])
     requires { (16 ≤ length s.now) × (length s.now ≤ length out.old) }
     ensures { out.new ≡ laid out.old s.now }
 {
-    let mut i = 0;
-    while 16 <= s.len() - i {
-        copy_sixteen(&mut out[i..], &s[i..]);
-        i += 16;
+    for k in 0..s.len() / 16 {
+        let i = k * 16;
+        copy_first::<16>(&mut out[i..], &s[i..]);
     }
     let last = s.len() - 16;
-    copy_sixteen(&mut out[last..], &s[last..]);
-}
-
-fn copy_eights(out: &mut [u8], s: &[u8])
-    requires { (8 ≤ length s.now) × (length s.now ≤ 16) × (length s.now ≤ length out.old) }
-    ensures { out.new ≡ laid out.old s.now }
-{
-    copy_eight(out, s);
-    let last = s.len() - 8;
-    copy_eight(&mut out[last..], &s[last..]);
-}
-
-fn copy_fours(out: &mut [u8], s: &[u8])
-    requires { (4 ≤ length s.now) × (length s.now ≤ 8) × (length s.now ≤ length out.old) }
-    ensures { out.new ≡ laid out.old s.now }
-{
-    copy_four(out, s);
-    let last = s.len() - 4;
-    copy_four(&mut out[last..], &s[last..]);
+    copy_first::<16>(&mut out[last..], &s[last..]);
 }
 
 fn copy_all(out: &mut [u8], s: &[u8])
@@ -88,18 +56,18 @@ fn copy_all(out: &mut [u8], s: &[u8])
         return;
     }
     if 8 <= s.len() {
-        copy_eights(out, s);
+        copy_ends::<8>(out, s);
         return;
     }
     if 4 <= s.len() {
-        copy_fours(out, s);
+        copy_ends::<4>(out, s);
         return;
     }
     copy_each(out, s);
 }
 
 // As `area::copy_into`: room is asked for once.
-pub fn copy_into(out: &mut [u8], t: &[u8]) -> Stored
+pub fn copy_into(out: &mut [u8], t: &[u8]) -> Option<usize>
     ensures result_value { stored_answer cause.OutputFull result ≡ placing cause.OutputFull (length out.old) t.now }
     ensures out_after { out.new ≡ laid out.old t.now }
 {
@@ -107,5 +75,5 @@ pub fn copy_into(out: &mut [u8], t: &[u8]) -> Stored
         return area::copy_into(out, t);
     }
     copy_all(out, t);
-    Stored::Put(t.len())
+    Some(t.len())
 }

@@ -50,10 +50,7 @@ pub const DAYS_BEFORE: [u32; 400] = [
 fn entry_at(days: &[u32], k: usize) -> u32
     ensures { result ≡ get_or days.now k 0 }
 {
-    if k < days.len() {
-        return days[k];
-    }
-    0
+    days.get(k).copied().unwrap_or(0)
 }
 
 // The days from 0000-01-01 up to the first day of the year, by a table that is lent: whoever asks for many has it in memory once.

@@ -2,21 +2,21 @@
 use mathlib.Core.Path.{◌≡◌, refl}
 use mathlib.Core.List.{[], ◌∷◌}
 use Rattle.digits.specs.Digits.{digit, is_number, number_in, last_digits_of, places, decimal}
-use Rattle.digits.specs.declared.Number.TheVariants.{Is, Not}
+use Rattle.std.specs.Prelude.{Some, None}
 
 -- `255`, `256`, `0255`, nothing
-limit : (number_in 10 255 (0x32 ∷ 0x35 ∷ 0x35 ∷ []) ≡ Is 255) × (number_in 10 255 (0x32 ∷ 0x35 ∷ 0x36 ∷ []) ≡ Not)
-    × (number_in 10 255 (0x30 ∷ 0x32 ∷ 0x35 ∷ 0x35 ∷ []) ≡ Is 255) × (number_in 10 255 [] ≡ Not)
+limit : (number_in 10 255 (0x32 ∷ 0x35 ∷ 0x35 ∷ []) ≡ Some 255) × (number_in 10 255 (0x32 ∷ 0x35 ∷ 0x36 ∷ []) ≡ None)
+    × (number_in 10 255 (0x30 ∷ 0x32 ∷ 0x35 ∷ 0x35 ∷ []) ≡ Some 255) × (number_in 10 255 [] ≡ None)
 unfolding number_in is_number digit
 limit = (refl, refl, refl, refl)
 
 -- `fF`, `g`, `G`, `f` as a decimal digit
-letters : (number_in 16 65535 (0x66 ∷ 0x46 ∷ []) ≡ Is 255) × (number_in 16 65535 (0x67 ∷ []) ≡ Not) × (number_in 16 65535 (0x47 ∷ []) ≡ Not) × (number_in 10 65535 (0x66 ∷ []) ≡ Not)
+letters : (number_in 16 65535 (0x66 ∷ 0x46 ∷ []) ≡ Some 255) × (number_in 16 65535 (0x67 ∷ []) ≡ None) × (number_in 16 65535 (0x47 ∷ []) ≡ None) × (number_in 10 65535 (0x66 ∷ []) ≡ None)
 unfolding number_in is_number digit
 letters = (refl, refl, refl, refl)
 
 -- `/` and `:`, beside the digits
-beside : (number_in 10 9 (0x2F ∷ []) ≡ Not) × (number_in 10 9 (0x3A ∷ []) ≡ Not)
+beside : (number_in 10 9 (0x2F ∷ []) ≡ None) × (number_in 10 9 (0x3A ∷ []) ≡ None)
 unfolding number_in is_number digit
 beside = (refl, refl)
 

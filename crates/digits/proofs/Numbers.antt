@@ -9,7 +9,7 @@ use borrow.Author.Tests.{lt-ltb, le-ltb, le-leb, lt-leb, ltb-true, leb-true}
 use lib.Dec.{ltb, leb}
 use lib.ListN.{length, drop, get_or, drop_of_length-le}
 use Rattle.utf8.proofs.of_area.Lists.{drop-next}
-use Rattle.digits.specs.declared.Number.TheVariants.{Is, Not}
+use Rattle.std.specs.Prelude.{Some, None}
 use Rattle.digits.specs.Digits.{digit, all_digits, value_from, value, is_number, number_in}
 use Rattle.digits.proofs.Values.{value_grows, value-below}
 
@@ -53,30 +53,30 @@ module _ (base most : ℕ) (s : List ℕ) where
       go false d = number-other d
 
   -- the answer
-  pub number_is : is_number base most s ≡ true → number_in base most s ≡ Is (value base s)
+  pub number_is : is_number base most s ≡ true → number_in base most s ≡ Some (value base s)
   unfolding number_in
   number_is e = rw e
 
-  -- a text that is no number is answered with Not
-  pub number-not : is_number base most s ≡ false → number_in base most s ≡ Not
+  -- a text that is no number is answered with None
+  pub number-not : is_number base most s ≡ false → number_in base most s ≡ None
   unfolding number_in
   number-not e = rw e
 
-  -- the answer Is tells that the text is a number, and which
-  pub is-number : (n : ℕ) → Is n ≡ number_in base most s → (is_number base most s ≡ true) × (n ≡ value base s)
+  -- the answer Some tells that the text is a number, and which
+  pub is-number : (n : ℕ) → Some n ≡ number_in base most s → (is_number base most s ≡ true) × (n ≡ value base s)
   unfolding number_in
   is-number n e = go (is_number base most s) refl e
     where
-      go : (t : Bool) → is_number base most s ≡ t → Is n ≡ cond t (Is (value base s)) Not → (is_number base most s ≡ true) × (n ≡ value base s)
+      go : (t : Bool) → is_number base most s ≡ t → Some n ≡ cond t (Some (value base s)) None → (is_number base most s ≡ true) × (n ≡ value base s)
       go true q p = (q, cc)
       go false q p = let z : ◌≡◌ {A = ℕ} 0 1 = cc in absurd (omega arith)
 
-  -- the answer Not tells that the text is no number
-  pub not-number : Not ≡ number_in base most s → is_number base most s ≡ false
+  -- the answer None tells that the text is no number
+  pub not-number : None ≡ number_in base most s → is_number base most s ≡ false
   unfolding number_in
   not-number e = go (is_number base most s) refl e
     where
-      go : (t : Bool) → is_number base most s ≡ t → Not ≡ cond t (Is (value base s)) Not → is_number base most s ≡ false
+      go : (t : Bool) → is_number base most s ≡ t → None ≡ cond t (Some (value base s)) None → is_number base most s ≡ false
       go true q p = let z : ◌≡◌ {A = ℕ} 0 1 = cc in absurd (omega arith)
       go false q p = q
 
@@ -87,17 +87,14 @@ pub record Reading (base most : ℕ) (s : List ℕ) (v i : ℕ) : Type 0 where
   pub whole : value_from base v (drop i s) ≡ value base s
   pub digits : all_digits base (drop i s) ≡ all_digits base s
 
-pub reading-start : (base most : ℕ) (s : List ℕ) → Reading base most s 0 0
-reading-start base most s = record { within = omega arith; small = omega arith; whole = refl; digits = refl }
-
 module _ {base most : ℕ} {s : List ℕ} {v i : ℕ} (r : Reading base most s v i) where
-  pub reading-done : length s ≤ i → 0 < length s → Is v ≡ number_in base most s
+  pub reading-done : length s ≤ i → 0 < length s → Some v ≡ number_in base most s
   reading-done h p =
       let e : drop i s ≡ [] = drop_of_length-le s h in
       let w : v ≡ value base s = ap (value_from base v) (sym e) ∙ r.whole in
       let d : true ≡ all_digits base s = ap (all_digits base) (sym e) ∙ r.digits in
       let l = r.small in
-      ap Is w ∙ sym (number_is base most s (number-whole base most s p (sym d) (omega arith)))
+      ap Some w ∙ sym (number_is base most s (number-whole base most s p (sym d) (omega arith)))
 
   module _ (d : ℕ) (h : i < length s) (e : d ≡ digit base (get_or s i 0)) where
     abbrev rest : List ℕ
@@ -109,18 +106,10 @@ module _ {base most : ℕ} {s : List ℕ} {v i : ℕ} (r : Reading base most s v
     digits-on : (ltb d base && all_digits base rest) ≡ all_digits base s
     digits-on = ap (λ (x : ℕ). ltb x base && all_digits base rest) e ∙ ap (all_digits base) (sym (drop-next s i h)) ∙ r.digits
 
-    pub reading-other : base ≤ d → Not ≡ number_in base most s
+    pub reading-other : base ≤ d → None ≡ number_in base most s
     reading-other k =
         sym (number-not base most s (number-other base most s (sym digits-on ∙ ap (λ (t : Bool). t && all_digits base rest) (le-ltb d base k))))
 
-    pub reading-large : 0 < base → most < v * base + d → Not ≡ number_in base most s
+    pub reading-large : 0 < base → most < v * base + d → None ≡ number_in base most s
     reading-large p k =
         sym (number-not base most s (number-large base most s (rw whole-on at (lt_of_lt_of_le k (value_grows base p (v * base + d) rest)))))
-
-    pub reading-more : d < base → v * base + d ≤ most → Reading base most s (v * base + d) (i + 1)
-    reading-more b l = record {
-      within = omega arith;
-      small = l;
-      whole = whole-on;
-      digits = ap (λ (t : Bool). t && all_digits base rest) (sym (lt-ltb d base b)) ∙ digits-on;
-    }

@@ -1,18 +1,17 @@
 -- Digits printed, and what was printed read back. Assumes nothing.
 use Prim.Native.Nat.{ℕ, zero, suc, ◌+◌, ◌-◌, ◌*◌, ◌/◌, ◌%◌, ◌^◌, ◌≤◌, ◌<◌, min}
 use mathlib.Core.Path.{◌≡◌, refl, sym, ap, ◌∙◌}
-use mathlib.Core.List.{List, [], ◌∷◌, ◌++◌, append_assoc}
+use mathlib.Core.List.{List, [], ◌∷◌, ◌++◌}
 use mathlib.Core.Bool.{Bool, true, false, cond, and-eq-true_iff}
 use native.Mathlib.Nat.{zero-lt-suc, lt_of_lt_of_le, mod-lt, mod-one, mod-eq_of_lt, mul-add-mod_self_right, div-add-mod', one-le-pow, mul_assoc, pow-suc, div-lt_iff_lt-mul, min-eq_left}
 use native.Mathlib.Numerals.{add-one}
 use native.Mathlib.Omega.{arith}
 use borrow.Author.Tests.{lt-ltb, le-ltb, le-leb, ltb-true}
 use lib.Dec.{leb, ltb, lit<, lit≤}
-use lib.ListN.{length, take, drop, set, length-append, length-set}
-use lib.Seq.{drop-cons, drop-set-lt, get_or-set_same, lt-length-set, take_at}
+use lib.ListN.{length, take, drop, length-append}
+use lib.Seq.{take_at}
 use Rattle.utf8.specs.of_area.Area.{zeros}
-use Rattle.utf8.proofs.of_area.Lists.{drop-zeros}
-use Rattle.digits.specs.declared.Number.TheVariants.{Is}
+use Rattle.std.specs.Prelude.{Some}
 use Rattle.digits.specs.Digits.{digit, is_digit, all_digits, value, is_number, number_in, last_digits_of, places_in, places, decimal}
 use Rattle.digits.proofs.Values.{append-value, append-digits}
 use Rattle.digits.proofs.Numbers.{number-whole, number_is}
@@ -69,8 +68,8 @@ last_digits (suc k) n =
 pub last-number : (k n most : ℕ) → 0 < k → n % 10 ^ k ≤ most → is_number 10 most (last_digits_of k n) ≡ true
 last-number k n most h l = number-whole 10 most (last_digits_of k n) (rw (length_last k n) h) (last_digits k n) (rw (last-value k n) l)
 
-pub last-read : (k n most : ℕ) → 0 < k → n % 10 ^ k ≤ most → number_in 10 most (last_digits_of k n) ≡ Is (n % 10 ^ k)
-last-read k n most h l = number_is 10 most (last_digits_of k n) (last-number k n most h l) ∙ ap Is (last-value k n)
+pub last-read : (k n most : ℕ) → 0 < k → n % 10 ^ k ≤ most → number_in 10 most (last_digits_of k n) ≡ Some (n % 10 ^ k)
+last-read k n most h l = number_is 10 most (last_digits_of k n) (last-number k n most h l) ∙ ap Some (last-value k n)
 
 -- how many digits
 one-place-less : (f n : ℕ) → n < 10 ^ suc (suc f) → n / 10 < 10 ^ suc f
@@ -133,8 +132,8 @@ module _ (n : ℕ) where
   decimal-number most h l = last-number (places n) n most places-positive (rw (places-mod (omega arith)) h)
 
   -- what was printed is read back
-  pub decimal-read : (most : ℕ) → n ≤ most → most ≤ 18446744073709551615 → number_in 10 most (decimal n) ≡ Is n
-  decimal-read most h l = number_is 10 most (decimal n) (decimal-number most h (omega arith)) ∙ ap Is (decimal-value (omega arith))
+  pub decimal-read : (most : ℕ) → n ≤ most → most ≤ 18446744073709551615 → number_in 10 most (decimal n) ≡ Some n
+  decimal-read most h l = number_is 10 most (decimal n) (decimal-number most h (omega arith)) ∙ ap Some (decimal-value (omega arith))
 
 -- counting the digits: k - 1 are counted, and `rest` stands before them
 pub record Counting (n k rest : ℕ) : Type 0 where
@@ -177,35 +176,6 @@ pub record Spelling (k n : ℕ) (bytes : List ℕ) (i rest : ℕ) : Type 0 where
   pub size : length bytes ≡ 20
   pub within : i ≤ k
   pub whole : last_digits_of i rest ++ drop i bytes ≡ last_digits_of k n ++ zeros (20 - k)
-
-pub spelling-start : (k n : ℕ) → Spelling k n (zeros 20) k n
-spelling-start k n = record { size = refl; within = omega arith; whole = ap (λ (l : List ℕ). last_digits_of k n ++ l) (drop-zeros k 20) }
-
-one_more : (bytes : List ℕ) (j rest : ℕ) → j < length bytes → last_digits_of j (rest / 10) ++ drop j (set bytes j (0x30 + rest % 10)) ≡ last_digits_of (suc j) rest ++ drop (suc j) bytes
-one_more bytes j rest h =
-    let d = 0x30 + rest % 10 in
-    let e : drop j (set bytes j d) ≡ d ∷ drop (suc j) bytes =
-    drop-cons (set bytes j d) j 0 (lt-length-set bytes j d h)
-    ∙ ap (λ (x : ℕ). x ∷ drop (suc j) (set bytes j d)) (get_or-set_same bytes j d 0 h)
-    ∙ ap (λ (l : List ℕ). d ∷ l) (drop-set-lt (suc j) bytes j d (omega arith)) in
-    ap (λ (l : List ℕ). last_digits_of j (rest / 10) ++ l) e ∙ sym (append_assoc (last_digits_of j (rest / 10)) (d ∷ []) (drop (suc j) bytes))
-
-pub spelling-more : {k n : ℕ} {bytes : List ℕ} {i rest : ℕ} → k ≤ 20 → 0 < i → Spelling k n bytes i rest → Spelling k n (set bytes (i - 1) (0x30 + rest % 10)) (i - 1) (rest / 10)
-spelling-more {k} {n} {bytes} {i} {rest} room h p = go (i - 1) (omega arith)
-  where
-    go : (j : ℕ) → i ≡ suc j → Spelling k n (set bytes j (0x30 + rest % 10)) j (rest / 10)
-    go j e =
-        let s = p.size in
-        let w = p.within in
-        record {
-          size = length-set bytes j (0x30 + rest % 10) ∙ s;
-          within = omega arith;
-          whole = one_more bytes j rest (omega arith) ∙ ap (λ (x : ℕ). last_digits_of x rest ++ drop x bytes) (sym e) ∙ p.whole;
-        }
-
-pub spelling-done : {k n : ℕ} {bytes : List ℕ} {i rest : ℕ} → Spelling k n bytes i rest → i ≤ 0 → bytes ≡ last_digits_of k n ++ zeros (20 - k)
-spelling-done {k} {n} {bytes} {i} {rest} p h =
-    let z : 0 ≡ i = omega arith in ap (λ (x : ℕ). last_digits_of x rest ++ drop x bytes) z ∙ p.whole
 
 -- the digits among the bytes spelt
 pub spelt : (k n w : ℕ) (bytes : List ℕ) → w ≡ min k 20 → bytes ≡ last_digits_of w n ++ zeros (20 - w) → take w bytes ≡ last_digits_of (min k 20) n

@@ -1,7 +1,5 @@
 -- Numbers as ASCII digits, read and printed. Definitions only.
-use Rattle.std.specs.Prelude.{ℕ, zero, suc, ◌+◌, ◌-◌, ◌*◌, ◌/◌, ◌%◌, List, [], ◌∷◌, ◌++◌, Bool, true, cond, ◌&&◌, length, ltb, leb, eqb}
-use Rattle.digits.specs.declared.Number.{Number}
-use Rattle.digits.specs.declared.Number.TheVariants.{Is, Not}
+use Rattle.std.specs.Prelude.{ℕ, zero, suc, ◌+◌, ◌-◌, ◌*◌, ◌/◌, ◌%◌, List, [], ◌∷◌, ◌++◌, Bool, true, cond, ◌&&◌, length, ltb, leb, eqb, Option, Some, None}
 
 -- the value of a digit in base 10 or 16 (XML 1.0, section 4.1: [0-9], [0-9a-fA-F]), and the base itself of what is no digit
 unfoldable pub digit : ℕ → ℕ → ℕ
@@ -29,8 +27,8 @@ value base s = value_from base 0 s
 unfoldable pub is_number : ℕ → ℕ → List ℕ → Bool
 is_number base most s = ltb 0 (length s) && (all_digits base s && leb (value base s) most)
 
-unfoldable pub number_in : ℕ → ℕ → List ℕ → Number
-number_in base most s = cond (is_number base most s) (Is (value base s)) Not
+unfoldable pub number_in : ℕ → ℕ → List ℕ → Option ℕ
+number_in base most s = cond (is_number base most s) (Some (value base s)) None
 
 -- the last k decimal digits of n
 abbrev pub last_digits_of : ℕ → ℕ → List ℕ

@@ -7,16 +7,9 @@ ghost use Rattle.digits.specs.Digits.{digit, number_in, last_digits_of, places, 
 ghost use Rattle.utf8.specs.of_refusal.declared.Cause.TheVariants as cause;
 
 pub use utf8 as the_utf8;
-use utf8::the_area::Stored;
 pub use utf8::{the_area, the_refusal};
 
-// What reading finds: a number of at most the limit asked for, or something else.
-#[derive(Clone, Copy)]
-pub enum Number {
-    Is(u64),
-    Not,
-}
-
+#[tactic(auto, unfolding(crate::specs::Digits::digit))]
 fn digit_of(base: u64, b: u8) -> u64
     ensures { result ≡ digit base b }
 {
@@ -35,40 +28,39 @@ fn digit_of(base: u64, b: u8) -> u64
 
 // Ends at the first digit that takes the number past `most`, since each digit behind it only makes it larger.
 // That digit is found by a quotient, so that no product wraps, whatever `most` is.
-fn number_in(base: u64, most: u64, s: &[u8]) -> Number
+fn number_in(base: u64, most: u64, s: &[u8]) -> Option<u64>
     requires { (10 ≤ base) × (base ≤ 16) }
     ensures { result ≡ number_in base most s.now }
 {
-    if s.len() == 0 {
-        return Number::Not;
+    if s.is_empty() {
+        return None;
     }
     let mut v: u64 = 0;
-    let mut i: usize = 0;
-    while i < s.len() {
-        let d = digit_of(base, s[i]);
+    for b in s {
+        let d = digit_of(base, *b);
         if base <= d {
-            return Number::Not;
+            return None;
         }
         if most < d {
-            return Number::Not;
+            return None;
         }
         if (most - d) / base < v {
-            return Number::Not;
+            return None;
         }
         v = v * base + d;
-        i += 1;
     }
-    Number::Is(v)
+    Some(v)
 }
 
-pub fn decimal(s: &[u8], most: u64) -> Number
+// A number of at most `most`, or None.
+pub fn decimal(s: &[u8], most: u64) -> Option<u64>
     ensures { result ≡ number_in 10 most s.now }
 {
     number_in(10, most, s)
 }
 
 // Letters are of either case.
-pub fn hexadecimal(s: &[u8], most: u64) -> Number
+pub fn hexadecimal(s: &[u8], most: u64) -> Option<u64>
     ensures { result ≡ number_in 16 most s.now }
 {
     number_in(16, most, s)
@@ -77,6 +69,7 @@ pub fn hexadecimal(s: &[u8], most: u64) -> Number
 fn places_of(n: u64) -> usize
     ensures { result ≡ places n }
 {
+    // while: as many turns as n has digits.
     let mut k: usize = 1;
     let mut rest = n;
     while rest >= 10 {
@@ -91,37 +84,26 @@ fn spell(k: usize, n: u64) -> [u8; 20]
     ensures { result ≡ last_digits_of k n ++ zeros (20 - k) }
 {
     let mut bytes: [u8; 20] = [0; 20];
-    let mut i = k;
     let mut rest = n;
-    while i > 0 {
-        i -= 1;
+    for i in (0..k).rev() {
         bytes[i] = 0x30 + (rest % 10) as u8;
         rest /= 10;
     }
     bytes
 }
 
-fn at_most_twenty(k: usize) -> usize
-    ensures { result ≡ min k 20 }
-{
-    if k < 20 {
-        return k;
-    }
-    20
-}
-
 // The last k digits of n, leading zeros too: at most twenty, as many as a u64 can have.
-pub fn write_digits(out: &mut [u8], k: usize, n: u64) -> Stored
+pub fn write_digits(out: &mut [u8], k: usize, n: u64) -> Option<usize>
     ensures result_value { stored_answer cause.OutputFull result ≡ placing cause.OutputFull (length out.old) (last_digits_of (min k 20) n) }
     ensures out_after { out.new ≡ laid out.old (last_digits_of (min k 20) n) }
 {
-    let w = at_most_twenty(k);
+    let w = k.min(20);
     let bytes = spell(w, n);
     utf8::the_area::copy_into(out, &bytes[..w])
 }
 
 // By rule W9.
-pub fn write_decimal(out: &mut [u8], n: u64) -> Stored
+pub fn write_decimal(out: &mut [u8], n: u64) -> Option<usize>
     ensures result_value { stored_answer cause.OutputFull result ≡ placing cause.OutputFull (length out.old) (decimal n) }
     ensures out_after { out.new ≡ laid out.old (decimal n) }
 {

@@ -9,7 +9,7 @@ ghost use Rattle.xml_listing.specs.of_xml_state.Answer.{result as given_result};
 ghost use Rattle.document_printing.specs.Printed.{tree_printed, read_printed, tokens_printed, document_printed, found_printed, program_spells};
 
 use tokenizer::tokenize;
-use write_printing::the_list_input::{Found, input_of};
+use write_printing::the_list_input::{Parts, input_of};
 use xml_listing::table_in;
 use xml_listing::the_public_call::refuse;
 use xml_listing::the_reader::read;
@@ -92,7 +92,7 @@ fn print_document(source: &[u8], out: &mut [u8]) -> usize
 
 // What is printed for what was found in the input: `events` and `attributes` are the areas that hold its words.
 fn print_found(
-    found: Found,
+    found: Option<Parts>,
     input: &[u8],
     events: &[u32],
     attributes: &[u32],
@@ -106,14 +106,14 @@ fn print_found(
         (length (found_printed (length out.old) (found_of found events.now attributes.now input.now) input.now)) }
 {
     match found {
-        Found::Is(x) => {
+        Some(x) => {
             let m = x.events;
             let n = x.attributes;
             let at = x.at;
             let end = at + x.source;
             print_report(&events[..m], &attributes[..n], &input[at..end], out)
         }
-        Found::Not => print_document(input, out),
+        None => print_document(input, out),
     }
 }
 

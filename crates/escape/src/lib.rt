@@ -9,7 +9,6 @@ ghost use Rattle.copying.specs.of_refusal.declared.Cause.TheVariants as cause;
 
 pub use copying as the_copying;
 use copying::copy_into;
-use copying::the_area::Stored;
 
 fn is_marked(b: u8) -> bool
     ensures { result ≡ marked b }
@@ -33,10 +32,8 @@ fn is_plain(s: &[u8]) -> bool
     ensures { result ≡ plain s.now }
 {
     let mut odd = false;
-    let mut i = 0;
-    while i < s.len() {
-        odd = odd | is_marked(s[i]);
-        i += 1;
+    for b in s {
+        odd = odd | is_marked(*b);
     }
     !odd
 }
@@ -55,12 +52,9 @@ fn is_plain_long(s: &[u8]) -> bool
     requires { 16 ≤ length s.now }
     ensures { result ≡ plain s.now }
 {
-    let mut i = 0;
-    while 16 <= s.len() - i {
-        let end = i + 16;
-        if is_plain(&s[i..end]) {
-            i = end;
-        } else {
+    for k in 0..s.len() / 16 {
+        let i = k * 16;
+        if !is_plain(&s[i..i + 16]) {
             return false;
         }
     }
@@ -85,34 +79,30 @@ fn is_plain_text(s: &[u8]) -> bool
 }
 
 // Byte by byte.
-fn escape_bytes(out: &mut [u8], s: &[u8]) -> Stored
+fn escape_bytes(out: &mut [u8], s: &[u8]) -> Option<usize>
     ensures result_value { stored_answer cause.OutputFull result ≡ placing cause.OutputFull (length out.old) (escaped s.now) }
     ensures out_after { out.new ≡ laid out.old (escaped s.now) }
 {
-    let mut i = 0;
     let mut k = 0;
-    while i < s.len() {
-        let b = s[i];
-        i += 1;
-        if is_marked(b) {
+    for b in s {
+        if is_marked(*b) {
             if out.len() <= k {
-                return Stored::Full;
+                return None;
             }
             out[k] = b'\\';
             k += 1;
         }
-        let m = letter_of(b);
         if out.len() <= k {
-            return Stored::Full;
+            return None;
         }
-        out[k] = m;
+        out[k] = letter_of(*b);
         k += 1;
     }
-    Stored::Put(k)
+    Some(k)
 }
 
 // Puts s, escaped, at the front of out (rule L8).
-pub fn escape_into(out: &mut [u8], s: &[u8]) -> Stored
+pub fn escape_into(out: &mut [u8], s: &[u8]) -> Option<usize>
     ensures result_value { stored_answer cause.OutputFull result ≡ placing cause.OutputFull (length out.old) (escaped s.now) }
     ensures out_after { out.new ≡ laid out.old (escaped s.now) }
 {

@@ -4,13 +4,13 @@ use mathlib.Core.Path.{◌≡◌, refl, ap, ◌∙◌}
 use mathlib.Core.List.{List}
 use native.Mathlib.Omega.{arith}
 use lib.ListN.{length, length-replicate}
+use Rattle.std.specs.Prelude.{Some, None}
 use Rattle.explain_sentence.specs.of_refusal.Refusal.{refused, late, no_refusal}
 use Rattle.explain_sentence.specs.of_refusal.declared.Refusal.{Refusal}
 use Rattle.explain_sentence.specs.of_refusal.declared.Verdict.TheVariants.{Accepted}
 use Rattle.explain_sentence.specs.of_refusal.declared.Cause.TheVariants as cause
 use Rattle.explain_sentence.specs.of_area.Answer.{Answer, gives, refuses}
 use Rattle.explain_sentence.specs.of_area.Area.{zeros, placing, laid}
-use Rattle.explain_sentence.specs.of_area.declared.Stored.TheVariants.{Put, Full}
 use Rattle.explain_sentence.specs.of_list_text.Listing.{outcome_of, output_for}
 use Rattle.explain_sentence.specs.of_list_text.inside.Behind.{Filled, filled, behind, Puts}
 use Rattle.explain_sentence.specs.of_explain_text.Explanation.{line_of, line_answer, explained, explanation_in}
@@ -32,7 +32,7 @@ module _ (events attributes source : List ℕ) (r : Refusal) (lent n : ℕ) wher
   abbrev answer : Answer ℕ
   answer = line_answer events attributes source r lent n
 
-  module _ {out : List ℕ} {t : Filled} (z : out ≡ zeros n) (p : Puts (filled (Put 0) out) f t) where
+  module _ {out : List ℕ} {t : Filled} (z : out ≡ zeros n) (p : Puts (filled (Some 0) out) f t) where
     left_behind : t ≡ (answer, laid (zeros n) f)
     unfolding line_answer
     left_behind =
@@ -40,7 +40,7 @@ module _ (events attributes source : List ℕ) (r : Refusal) (lent n : ℕ) wher
         ∙ ap (λ (m : ℕ). (placing cause.OutputFull m f, laid (zeros n) f)) (length-replicate {A = ℕ} n 0)
 
   -- the line was put
-  pub whole-line : {out out' : List ℕ} {m : ℕ} {q : Refusal} → q ≡ no_refusal → out ≡ zeros n → Puts (filled (Put 0) out) f (filled (Put m) out')
+  pub whole-line : {out out' : List ℕ} {m : ℕ} {q : Refusal} → q ≡ no_refusal → out ≡ zeros n → Puts (filled (Some 0) out) f (filled (Some m) out')
       → (◌≡◌ {A = Explained} (record { verdict = Accepted; length = m; refusal = q }) (explained_from (explained events attributes source r lent n)))
       × (out' ≡ explanation_in events attributes source r lent n)
   unfolding explanation_in
@@ -53,7 +53,7 @@ module _ (events attributes source : List ℕ) (r : Refusal) (lent n : ℕ) wher
       told e = rw e refl
 
   -- it didn't fit
-  pub short-line : {out out' out'' : List ℕ} {x : Explained} → x ≡ explained_from (refused (late cause.OutputFull)) → out ≡ zeros n → Puts (filled (Put 0) out) f (filled Full out') → out'' ≡ zeros n
+  pub short-line : {out out' out'' : List ℕ} {x : Explained} → x ≡ explained_from (refused (late cause.OutputFull)) → out ≡ zeros n → Puts (filled (Some 0) out) f (filled None out') → out'' ≡ zeros n
       → (x ≡ explained_from (explained events attributes source r lent n)) × (out'' ≡ explanation_in events attributes source r lent n)
   unfolding explanation_in
   short-line e z p y =

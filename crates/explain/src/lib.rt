@@ -1,16 +1,14 @@
 // A refusal in words: one line, put into an area that the caller lends. It may hold a name, which is private text.
 #![tactic(auto)]
 
-ghost use Rattle.std.specs.Prelude.{◌≡◌, length};
+ghost use Rattle.std.specs.Prelude.{◌≡◌, length, Some};
 ghost use Rattle.explain_sentence.specs.of_refusal.Refusal.{refused, late};
-ghost use Rattle.explain_sentence.specs.of_area.declared.Stored.TheVariants.{Put};
 ghost use Rattle.explain_sentence.specs.of_list_text.inside.Behind.{filled, Puts};
 ghost use Rattle.explain_sentence.specs.of_explain_text.Explanation.{line_of, explained, explanation_in};
 ghost use Rattle.explain.specs.Answer.{explained_from};
 
 use explain_place::{put_path, put_place};
 use explain_sentence::put_sentence;
-use explain_sentence::the_area::Stored;
 use explain_sentence::the_list_text::{put, put_decimal};
 use explain_sentence::the_refusal::{Cause, Refusal, Verdict, no_refusal, number_of, refuse_late};
 pub use explain_sentence::the_time_text;
@@ -30,12 +28,12 @@ fn put_line(
     source: &[u8],
     refusal: Refusal,
     lent: usize,
-) -> Stored
-    ensures { Puts (filled (Put 0) out.old) (line_of events.now attributes.now source.now refusal lent) (filled result out.new) }
+) -> Option<usize>
+    ensures { Puts (filled (Some 0) out.old) (line_of events.now attributes.now source.now refusal lent) (filled result out.new) }
 {
     let cause = refusal.cause;
     let path = refusal.path;
-    let opened = put(out, Stored::Put(0), b"refused ");
+    let opened = put(out, Some(0), b"refused ");
     let number = put_decimal(out, opened, number_of(cause) as u64);
     let place = put_path(out, number, events, attributes, source, path);
     let colon = put(out, place, b": ");
@@ -69,7 +67,7 @@ pub fn explain(
 {
     explain_sentence::the_area::clear(out);
     let put = put_line(out, events, attributes, source, refusal, lent);
-    let Stored::Put(length) = put else {
+    let Some(length) = put else {
         explain_sentence::the_area::clear(out);
         return refuse(Cause::OutputFull);
     };

@@ -6,7 +6,7 @@ ghost use Rattle.explain_name.specs.of_list_text.inside.Behind.{filled, Puts};
 ghost use Rattle.explain_name.specs.of_explain_text.Explanation.{kind_names, attribute_names, named, has_name, index_text, element_text};
 
 use explain_name::put_name;
-use explain_name::the_area::{Stored, least, wide};
+use explain_name::the_area::{least, wide};
 use explain_name::the_explain_lines::line_in;
 use explain_name::the_list_text::{put, put_decimal};
 use explain_name::the_names::tag;
@@ -16,7 +16,7 @@ pub use explain_name::{the_area, the_list_text, the_refusal};
 const ATTRIBUTE: usize = 16;
 
 // By rule E4.
-fn put_kind(out: &mut [u8], k: Stored, kind: usize) -> Stored
+fn put_kind(out: &mut [u8], k: Option<usize>, kind: usize) -> Option<usize>
     ensures { Puts (filled k out.old) (named kind_names kind) (filled result out.new) }
 {
     let names =
@@ -24,7 +24,7 @@ fn put_kind(out: &mut [u8], k: Stored, kind: usize) -> Stored
     put(out, k, line_in(names, least(kind, 17)))
 }
 
-fn put_attribute(out: &mut [u8], k: Stored, code: usize) -> Stored
+fn put_attribute(out: &mut [u8], k: Option<usize>, code: usize) -> Option<usize>
     ensures { Puts (filled k out.old) (named attribute_names code) (filled result out.new) }
 {
     let names =
@@ -38,7 +38,7 @@ fn has_name(kind: usize) -> bool
     (kind == tag::TESTSUITE) | (kind == tag::TESTCASE)
 }
 
-fn put_index(out: &mut [u8], k: Stored, kind: usize, index: u32) -> Stored
+fn put_index(out: &mut [u8], k: Option<usize>, kind: usize, index: u32) -> Option<usize>
     ensures { Puts (filled k out.old) (index_text kind index) (filled result out.new) }
 {
     if has_name(kind) | (kind == tag::PROPERTY) {
@@ -52,12 +52,12 @@ fn put_index(out: &mut [u8], k: Stored, kind: usize, index: u32) -> Stored
 // By rule E2.
 pub fn put_element(
     out: &mut [u8],
-    k: Stored,
+    k: Option<usize>,
     events: &[u32],
     attributes: &[u32],
     source: &[u8],
     e: PathElement,
-) -> Stored
+) -> Option<usize>
     ensures { Puts (filled k out.old) (element_text events.now attributes.now source.now e) (filled result out.new) }
 {
     let kind = wide(e.kind);

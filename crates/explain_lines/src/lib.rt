@@ -13,11 +13,9 @@ pub fn line_in(text: &[u8], i: usize) -> &[u8]
     ensures { result.now ≡ line_in i text.now }
 {
     let mut at = 0;
-    let mut k = 0;
-    while k < i {
+    for _k in 0..i {
         let n = first_at(&text[at..], b'\n');
         at = least(at + n + 1, text.len());
-        k += 1;
     }
     let rest = &text[at..];
     let n = first_at(rest, b'\n');

@@ -7,7 +7,7 @@ use native.Mathlib.Omega.{arith}
 use borrow.Author.Tests.{ltb-true, ltb-false}
 use lib.Dec.{ltb}
 use lib.ListN.{length, take, drop}
-use Rattle.table_events.specs.of_area.declared.Stored.{Stored}
+use Rattle.std.specs.Prelude.{Option}
 use Rattle.table_events.specs.of_names.Bytes.{bytes}
 use Rattle.explain_text.specs.of_escape.Escape.{listed, escaped}
 use Rattle.explain_text.proofs.of_escape.Spelling.{spelled-append}
@@ -29,20 +29,20 @@ abbrev rest : List ℕ → ℕ → List ℕ
 rest s i = escaped (cleaned true (decoded (drop i s) 0))
 
 -- the value s is put up to its byte i: out₀ and k₀ are the area and its mark at the start, out and k as they are
-pub record Showing (s out₀ : List ℕ) (k₀ : Stored) (out : List ℕ) (i : ℕ) (k : Stored) : Type 0 where
+pub record Showing (s out₀ : List ℕ) (k₀ : Option ℕ) (out : List ℕ) (i : ℕ) (k : Option ℕ) : Type 0 where
   pub within : i ≤ length s
   pub same : length out ≡ length out₀
   pub coming : Coming (filled k₀ out₀) (escaped (value_text s)) (filled k out) (rest s i)
 
-pub showing-start : (s out : List ℕ) (k : Stored) → Showing s out k out 0 k
+pub showing-start : (s out : List ℕ) (k : Option ℕ) → Showing s out k out 0 k
 showing-start s out k = record { within = omega arith; same = refl; coming = coming-start (filled k out) (escaped (value_text s)) }
 
-module _ {s out₀ : List ℕ} {k₀ : Stored} {out : List ℕ} {i : ℕ} {k : Stored} (g : Showing s out₀ k₀ out i k) where
+module _ {s out₀ : List ℕ} {k₀ : Option ℕ} {out : List ℕ} {i : ℕ} {k : Option ℕ} (g : Showing s out₀ k₀ out i k) where
   module _ (h : i < length s) (p : Piece) (d : Pieced (cleaned true (piece_of (take (length s - i) (drop i s)))) (piece_width (take (length s - i) (drop i s))) p) where
     pub showing_moves : 0 < p.width
     showing_moves = piece_moves true s i h p d
 
-    pub showing-more : {out' : List ℕ} {k' : Stored} → Puts (filled k out) (escaped (take p.n p.bytes)) (filled k' out') → length out' ≡ length out → Showing s out₀ k₀ out' (i + p.width) k'
+    pub showing-more : {out' : List ℕ} {k' : Option ℕ} → Puts (filled k out) (escaped (take p.n p.bytes)) (filled k' out') → length out' ≡ length out → Showing s out₀ k₀ out' (i + p.width) k'
     showing-more q l =
         let e : rest s i ≡ escaped (take p.n p.bytes) ++ rest s (i + p.width) =
         ap escaped (piece-next true s i h p d) ∙ spelled-append listed (take p.n p.bytes) (cleaned true (decoded (drop (i + p.width) s) 0)) in

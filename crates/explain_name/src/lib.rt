@@ -19,7 +19,7 @@ use explain_text::the_list_text::{is_open, put, put_escaped};
 use explain_text::the_reference::refs_ok;
 use explain_text::the_text::decode::piece_of;
 use explain_text::the_utf8::is_utf8;
-use table_events::the_area::{Stored, wide};
+use table_events::the_area::wide;
 use table_events::the_names::same;
 use table_events::the_refusal::NOWHERE;
 use table_events::the_table::kind;
@@ -34,11 +34,12 @@ fn is_value(s: &[u8]) -> bool
 }
 
 // Puts the text that s stands for, piece by piece: there is no other memory.
-fn put_value(out: &mut [u8], k: Stored, s: &[u8]) -> Stored
+fn put_value(out: &mut [u8], k: Option<usize>, s: &[u8]) -> Option<usize>
     ensures { Puts (filled k out.old) (escaped (value_text s.now)) (filled result out.new) }
 {
     let mut i = 0;
     let mut mark = k;
+    // while: each turn passes a whole piece.
     while is_open(mark) & (i < s.len()) {
         let p = piece_of(&s[i..], true);
         let bytes = p.bytes;
@@ -49,7 +50,7 @@ fn put_value(out: &mut [u8], k: Stored, s: &[u8]) -> Stored
     mark
 }
 
-fn put_bracketed(out: &mut [u8], k: Stored, s: &[u8]) -> Stored
+fn put_bracketed(out: &mut [u8], k: Option<usize>, s: &[u8]) -> Option<usize>
     ensures { Puts (filled k out.old) (bracketed (text_of s.now)) (filled result out.new) }
 {
     if !is_value(s) {
@@ -76,6 +77,7 @@ fn named_from(attributes: &[u32], source: &[u8], first: usize, end: usize) -> us
 {
     let n = attributes.len() / 5;
     let mut j = first;
+    // while: where `end` comes before `first`, the answer is `first`.
     while j < end {
         if n < j {
             return end;
@@ -92,12 +94,12 @@ fn named_from(attributes: &[u32], source: &[u8], first: usize, end: usize) -> us
 // Puts the name of an event, if the table has it and it has one (rule E3).
 pub fn put_name(
     out: &mut [u8],
-    k: Stored,
+    k: Option<usize>,
     events: &[u32],
     attributes: &[u32],
     source: &[u8],
     event: u32,
-) -> Stored
+) -> Option<usize>
     ensures { Puts (filled k out.old) (bracketed (name_at events.now attributes.now source.now event)) (filled result out.new) }
 {
     let i = wide(event);

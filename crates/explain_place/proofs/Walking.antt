@@ -2,27 +2,22 @@
 use Prim.Native.Nat.{ℕ, zero, suc, ◌+◌, ◌≤◌, ◌<◌, min}
 use mathlib.Core.Path.{◌≡◌, refl, sym, ap, ◌∙◌}
 use mathlib.Core.List.{List, [], ◌∷◌, ◌++◌, append_assoc}
-use mathlib.Core.Bool.{Bool, true, false, not, ◌&&◌, and-eq-true_iff}
 use native.Mathlib.Decide.{dec_le}
 use native.Mathlib.Nat.{min-eq_left, min-eq_right, min-le_right}
 use native.Mathlib.Numerals.{add-one}
 use native.Mathlib.Omega.{arith}
-use borrow.Author.Tests.{eq-eqb, ne_eqb, ltb-true, ltb-false}
-use lib.Dec.{ltb}
+use borrow.Author.Tests.{eq-eqb, ne_eqb}
 use lib.ListN.{length, get_or, take, drop, drop_of_length-le}
 use lib.Seq.{length-take-le, take_all, drop-cons, get_or-take}
+use Rattle.std.specs.Prelude.{Option}
 use Rattle.explain_element.specs.of_refusal.Refusal.{filler}
 use Rattle.explain_element.specs.of_refusal.declared.PathElement.{PathElement}
 use Rattle.explain_element.specs.of_refusal.declared.Path.{Path}
-use Rattle.explain_element.specs.of_area.declared.Stored.{Stored}
 use Rattle.explain_element.specs.of_names.Bytes.{bytes}
-use Rattle.explain_element.specs.of_list_text.inside.Behind.{filled, is_full, Puts}
-use Rattle.explain_element.proofs.of_list_text.Putting.{Coming, coming-start, coming_on, coming_puts, coming-stop}
+use Rattle.explain_element.specs.of_list_text.inside.Behind.{filled, Puts}
+use Rattle.explain_element.proofs.of_list_text.Putting.{Coming, coming-start, coming_on, coming_puts, coming-done}
 use Rattle.explain_element.specs.of_explain_text.Explanation.{six, element_text, elements_text, path_text}
 use Rattle.explain_place.specs.inside.Marks.{mark_at}
-
-pub goes_on : (a : Bool) (i n : ℕ) → (a && ltb i n) ≡ true → i < n
-goes_on a i n e = ltb-true i n ((and-eq-true_iff a (ltb i n)).0 e).1
 
 pub at_most : (len n : ℕ) → n ≡ min len 6 → n ≤ 6
 at_most len n e = rw e (min-le_right len 6)
@@ -70,18 +65,17 @@ module _ (events attributes source : List ℕ) where
   rest es n i = elements_text events attributes source (mark_at i) (drop i (take n (six es)))
 
   -- n elements of es are put up to number i
-  pub record Walking (es : List PathElement) (n : ℕ) (out₀ : List ℕ) (k₀ : Stored) (out : List ℕ) (i : ℕ) (k : Stored) : Type 0 where
-    pub same : length out ≡ length out₀
+  pub record Walking (es : List PathElement) (n : ℕ) (out₀ : List ℕ) (k₀ : Option ℕ) (out : List ℕ) (i : ℕ) (k : Option ℕ) : Type 0 where
     pub coming : Coming (filled k₀ out₀) (rest es n 0) (filled k out) (rest es n i)
 
-  pub walking_start : (es : List PathElement) (n : ℕ) (out : List ℕ) (k : Stored) → Walking es n out k out 0 k
-  walking_start es n out k = record { same = refl; coming = coming-start (filled k out) (rest es n 0) }
+  pub walking_start : (es : List PathElement) (n : ℕ) (out : List ℕ) (k : Option ℕ) → Walking es n out k out 0 k
+  walking_start es n out k = record { coming = coming-start (filled k out) (rest es n 0) }
 
   pub whole-path : (p : Path) (n : ℕ) → n ≡ min p.len 6 → rest p.elements n 0 ≡ path_text events attributes source p
   unfolding path_text
   whole-path p n e = ap (elements_text events attributes source (bytes " at ")) (take-six p.elements p.len n e)
 
-  module _ {es : List PathElement} {n : ℕ} {out₀ : List ℕ} {k₀ : Stored} {out : List ℕ} {i : ℕ} {k : Stored} (g : Walking es n out₀ k₀ out i k) (m : n ≤ 6) where
+  module _ {es : List PathElement} {n : ℕ} {out₀ : List ℕ} {k₀ : Option ℕ} {out : List ℕ} {i : ℕ} {k : Option ℕ} (g : Walking es n out₀ k₀ out i k) (m : n ≤ 6) where
     rest-next : i < n → rest es n i ≡ (mark_at i ++ element_text events attributes source (get_or es i filler)) ++ rest es n (i + 1)
     unfolding elements_text
     rest-next h =
@@ -90,15 +84,13 @@ module _ (events attributes source : List ℕ) where
         ∙ ap (λ (l : List ℕ). (mark_at i ++ element_text events attributes source (get_or es i filler)) ++ elements_text events attributes source l (drop (i + 1) (take n (six es))))
         (other-mark (i + 1) (λ z. omega arith))
 
-    pub walking-more : {out' : List ℕ} {k' : Stored} → i < n → Puts (filled k out) (mark_at i ++ element_text events attributes source (get_or es i filler)) (filled k' out')
-        → length out' ≡ length out → Walking es n out₀ k₀ out' (i + 1) k'
-    walking-more h q l = record { same = l ∙ g.same; coming = coming_puts (coming_on g.coming (rest-next h)) q }
+    pub walking-more : {out' : List ℕ} {k' : Option ℕ} → i < n → Puts (filled k out) (mark_at i ++ element_text events attributes source (get_or es i filler)) (filled k' out')
+        → Walking es n out₀ k₀ out' (i + 1) k'
+    walking-more h q = record { coming = coming_puts (coming_on g.coming (rest-next h)) q }
 
     rest_over : n ≤ i → rest es n i ≡ []
     unfolding elements_text
     rest_over h = ap (elements_text events attributes source (mark_at i)) (over es n m i h)
 
-    pub walking-stop : (a : Bool) → a ≡ not (is_full k) → (a && ltb i n) ≡ false → Puts (filled k₀ out₀) (rest es n 0) (filled k out)
-    walking-stop a p e =
-        coming-stop k (ltb i n) g.coming (ap (λ (x : Bool). x && ltb i n) (sym p) ∙ e)
-        (λ z. rest_over (ltb-false i n z))
+    pub walking-done : n ≤ i → Puts (filled k₀ out₀) (rest es n 0) (filled k out)
+    walking-done h = coming-done (coming_on g.coming (rest_over h))

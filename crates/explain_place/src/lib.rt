@@ -7,20 +7,20 @@ ghost use Rattle.explain_element.specs.of_explain_text.Explanation.{element_text
 ghost use Rattle.explain_place.specs.inside.Marks.{mark_at};
 
 use explain_element::put_element;
-use explain_element::the_area::{Stored, least};
-use explain_element::the_list_text::{is_open, put, put_decimal};
+use explain_element::the_area::least;
+use explain_element::the_list_text::{put, put_decimal};
 use explain_element::the_refusal::{NOWHERE, Path, PathElement};
 
 // The element with i before it.
 fn put_step(
     out: &mut [u8],
-    k: Stored,
+    k: Option<usize>,
     events: &[u32],
     attributes: &[u32],
     source: &[u8],
     i: usize,
     e: PathElement,
-) -> Stored
+) -> Option<usize>
     ensures { Puts (filled k out.old) (mark_at i ++ element_text events.now attributes.now source.now e) (filled result out.new) }
 {
     if i == 0 {
@@ -34,28 +34,25 @@ fn put_step(
 // By rules E2 and E4.
 pub fn put_path(
     out: &mut [u8],
-    k: Stored,
+    k: Option<usize>,
     events: &[u32],
     attributes: &[u32],
     source: &[u8],
     path: Path,
-) -> Stored
+) -> Option<usize>
     ensures { Puts (filled k out.old) (path_text events.now attributes.now source.now path) (filled result out.new) }
 {
     let elements = path.elements;
     let n = least(path.len, 6);
-    let mut i = 0;
     let mut mark = k;
-    while is_open(mark) & (i < n) {
-        let e = elements[i];
-        mark = put_step(out, mark, events, attributes, source, i, e);
-        i += 1;
+    for i in 0..n {
+        mark = put_step(out, mark, events, attributes, source, i, elements[i]);
     }
     mark
 }
 
 // Nothing where no event is concerned (rule E1).
-pub fn put_place(out: &mut [u8], k: Stored, event: u32, attribute: u32) -> Stored
+pub fn put_place(out: &mut [u8], k: Option<usize>, event: u32, attribute: u32) -> Option<usize>
     ensures { Puts (filled k out.old) (place_text event attribute) (filled result out.new) }
 {
     if event == NOWHERE {

@@ -7,7 +7,7 @@ ghost use Rattle.explain_text.specs.Sentences.{sentence};
 ghost use Rattle.explain_sentence.specs.inside.Place.{place_of, place_by};
 
 use explain_lines::line_in;
-use explain_text::the_area::{Stored, limit};
+use explain_text::the_area::limit;
 use explain_text::the_list_text::put;
 use explain_text::the_refusal::Cause;
 pub use explain_text::{the_area, the_list_text, the_refusal, the_time_text};
@@ -66,7 +66,7 @@ fn place_by(place: usize, lent: usize) -> usize
 }
 
 // By rules E1 and E6.
-pub fn put_sentence(out: &mut [u8], k: Stored, cause: Cause, lent: usize) -> Stored
+pub fn put_sentence(out: &mut [u8], k: Option<usize>, cause: Cause, lent: usize) -> Option<usize>
     ensures { Puts (filled k out.old) (sentence cause lent) (filled result out.new) }
 {
     let sentences = b"the XML is broken here\n\

@@ -21,11 +21,8 @@ pub fn line_behind(s: &[u8]) -> usize
     ensures { result ≡ line_behind s.now }
 {
     let mut line = 1;
-    let mut i = 0;
-    while i < s.len() {
-        let b = s[i];
-        i += 1;
-        if b == b'\n' {
+    for b in s {
+        if *b == b'\n' {
             line += 1;
         }
     }
@@ -37,13 +34,10 @@ pub fn column_behind(s: &[u8]) -> usize
     ensures { result ≡ column_behind s.now }
 {
     let mut column = 1;
-    let mut i = 0;
-    while i < s.len() {
-        let b = s[i];
-        i += 1;
-        if b == b'\n' {
+    for b in s {
+        if *b == b'\n' {
             column = 1;
-        } else if (b < 0x80) | (0xBF < b) {
+        } else if (*b < 0x80) | (0xBF < *b) {
             column += 1;
         }
     }

@@ -1,10 +1,9 @@
 -- The code's table: the sentences, each in a line of its own. Assumes nothing.
 use Prim.Native.Nat.{ℕ}
-use mathlib.Core.Path.{◌≡◌, refl, sym}
+use mathlib.Core.Path.{◌≡◌, refl}
 use mathlib.Core.List.{List, ◌++◌, ◌∷◌}
 use mathlib.Core.Bool.{Bool, true, false, cond}
 use lib.Dec.{eqb}
-use borrow.Author.Tests.{eq-eqb, ne_eqb}
 use Rattle.list_text.specs.of_names.Bytes.{bytes}
 use Rattle.explain_lines.specs.Lines.{line_in}
 use Rattle.explain_xml.specs.XmlExplanation.{short_sentence, xml_sentence}
@@ -43,26 +42,3 @@ by_tests x y false e false false false = refl
 pub sentence-at : (number : ℕ) (ended events attributes : Bool) → line_in (place_of number ended (short_place events attributes)) table ≡ xml_sentence number ended events attributes
 unfolding xml_sentence
 sentence-at number ended events attributes = by_tests events attributes (eqb number 18) ended (eqb number 19) (eqb number 11) (eqb number 16)
-
--- the place, by the tests that the code makes
-module _ (number : ℕ) (ended : Bool) (short : ℕ) where
-  pub place-ended : number ≡ 18 → ended ≡ true → 1 ≡ place_of number ended short
-  place-ended e t = sym (rw (eq-eqb number 18 e, t) refl)
-
-  pub place-bad : number ≡ 18 → ended ≡ false → 0 ≡ place_of number ended short
-  place-bad e t = sym (rw (eq-eqb number 18 e, t) refl)
-
-  module _ (h : number ≡ 18 → ⊥) where
-    pub place-doctype : number ≡ 19 → 2 ≡ place_of number ended short
-    place-doctype e = sym (rw (ne_eqb number 18 h, eq-eqb number 19 e) refl)
-
-    module _ (i : number ≡ 19 → ⊥) where
-      pub place-long : number ≡ 11 → 3 ≡ place_of number ended short
-      place-long e = sym (rw (ne_eqb number 18 h, ne_eqb number 19 i, eq-eqb number 11 e) refl)
-
-      module _ (j : number ≡ 11 → ⊥) where
-        pub place_short : number ≡ 16 → short ≡ place_of number ended short
-        place_short e = sym (rw (ne_eqb number 18 h, ne_eqb number 19 i, ne_eqb number 11 j, eq-eqb number 16 e) refl)
-
-        pub place_other : (number ≡ 16 → ⊥) → 8 ≡ place_of number ended short
-        place_other e = sym (rw (ne_eqb number 18 h, ne_eqb number 19 i, ne_eqb number 11 j, ne_eqb number 16 e) refl)

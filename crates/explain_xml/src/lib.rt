@@ -1,22 +1,21 @@
 // A tokenizer's refusal in words: one line, put into an area that the caller lends.
 #![tactic(auto)]
 
-ghost use Rattle.std.specs.Prelude.{◌≡◌, Bool, length};
+ghost use Rattle.std.specs.Prelude.{◌≡◌, Bool, length, Some};
 ghost use Rattle.list_text.specs.of_refusal.declared.Cause.TheVariants as cause;
 ghost use Rattle.explain_spot.specs.of_area.Area.{stored_answer};
-ghost use Rattle.explain_spot.specs.of_area.declared.Stored.TheVariants.{Put};
 ghost use Rattle.list_text.specs.inside.Behind.{filled, Puts};
 ghost use Rattle.explain_xml.specs.XmlExplanation.{holds_most, spot_text, xml_sentence, xml_line, xml_line_answer, xml_explanation_in};
 ghost use Rattle.explain_xml.specs.inside.Place.{short_place, place_of};
 
 use explain_lines::line_in;
-use explain_spot::the_area::{Stored, limit, wide};
+use explain_spot::the_area::{limit, wide};
 use explain_spot::{before, column_behind, line_behind};
 use list_text::the_refusal::NOWHERE;
 use list_text::{put, put_decimal};
 
 // Byte, line and column; nothing where no byte is concerned.
-fn put_spot(out: &mut [u8], k: Stored, source: &[u8], byte: u32) -> Stored
+fn put_spot(out: &mut [u8], k: Option<usize>, source: &[u8], byte: u32) -> Option<usize>
     ensures { Puts (filled k out.old) (spot_text source.now byte) (filled result out.new) }
 {
     if byte == NOWHERE {
@@ -44,48 +43,36 @@ fn holds_most(words: usize) -> bool
 fn short_place(events: bool, attributes: bool) -> usize
     ensures { result ≡ short_place events attributes }
 {
-    if events {
-        if attributes {
-            return 7;
-        }
-        return 5;
+    match (events, attributes) {
+        (true, true) => 7,
+        (true, false) => 5,
+        (false, true) => 6,
+        (false, false) => 4,
     }
-    if attributes {
-        return 6;
-    }
-    4
 }
 
 // The line of a sentence in the table below; `short` is that of 16.
 fn place_of(number: u32, ended: bool, short: usize) -> usize
     ensures { result ≡ place_of number ended short }
 {
-    if number == 18 {
-        if ended {
-            return 1;
-        }
-        return 0;
+    match number {
+        18 if ended => 1,
+        18 => 0,
+        19 => 2,
+        11 => 3,
+        16 => short,
+        _ => 8,
     }
-    if number == 19 {
-        return 2;
-    }
-    if number == 11 {
-        return 3;
-    }
-    if number == 16 {
-        return short;
-    }
-    8
 }
 
 fn put_sentence(
     out: &mut [u8],
-    k: Stored,
+    k: Option<usize>,
     number: u32,
     ended: bool,
     events: bool,
     attributes: bool,
-) -> Stored
+) -> Option<usize>
     ensures { Puts (filled k out.old) (xml_sentence number ended events attributes) (filled result out.new) }
 {
     let sentences = b"from this byte on the document is not well-formed XML\n\
@@ -108,13 +95,13 @@ fn put_line(
     byte: u32,
     events: usize,
     attributes: usize,
-) -> Stored
-    ensures { Puts (filled (Put 0) out.old) (xml_line source.now number byte events attributes) (filled result out.new) }
+) -> Option<usize>
+    ensures { Puts (filled (Some 0) out.old) (xml_line source.now number byte events attributes) (filled result out.new) }
 {
     let ended = source.len() <= wide(byte);
     let many_events = holds_most(events);
     let many_attributes = holds_most(attributes);
-    let opened = put(out, Stored::Put(0), b"refused ");
+    let opened = put(out, Some(0), b"refused ");
     let told = put_decimal(out, opened, number as u64);
     let spot = put_spot(out, told, source, byte);
     let colon = put(out, spot, b": ");
@@ -131,15 +118,15 @@ pub fn explain_xml(
     events: usize,
     attributes: usize,
     out: &mut [u8],
-) -> Stored
+) -> Option<usize>
     ensures result_value { stored_answer cause.OutputFull result ≡ xml_line_answer source.now number byte events attributes (length out.old) }
     ensures out_after { out.new ≡ xml_explanation_in source.now number byte events attributes (length out.old) }
 {
     explain_spot::the_area::clear(out);
     let put = put_line(out, source, number, byte, events, attributes);
     match put {
-        Stored::Put(_) => put,
-        Stored::Full => {
+        Some(_) => put,
+        None => {
             explain_spot::the_area::clear(out);
             put
         }

@@ -1,4 +1,3 @@
-pub mod Scaling
 pub mod Fractions
 pub mod Examples
 pub use Rattle.digits.proofs.of_area as of_area

@@ -5,7 +5,6 @@ ghost use Rattle.std.specs.Prelude.{◌≡◌, ◌-◌, ◌*◌, ◌^◌, ◌≤
 ghost use Rattle.fraction.specs.Fraction.{billionths_of};
 
 pub use digits as the_digits;
-use digits::Number;
 pub use digits::{the_area, the_refusal, the_utf8};
 
 // The value v of n digits, in billionths.
@@ -13,28 +12,19 @@ fn scaled(v: u64, n: usize) -> u64
     requires { (n ≤ 9) × (v < 10 ^ n) }
     ensures { result ≡ v * 10 ^ (9 - n) }
 {
-    let mut r = v;
-    let mut k = n;
-    while k < 9 {
-        r *= 10;
-        k += 1;
-    }
-    r
+    v * 10u64.pow((9 - n) as u32)
 }
 
 // What at most nine digits, or none, stand for.
-pub fn billionths_of(f: &[u8]) -> Number
+pub fn billionths_of(f: &[u8]) -> Option<u64>
     ensures { result ≡ billionths_of f.now }
 {
-    if f.len() == 0 {
-        return Number::Is(0);
+    if f.is_empty() {
+        return Some(0);
     }
     if 9 < f.len() {
-        return Number::Not;
+        return None;
     }
-    let n = digits::decimal(f, 999999999);
-    let Number::Is(v) = n else {
-        return Number::Not;
-    };
-    Number::Is(scaled(v, f.len()))
+    let v = digits::decimal(f, 999999999)?;
+    Some(scaled(v, f.len()))
 }

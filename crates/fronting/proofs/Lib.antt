@@ -1,2 +1,1 @@
-pub mod Moving
 pub use Rattle.area.proofs as of_area

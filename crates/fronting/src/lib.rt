@@ -12,9 +12,5 @@ pub fn move_front(area: &mut [u8], from: usize, n: usize)
     requires { from + n ≤ length area.old }
     ensures { area.new ≡ laid area.old (take n (drop from area.old)) }
 {
-    let mut i = 0;
-    while i < n {
-        area[i] = area[from + i];
-        i += 1;
-    }
+    area.copy_within(from..from + n, 0);
 }

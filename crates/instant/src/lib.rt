@@ -53,10 +53,7 @@ fn days_before_month(year: u16, month: u8) -> u64
 pub fn less(a: u64, b: u64) -> u64
     ensures { result ≡ a - b }
 {
-    if a < b {
-        return 0;
-    }
-    a - b
+    a.saturating_sub(b)
 }
 
 fn clock_of(m: Moment) -> u64

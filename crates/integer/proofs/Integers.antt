@@ -11,8 +11,7 @@ use Rattle.names.specs.of_area.Answer.{gives, refuses}
 use Rattle.digits.specs.of_utf8.Utf8.{utf8}
 use Rattle.digits.proofs.of_utf8.Rules.{ascii-on}
 use Rattle.digits.specs.Digits.{is_digit, all_digits, is_number, number_in, value, decimal}
-use Rattle.digits.specs.declared.Number.{Number}
-use Rattle.digits.specs.declared.Number.TheVariants as number
+use Rattle.std.specs.Prelude.{Some, None}
 use Rattle.digits.proofs.Ascii.{digit-decimal}
 use Rattle.digits.proofs.Numbers.{number-parts, is-number, not-number}
 use Rattle.digits.proofs.Printing.{decimal-digits, decimal-number, decimal-value}
@@ -67,9 +66,6 @@ module _ (s : List ℕ) where
   pub integer-bad : is_integer s ≡ false → utf8 s ≡ true → refuses cause.BadInteger ≡ integer_of s
   integer-bad e u = rw (u, e) refl
 
-  pub integer_not-utf8 : utf8 s ≡ false → refuses cause.NotUtf8 ≡ integer_of s
-  integer_not-utf8 u = rw u refl
-
 -- a printed number has no sign
 decimal-unsigned : (s : List ℕ) → all_digits 10 s ≡ true → unsigned s ≡ s
 unfolding unsigned
@@ -87,11 +83,11 @@ integer-decimal n h =
     sym (integer-is (decimal n) i) ∙ ap gives (ap (value 10) e ∙ decimal-value n m)
 
 -- the answers, from what the digits behind the sign are
-module _ (s p : List ℕ) (e : p ≡ unsigned s) (n : Number) (q : n ≡ number_in 10 18446744073709551615 p) where
-  pub read_is : (v : ℕ) → n ≡ number.Is v → gives v ≡ integer_of s
-  read_is v t =
-      let k = is-number 10 18446744073709551615 p v (sym t ∙ q) in
+module _ (s p : List ℕ) (e : p ≡ unsigned s) where
+  pub read_is : (v : ℕ) → Some v ≡ number_in 10 18446744073709551615 p → gives v ≡ integer_of s
+  read_is v q =
+      let k = is-number 10 18446744073709551615 p v q in
       ap gives (k.1 ∙ ap (value 10) e) ∙ integer-is s (ap (is_number 10 18446744073709551615) (sym e) ∙ k.0)
 
-  pub read-bad : n ≡ number.Not → utf8 s ≡ true → refuses cause.BadInteger ≡ integer_of s
-  read-bad t u = integer-bad s (ap (is_number 10 18446744073709551615) (sym e) ∙ not-number 10 18446744073709551615 p (sym t ∙ q)) u
+  pub read-bad : None ≡ number_in 10 18446744073709551615 p → utf8 s ≡ true → refuses cause.BadInteger ≡ integer_of s
+  read-bad q u = integer-bad s (ap (is_number 10 18446744073709551615) (sym e) ∙ not-number 10 18446744073709551615 p q) u

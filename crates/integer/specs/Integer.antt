@@ -1,17 +1,15 @@
 -- A count as it is read (rules V1 and V2). Definitions only.
-use Rattle.std.specs.Prelude.{ℕ, List, [], ◌∷◌, Bool, cond, eqb}
+use Rattle.std.specs.Prelude.{ℕ, List, [], ◌∷◌, Bool, cond, eqb, Result}
 use Rattle.names.specs.of_area.Answer.{Answer, gives, refuses}
 use Rattle.digits.specs.of_utf8.Utf8.{utf8}
 use Rattle.digits.specs.Digits.{is_number, value}
-use Rattle.integer.specs.declared.Integer.{Integer}
-use Rattle.integer.specs.declared.Integer.TheVariants.{Is, NotUtf8, Bad}
+use Rattle.digits.specs.Results.{answered}
+use Rattle.names.specs.of_refusal.declared.Cause.{Cause}
 use Rattle.names.specs.of_refusal.declared.Cause.TheVariants as cause
 
 -- the value, or 2 for what isn't UTF-8, 3 for what is no count
-abbrev pub integer_answer : Integer → Answer ℕ
-integer_answer (Is n) = gives n
-integer_answer NotUtf8 = refuses cause.NotUtf8
-integer_answer Bad = refuses cause.BadInteger
+abbrev pub integer_answer : Result ℕ Cause → Answer ℕ
+integer_answer = answered
 
 -- without the `+` that may stand first (rule V2)
 unfoldable pub unsigned : List ℕ → List ℕ

@@ -4,23 +4,15 @@
 ghost use Rattle.std.specs.Prelude.{◌≡◌};
 ghost use Rattle.integer.specs.Integer.{unsigned, integer_answer, integer_of};
 
-use digits::Number;
 pub use names as the_names;
+use names::the_refusal::Cause;
 pub use names::{the_area, the_refusal};
-
-// The value, or what is wrong with the text.
-#[derive(Clone, Copy)]
-pub enum Integer {
-    Is(u64),
-    NotUtf8,
-    Bad,
-}
 
 // The text behind one plus sign, if there is one.
 fn behind_plus(s: &[u8]) -> &[u8]
     ensures { result.now ≡ unsigned s.now }
 {
-    if s.len() == 0 {
+    if s.is_empty() {
         return s;
     }
     if s[0] == b'+' {
@@ -30,17 +22,16 @@ fn behind_plus(s: &[u8]) -> &[u8]
 }
 
 // By rules V1 and V2.
-pub fn integer_of(s: &[u8]) -> Integer
+pub fn integer_of(s: &[u8]) -> Result<u64, Cause>
     ensures { integer_answer result ≡ integer_of s.now }
 {
-    let n = digits::decimal(behind_plus(s), 18446744073709551615);
-    match n {
-        Number::Is(v) => Integer::Is(v),
-        Number::Not => {
+    match digits::decimal(behind_plus(s), 18446744073709551615) {
+        Some(v) => Ok(v),
+        None => {
             if digits::the_utf8::is_utf8(s) {
-                return Integer::Bad;
+                return Err(Cause::BadInteger);
             }
-            Integer::NotUtf8
+            Err(Cause::NotUtf8)
         }
     }
 }

@@ -46,7 +46,7 @@ module _ {a b : List ℕ} {n i : ℕ} (m : Commoning a b n i) where
       let z : common_length a b ≡ i + 0 = next h ∙ rw (ne_eqb (get_or a i 0) (get_or b i 0) e) refl in
       omega arith
 
-  pub commoning-done : n ≤ i → i ≡ common_length a b
+  pub commoning-done : n ≤ i → n ≡ common_length a b
   commoning-done h =
       let e = m.least in
       let f = m.fits in

@@ -13,14 +13,12 @@ pub fn common(a: &[u8], b: &[u8]) -> usize
     ensures { result ≡ common_length a.now b.now }
 {
     let n = least(a.len(), b.len());
-    let mut i = 0;
-    while i < n {
+    for i in 0..n {
         if a[i] != b[i] {
             return i;
         }
-        i += 1;
     }
-    i
+    n
 }
 
 // The key of attribute j (rule T2).

@@ -6,7 +6,7 @@ use mathlib.Core.Bool.{Bool, true, false}
 use native.Mathlib.Omega.{arith}
 use native.Mathlib.Numerals.{add-one}
 use lib.ListN.{length, get_or, take, drop, set, length-drop, length-set, drop_of_length-le}
-use lib.Seq.{length-take-le, take-suc, take-suc-set, take-set-le, drop-set-lt, get_or-take, get_or-drop, take-take, take-add, drop_at}
+use lib.Seq.{length-take-le, take-suc-set, take-set-le, get_or-take, take-take, take-add, drop_at}
 use Rattle.clean_order.proofs.of_area.Lists.{drop-next}
 use Rattle.key_sort.specs.inside.Merged.{takes_first, merged, merged_to}
 
@@ -171,37 +171,3 @@ module _ {test : ℕ → ℕ → Bool} {h n : ℕ} {w₀ w : List ℕ} {i j k : 
 pub running-put : {test : ℕ → ℕ → Bool} {h n : ℕ} {w₀ w' : List ℕ} {i j k v x : ℕ} (w : List ℕ) (at : ℕ) → w' ≡ set w at v → v ≡ x → Running test h n w₀ (set w at x) i j k
     → Running test h n w₀ w' i j k
 running-put {test} {h} {n} {w₀} {i = i} {j} {k} w at e q r = subst (λ (l : List ℕ). Running test h n w₀ l i j k) (sym (e ∙ ap (set w at) q)) r
-
--- the first k of the numbers from n on stand before them
-pub record Moving (n : ℕ) (w₀ w : List ℕ) (k : ℕ) : Type 0 where
-  pub low : k ≤ n
-  pub room : n + n ≤ length w₀
-  pub size : length w ≡ length w₀
-  pub behind : drop n w ≡ drop n w₀
-  pub stands : take k w ≡ take k (drop n w₀)
-
-pub moving-start : (n : ℕ) (w : List ℕ) → n + n ≤ length w → Moving n w w 0
-moving-start n w h = record { low = omega arith; room = h; size = refl; behind = refl; stands = refl }
-
-module _ {n : ℕ} {w₀ w : List ℕ} {k : ℕ} (r : Moving n w₀ w k) where
-  pub moving-more : k < n → Moving n w₀ (set w k (get_or w (n + k) 0)) (k + 1)
-  moving-more h =
-      let f : k < length w = omega (arith, r.size, r.room) in
-      let d = length-drop n w₀ in
-      let g : k < length (drop n w₀) = omega (arith, r.room) in
-      let v = get_or w (n + k) 0 in
-      let e : get_or w (n + k) 0 ≡ get_or (drop n w₀) k 0 = sym (get_or-drop n w k 0) ∙ ap (λ (l : List ℕ). get_or l k 0) r.behind in record {
-        low = omega arith;
-        room = r.room;
-        size = length-set w k (get_or w (n + k) 0) ∙ r.size;
-        behind = drop-set-lt n w k (get_or w (n + k) 0) h ∙ r.behind;
-        stands = rw add-one
-            (take-suc-set w k (get_or w (n + k) 0) f ∙ ap (λ (l : List ℕ). l ++ (get_or w (n + k) 0 ∷ [])) r.stands
-            ∙ ap (λ (x : ℕ). take k (drop n w₀) ++ (x ∷ [])) e ∙ sym (take-suc (drop n w₀) k 0 g));
-      }
-
-  pub moving-done : n ≤ k → take n w ≡ take n (drop n w₀)
-  moving-done h = let e : k ≡ n = omega (arith, r.low) in sym (ap (λ (m : ℕ). take m w) e) ∙ r.stands ∙ ap (λ (m : ℕ). take m (drop n w₀)) e
-
-pub moving-put : {n : ℕ} {w₀ w' : List ℕ} {k v x : ℕ} (w : List ℕ) (at : ℕ) → w' ≡ set w at v → v ≡ x → Moving n w₀ (set w at x) k → Moving n w₀ w' k
-moving-put {n} {w₀} {k = k} w at e q r = subst (λ (l : List ℕ). Moving n w₀ l k) (sym (e ∙ ap (set w at) q)) r

@@ -56,18 +56,14 @@ fn merge_up(attributes: &[u32], source: &[u8], h: usize, n: usize, bytes: &mut [
 {
     let mut i = 0;
     let mut j = h;
-    let mut k = n;
-    let end = n + n;
-    while k < end {
-        let at = k;
-        k += 1;
+    for k in n..n + n {
         if takes_first(attributes, source, bytes, i, h, j, n, clean) {
             let v = number_at(bytes, i);
-            put_number(bytes, at, v);
+            put_number(bytes, k, v);
             i += 1;
         } else {
             let v = number_at(bytes, j);
-            put_number(bytes, at, v);
+            put_number(bytes, k, v);
             j += 1;
         }
     }
@@ -78,12 +74,8 @@ fn move_down(n: usize, bytes: &mut [u8])
     requires { n + n ≤ length (numbers_in bytes.old) }
     ensures { take n (numbers_in bytes.new) ≡ take n (drop n (numbers_in bytes.old)) }
 {
-    let mut k = 0;
-    while k < n {
-        let v = number_at(bytes, n + k);
-        put_number(bytes, k, v);
-        k += 1;
-    }
+    let start = n + n;
+    bytes.copy_within(start..start + start, 0);
 }
 
 // The attributes from number `first`, n of them, stand in the first n places afterwards, whatever the bytes held.

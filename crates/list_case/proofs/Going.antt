@@ -5,7 +5,7 @@ use mathlib.Core.List.{List, [], ◌∷◌, ◌++◌}
 use mathlib.Core.Bool.{Bool, true, false, not, ◌&&◌, and-eq-true_iff}
 use native.Mathlib.Omega.{arith}
 use lib.ListN.{length, take, drop}
-use Rattle.list_status.specs.of_area.declared.Stored.{Stored}
+use Rattle.std.specs.Prelude.{Option}
 use Rattle.list_status.specs.of_list_text.inside.Behind.{Filled, filled, is_full, Puts}
 use Rattle.list_status.proofs.of_list_text.Putting.{Coming, coming-start, coming_on, coming_puts, coming-done, coming-stop, other, puts_none}
 use Rattle.list_status.specs.of_list_sums.inside.Rows.{stands, records_in}
@@ -17,16 +17,16 @@ goes_on a b e f = sym f ∙ ((and-eq-true_iff a b).0 e).1
 
 module _ (shown : List (List ℕ) → List ℕ) where
   -- the records before `at` are shown: out₀ and k₀ are the area and its mark at the start, out and k as they are
-  pub record Going (out₀ words : List ℕ) (k₀ : Stored) (out : List ℕ) (at : ℕ) (k : Stored) : Type 0 where
+  pub record Going (out₀ words : List ℕ) (k₀ : Option ℕ) (out : List ℕ) (at : ℕ) (k : Option ℕ) : Type 0 where
     pub fits : at ≤ length words
     pub same : length out ≡ length out₀
     pub coming : Coming (filled k₀ out₀) (shown (records_in words)) (filled k out) (shown (records_in (drop at words)))
 
   -- before the first record everything is to come
-  pub going_start : (out words : List ℕ) (k : Stored) → Going out words k out 0 k
+  pub going_start : (out words : List ℕ) (k : Option ℕ) → Going out words k out 0 k
   going_start out words k = record { fits = omega arith; same = refl; coming = coming-start (filled k out) (shown (records_in words)) }
 
-  module _ {out₀ words : List ℕ} {k₀ : Stored} {out : List ℕ} {at : ℕ} {k : Stored} (g : Going out₀ words k₀ out at k) where
+  module _ {out₀ words : List ℕ} {k₀ : Option ℕ} {out : List ℕ} {at : ℕ} {k : Option ℕ} (g : Going out₀ words k₀ out at k) where
     -- the loop's condition failed: output is full or no record is left, and either way all was put
     pub going-stop : (a b : Bool) → shown [] ≡ [] → (a && b) ≡ false → a ≡ not (is_full k)
         → b ≡ stands (take (length words - at) (drop at words)) → Puts (filled k₀ out₀) (shown (records_in words)) (filled k out)
@@ -54,7 +54,7 @@ module _ (shown : List (List ℕ) → List ℕ) where
       going-pass e = record { fits = stands-room words at s; same = g.same; coming = coming_on g.coming (next ∙ e) }
 
       -- a record of which f is shown, and a call that put f: the loop stands one record further
-      pub going-puts : {out' : List ℕ} {k' : Stored} (f : List ℕ) → shown (here ∷ rest) ≡ f ++ shown rest
+      pub going-puts : {out' : List ℕ} {k' : Option ℕ} (f : List ℕ) → shown (here ∷ rest) ≡ f ++ shown rest
           → Puts (filled k out) f (filled k' out') → length out' ≡ length out → Going out₀ words k₀ out' (at + 32) k'
       going-puts f e p l = record { fits = stands-room words at s; same = l ∙ g.same; coming = coming_puts (coming_on g.coming (next ∙ e)) p }
 
@@ -75,10 +75,10 @@ module _ (shown : List (List ℕ) → List ℕ) where
       seeking-pass e = record { fits = stands-room words at s; same = g.same; left = sym e ∙ ap shown (sym (records-here words at s)) ∙ g.left }
 
       -- the record has the text, and a call that puts it has put what is shown of all records
-      pub seeking-found : {f : List ℕ} (k : Stored) {t : Filled} → shown (take (at + 32 - at) (drop at words) ∷ records_in (drop (at + 32) words)) ≡ f
+      pub seeking-found : {f : List ℕ} (k : Option ℕ) {t : Filled} → shown (take (at + 32 - at) (drop at words) ∷ records_in (drop (at + 32) words)) ≡ f
           → Puts (filled k out) f t → Puts (filled k out₀) (shown (records_in words)) t
       seeking-found k e p = rw (sym g.same) (other p (sym e ∙ ap shown (sym (records-here words at s)) ∙ g.left))
 
     -- no record is left: nothing is shown, and the area is as it was
-    pub seeking-none : (k : Stored) → shown [] ≡ [] → stands (take (length words - at) (drop at words)) ≡ false → Puts (filled k out₀) (shown (records_in words)) (filled k out)
+    pub seeking-none : (k : Option ℕ) → shown [] ≡ [] → stands (take (length words - at) (drop at words)) ≡ false → Puts (filled k out₀) (shown (records_in words)) (filled k out)
     seeking-none k none e = rw (sym g.same) (other (puts_none (filled k out)) (sym none ∙ ap shown (sym (records-over words at e)) ∙ g.left))

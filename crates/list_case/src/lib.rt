@@ -7,14 +7,13 @@ ghost use Rattle.list_status.specs.of_list_sums.inside.Rows.{records_in};
 ghost use Rattle.list_status.specs.of_list_sums.inside.Summed.{run_listed};
 ghost use Rattle.list_case.specs.inside.Shown.{run_opened, runs_shown, case_opened, case_shown};
 
-use list_status::the_area::Stored;
 use list_status::the_list_sums::rows;
 use list_status::the_list_text::put;
 use list_status::the_tree_record::{field, kind, word};
 pub use list_status::{the_area, the_list_sums, the_list_text, the_list_values, the_tree_record};
 
 // A run's line, up to its kind.
-fn put_run_kind(out: &mut [u8], k: Stored, run: u32) -> Stored
+fn put_run_kind(out: &mut [u8], k: Option<usize>, run: u32) -> Option<usize>
     ensures { Puts (filled k out.old) (run_opened run) (filled result out.new) }
 {
     if (run == kind::FLAKY_FAILURE) | (run == kind::RERUN_FAILURE) {
@@ -24,7 +23,7 @@ fn put_run_kind(out: &mut [u8], k: Stored, run: u32) -> Stored
 }
 
 // By rule L7.
-fn put_run(out: &mut [u8], k: Stored, r: &[u32]) -> Stored
+fn put_run(out: &mut [u8], k: Option<usize>, r: &[u32]) -> Option<usize>
     ensures { Puts (filled k out.old) (run_text (run_listed r.now)) (filled result out.new) }
 {
     let opened = put_run_kind(out, k, field(r, word::KIND));
@@ -33,11 +32,12 @@ fn put_run(out: &mut [u8], k: Stored, r: &[u32]) -> Stored
 }
 
 // The runs of the case that stands before these words.
-fn put_runs(out: &mut [u8], k: Stored, words: &[u32]) -> Stored
+fn put_runs(out: &mut [u8], k: Option<usize>, words: &[u32]) -> Option<usize>
     ensures { Puts (filled k out.old) (runs_shown (records_in words.now)) (filled result out.new) }
 {
     let mut at = 0;
     let mut mark = k;
+    // while: each turn passes a whole record.
     while list_status::the_list_text::is_open(mark) & rows::stands_here(&words[at..]) {
         let end = at + 32;
         let r = &words[at..end];
@@ -54,7 +54,7 @@ fn put_runs(out: &mut [u8], k: Stored, words: &[u32]) -> Stored
 }
 
 // A case's line, up to its time.
-fn put_case_line(out: &mut [u8], k: Stored, text: &[u8], r: &[u32]) -> Stored
+fn put_case_line(out: &mut [u8], k: Option<usize>, text: &[u8], r: &[u32]) -> Option<usize>
     ensures { Puts (filled k out.old) (case_opened text.now r.now) (filled result out.new) }
 {
     let opened = put(out, k, b"\n(case");
@@ -64,7 +64,13 @@ fn put_case_line(out: &mut [u8], k: Stored, text: &[u8], r: &[u32]) -> Stored
 }
 
 // By rules L5 and L7.
-pub fn put_case(out: &mut [u8], k: Stored, text: &[u8], r: &[u32], below: &[u32]) -> Stored
+pub fn put_case(
+    out: &mut [u8],
+    k: Option<usize>,
+    text: &[u8],
+    r: &[u32],
+    below: &[u32],
+) -> Option<usize>
     ensures { Puts (filled k out.old) (case_shown text.now r.now (records_in below.now)) (filled result out.new) }
 {
     let s = list_status::the_list_sums::sum_up(below);

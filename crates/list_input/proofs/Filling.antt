@@ -5,7 +5,7 @@ use mathlib.Core.List.{List, [], ◌∷◌, ◌++◌, append-nil}
 use native.Mathlib.Omega.{arith}
 use native.Mathlib.Nat.{not-suc-le-zero, le_of_suc-le-suc}
 use native.Mathlib.Numerals.{add-one}
-use lib.ListN.{length, take, drop, set, length-set}
+use lib.ListN.{length, take, drop, set}
 use lib.Seq.{drop-drop, drop-length, length-take-le}
 use Rattle.area.specs.Area.{laid}
 use Rattle.area.proofs.Parts.{rest_part}
@@ -24,26 +24,19 @@ put-suc (suc n) s (x ∷ d) l =
 
 -- i words are put: words₀ is the area as it was, words as it is
 pub record Filling (words₀ s words : List ℕ) (i : ℕ) : Type 0 where
-  pub same : length words ≡ length words₀
   pub fits : i ≤ length words₀
   pub done : words ≡ words_of i s ++ drop i words₀
 
 pub filling-start : (words s : List ℕ) → Filling words s words 0
 unfolding words_of
-filling-start words s = record { same = refl; fits = omega arith; done = refl }
+filling-start words s = record { fits = omega arith; done = refl }
 
-pub filling-more : {words₀ s words : List ℕ} {i : ℕ} → Filling words₀ s words i → i < length words → (w : ℕ) → w ≡ word_of (drop (i * 4) s) → Filling words₀ s (set words i w) (i + 1)
-filling-more {words₀} {s} {words} {i} k h w e =
-    let h' : i < length words₀ = omega (arith, k.same) in
-    record {
-      same = length-set words i w ∙ k.same;
-      fits = omega arith;
-      done = rw (k.done, e, add-one i) (put-suc i s words₀ h');
-    }
+pub filling-more : {words₀ s words : List ℕ} {i : ℕ} → Filling words₀ s words i → i < length words₀ → (w : ℕ) → w ≡ word_of (drop (i * 4) s) → Filling words₀ s (set words i w) (i + 1)
+filling-more {words₀} {s} {words} {i} k h w e = record { fits = omega arith; done = rw (k.done, e, add-one i) (put-suc i s words₀ h) }
 
-pub filling-done : {words₀ s words : List ℕ} {i : ℕ} → Filling words₀ s words i → length words ≤ i → words ≡ words_of (length words₀) s
+pub filling-done : {words₀ s words : List ℕ} {i : ℕ} → Filling words₀ s words i → length words₀ ≤ i → words ≡ words_of (length words₀) s
 filling-done {words₀} {s} {words} {i} k h =
-    let e : i ≡ length words₀ = omega (arith, k.same, k.fits) in
+    let e : i ≡ length words₀ = omega (arith, k.fits) in
     k.done ∙ rw (e, drop-length words₀) (append-nil (words_of (length words₀) s))
 
 pub length-words : (n : ℕ) (s : List ℕ) → length (words_of n s) ≡ n

@@ -1,5 +1,5 @@
 -- An input is a table where its numbers say so. Assumes nothing.
-use Prim.Native.Nat.{ℕ, ◌+◌, ◌*◌, ◌-◌, ◌≤◌, ◌<◌}
+use Prim.Native.Nat.{ℕ, ◌+◌, ◌*◌, ◌≤◌, ◌<◌}
 use mathlib.Core.Path.{◌≡◌, refl, sym, ap, ◌∙◌}
 use mathlib.Core.List.{List}
 use mathlib.Core.Bool.{Bool, true, false, ◌&&◌, true≢false}
@@ -12,8 +12,7 @@ use lib.Seq.{take_at}
 use Rattle.area.specs.Area.{laid}
 use Rattle.area.proofs.Laying.{laid-fits}
 use Rattle.list_input.specs.Input.{words_of, Table, events_in, attributes_in, source_in, attributes_at, source_at, whole, input_of, parts_in, events_left, attributes_left, found_of, Lies}
-use Rattle.list_input.specs.declared.Found.{Found}
-use Rattle.list_input.specs.declared.Found.TheVariants.{Is, Not}
+use Rattle.std.specs.Prelude.{Option, Some, None}
 use Rattle.list_input.specs.declared.Parts.{Parts}
 use Rattle.list_input.proofs.Filling.{length-words}
 
@@ -34,14 +33,14 @@ rest-true m n size e a k h =
 
 module _ (m n : ℕ) (s : List ℕ) where
   -- the answer, and the two areas as they were and as they are
-  abbrev Answered : Found → (events events' attributes attributes' : List ℕ) → Type 0
+  abbrev Answered : Option Parts → (events events' attributes attributes' : List ℕ) → Type 0
   Answered r events events' attributes attributes' = (r ≡ parts_in m n s) × ((events' ≡ events_left (input_of m n s) events) × (attributes' ≡ attributes_left (input_of m n s) attributes))
 
-  no-input : whole m n s ≡ false → (events attributes : List ℕ) → Answered Not events events attributes attributes
+  no-input : whole m n s ≡ false → (events attributes : List ℕ) → Answered None events events attributes attributes
   unfolding input_of parts_in
   no-input f events attributes = (rw f refl, (rw f refl, rw f refl))
 
-  pub input-cut : length s < 12 → (events attributes : List ℕ) → Answered Not events events attributes attributes
+  pub input-cut : length s < 12 → (events attributes : List ℕ) → Answered None events events attributes attributes
   unfolding whole
   input-cut h = no-input (rw (lt-leb 12 (length s) h) refl)
 
@@ -50,12 +49,12 @@ module _ (m n : ℕ) (s : List ℕ) where
     unfolding whole
     tested = ap (λ (t : Bool). t && rest m n (length s) (events_in s) (attributes_in s) (source_in s)) (le-leb 12 (length s) long) ∙ sym (h ∙ rw (he, ha, hk) refl)
 
-    pub input-not : b ≡ false → (events attributes : List ℕ) → Answered Not events events attributes attributes
+    pub input-not : b ≡ false → (events attributes : List ℕ) → Answered None events events attributes attributes
     input-not f = no-input (tested ∙ f)
 
     pub input-is : b ≡ true → (events events' attributes attributes' : List ℕ) → events' ≡ laid events (words_of (e * 5) (drop 12 s))
         → attributes' ≡ laid attributes (words_of (a * 5) (drop (12 + e * 20) s)) →
-        Answered (Is (record { events = e * 5; attributes = a * 5; at = 12 + e * 20 + a * 20; source = k })) events events' attributes attributes'
+        Answered (Some (record { events = e * 5; attributes = a * 5; at = 12 + e * 20 + a * 20; source = k })) events events' attributes attributes'
     unfolding input_of parts_in
     input-is f events events' attributes attributes' p q = (rw (tested ∙ f, he, ha, hk) refl, (rw (tested ∙ f) (p ∙ rw he refl), rw (tested ∙ f) (q ∙ rw (he, ha) refl)))
 
@@ -71,7 +70,7 @@ module _ (m n : ℕ) (s : List ℕ) where
   abbrev table : Table
   table = record { events = words_of (events_in s * 5) (drop 12 s); attributes = words_of (attributes_in s * 5) (drop (attributes_at s) s); source = take (source_in s) (drop (source_at s) s) }
 
-  is-parts : whole m n s ≡ true → parts_in m n s ≡ Is parts
+  is-parts : whole m n s ≡ true → parts_in m n s ≡ Some parts
   unfolding parts_in
   is-parts t = rw t refl
 
@@ -79,7 +78,7 @@ module _ (m n : ℕ) (s : List ℕ) where
   unfolding input_of
   is-table t = rw t refl
 
-  not-parts : whole m n s ≡ false → parts_in m n s ≡ Not
+  not-parts : whole m n s ≡ false → parts_in m n s ≡ None
   unfolding parts_in
   not-parts t = rw t refl
 
@@ -109,11 +108,11 @@ module _ (m n : ℕ) (s : List ℕ) where
       go false t = rw (not-parts t, not_table t) refl
 
 -- of an answer and areas that are so; the areas have the lengths that they had
-pub found-lies : (found : Found) (m m' n n' : ℕ) (s : List ℕ) → found ≡ parts_in m n s → m' ≡ m → n' ≡ n → Lies found m' n' (length s)
+pub found-lies : (found : Option Parts) (m m' n n' : ℕ) (s : List ℕ) → found ≡ parts_in m n s → m' ≡ m → n' ≡ n → Lies found m' n' (length s)
 found-lies found m m' n n' s e p q = rw (e, p, q) (parts-lie m n s)
 
 -- the answer and the two areas together are the input's table, or none where it has none
-pub found-table : (found : Found) (events events' attributes attributes' s : List ℕ) → found ≡ parts_in (length events) (length attributes) s →
+pub found-table : (found : Option Parts) (events events' attributes attributes' s : List ℕ) → found ≡ parts_in (length events) (length attributes) s →
     events' ≡ events_left (input_of (length events) (length attributes) s) events → attributes' ≡ attributes_left (input_of (length events) (length attributes) s) attributes →
     found_of found events' attributes' s ≡ input_of (length events) (length attributes) s
 found-table found events events' attributes attributes' s e p q = rw (e, p, q) (parts-found (length events) (length attributes) s events attributes refl refl)

@@ -1,9 +1,8 @@
 -- The program's input (rules P1 and P2). Definitions only.
-use Rattle.std.specs.Prelude.{ℕ, zero, suc, ◌+◌, ◌*◌, ◌≤◌, List, [], ◌∷◌, Bool, cond, ◌&&◌, length, get_or, take, drop, leb}
+use Rattle.std.specs.Prelude.{ℕ, zero, suc, ◌+◌, ◌*◌, ◌≤◌, List, [], ◌∷◌, Bool, cond, ◌&&◌, length, get_or, take, drop, leb, Some, None, Option as Maybe}
 use Rattle.std.proofs.Math.Option.{Option, none, some}
 use Rattle.area.specs.Area.{laid}
-use Rattle.list_input.specs.declared.Found.{Found}
-use Rattle.list_input.specs.declared.Found.TheVariants.{Is, Not}
+use Rattle.list_input.specs.declared.Parts.{Parts}
 
 -- a little-endian word, of the four bytes at the front (rule P1)
 abbrev pub word_of : List ℕ → ℕ
@@ -55,8 +54,8 @@ input_of m n s =
     none
 
 -- what is answered: how many words of the two areas are used, and where the source begins and how long it is
-unfoldable pub parts_in : ℕ → ℕ → List ℕ → Found
-parts_in m n s = cond (whole m n s) (Is (record { events = events_in s * 5; attributes = attributes_in s * 5; at = source_at s; source = source_in s })) Not
+unfoldable pub parts_in : ℕ → ℕ → List ℕ → Maybe Parts
+parts_in m n s = cond (whole m n s) (Some (record { events = events_in s * 5; attributes = attributes_in s * 5; at = source_at s; source = source_in s })) None
 
 -- the two areas afterwards: the words at the front of what was there; as they were where the input is no table
 abbrev pub events_left : Option Table → List ℕ → List ℕ
@@ -68,11 +67,11 @@ attributes_left (some t) area = laid area t.attributes
 attributes_left none area = area
 
 -- the table that an answer and the areas stand for: how many words of the two areas, and where the source begins and how long it is
-abbrev pub found_of : Found → List ℕ → List ℕ → List ℕ → Option Table
-found_of (Is x) events attributes s = some (record { events = take x.events events; attributes = take x.attributes attributes; source = take x.source (drop x.at s) })
-found_of Not events attributes s = none
+abbrev pub found_of : Maybe Parts → List ℕ → List ℕ → List ℕ → Option Table
+found_of (Some x) events attributes s = some (record { events = take x.events events; attributes = take x.attributes attributes; source = take x.source (drop x.at s) })
+found_of None events attributes s = none
 
 -- the parts lie in areas of m and n words and an input of k bytes, behind the three numbers
-abbrev pub Lies : Found → ℕ → ℕ → ℕ → Type 0
-Lies (Is x) m n k = (x.events ≤ m) × (x.attributes ≤ n) × (12 ≤ x.at) × (x.at + x.source ≤ k)
-Lies Not m n k = Unit {0}
+abbrev pub Lies : Maybe Parts → ℕ → ℕ → ℕ → Type 0
+Lies (Some x) m n k = (x.events ≤ m) × (x.attributes ≤ n) × (12 ≤ x.at) × (x.at + x.source ≤ k)
+Lies None m n k = Unit {0}

@@ -18,12 +18,6 @@ pub struct Parts {
     pub source: usize,
 }
 
-#[derive(Clone, Copy)]
-pub enum Found {
-    Is(Parts),
-    Not,
-}
-
 // The three numbers.
 #[derive(Clone, Copy)]
 struct Numbers {
@@ -45,10 +39,7 @@ pub fn front(s: &[u8], n: usize) -> &[u8]
 fn byte_at(s: &[u8], i: usize) -> u8
     ensures { result ≡ get_or s.now i 0 }
 {
-    if i < s.len() {
-        return s[i];
-    }
-    0
+    s.get(i).copied().unwrap_or(0)
 }
 
 // The little-endian word that s begins with (rule P1).
@@ -86,11 +77,9 @@ fn fill_words(words: &mut [u32], s: &[u8])
     requires { length words.old * 4 ≤ length s.now }
     ensures { words.new ≡ words_of (length words.old) s.now }
 {
-    let mut i = 0;
-    while i < words.len() {
+    for i in 0..words.len() {
         let at = i * 4;
         words[i] = word_of(&s[at..]);
-        i += 1;
     }
 }
 
@@ -115,17 +104,17 @@ fn is_whole(n: Numbers, m: usize, k: usize, size: usize) -> bool
 
 // Puts the words of the table that s begins with at the front of the two areas (rule P1). An input that is cut off or too large
 // (rule P2) is no table, and leaves the areas as they are.
-pub fn input_of(s: &[u8], events: &mut [u32], attributes: &mut [u32]) -> Found
+pub fn input_of(s: &[u8], events: &mut [u32], attributes: &mut [u32]) -> Option<Parts>
     ensures value { result ≡ parts_in (length events.old) (length attributes.old) s.now }
     ensures events_after { events.new ≡ events_left (input_of (length events.old) (length attributes.old) s.now) events.old }
     ensures attributes_after { attributes.new ≡ attributes_left (input_of (length events.old) (length attributes.old) s.now) attributes.old }
 {
     if s.len() < 12 {
-        return Found::Not;
+        return None;
     }
     let n = numbers_of(s);
     if !is_whole(n, events.len(), attributes.len(), s.len()) {
-        return Found::Not;
+        return None;
     }
     let here = n.events * 5;
     let there = n.attributes * 5;
@@ -133,7 +122,7 @@ pub fn input_of(s: &[u8], events: &mut [u32], attributes: &mut [u32]) -> Found
     let at = middle + n.attributes * 20;
     fill_front(events, here, s, 12);
     fill_front(attributes, there, s, middle);
-    Found::Is(Parts {
+    Some(Parts {
         events: here,
         attributes: there,
         at,

@@ -9,7 +9,7 @@ ghost use Rattle.list_input.specs.Input.{found_of, Lies};
 
 pub use list_input as the_list_input;
 use list_input::the_area::clear_words;
-use list_input::{Found, front, input_of};
+use list_input::{Parts, front, input_of};
 pub use public_call as the_public_call;
 use public_call::the_clearing::clear_all;
 pub use public_call::the_reader;
@@ -29,7 +29,7 @@ fn refuse_input(records: &mut [u32], text: &mut [u8], scratch: &mut [u8], out: &
 
 // The listing of what was found in the input: `events` and `attributes` are the areas that hold its words.
 fn print_found(
-    found: Found,
+    found: Option<Parts>,
     input: &[u8],
     events: &[u32],
     attributes: &[u32],
@@ -48,7 +48,7 @@ fn print_found(
     ensures scratch { scratch.new ≡ zeros (length scratch.old) }
 {
     match found {
-        Found::Is(x) => {
+        Some(x) => {
             let m = x.events;
             let n = x.attributes;
             let at = x.at;
@@ -63,7 +63,7 @@ fn print_found(
                 out,
             )
         }
-        Found::Not => refuse_input(records, text, scratch, out),
+        None => refuse_input(records, text, scratch, out),
     }
 }
 

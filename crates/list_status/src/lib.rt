@@ -10,7 +10,6 @@ ghost use Rattle.list_sums.specs.inside.Summed.{is_skipped_by, status_by, is_fla
 pub use list_sums as the_list_sums;
 use list_sums::Summary;
 pub use list_values as the_list_values;
-use list_values::the_area::Stored;
 use list_values::the_list_text::put;
 use list_values::the_tree_record::kind;
 pub use list_values::{the_area, the_list_text, the_tree_record};
@@ -40,7 +39,7 @@ fn runs_of(s: Summary) -> usize
     if is_skipped(s) { 0 } else { s.runs }
 }
 
-fn put_main(out: &mut [u8], k: Stored, s: Summary) -> Stored
+fn put_main(out: &mut [u8], k: Option<usize>, s: Summary) -> Option<usize>
     ensures { Puts (filled k out.old) (32 ∷ status_word (status_by s)) (filled result out.new) }
 {
     if !s.settled {
@@ -55,7 +54,7 @@ fn put_main(out: &mut [u8], k: Stored, s: Summary) -> Stored
 }
 
 // By rule S11.
-fn put_kind(out: &mut [u8], k: Stored, s: Summary) -> Stored
+fn put_kind(out: &mut [u8], k: Option<usize>, s: Summary) -> Option<usize>
     ensures { Puts (filled k out.old) (32 ∷ kind_word (kind_by s)) (filled result out.new) }
 {
     if is_skipped(s) {
@@ -68,7 +67,7 @@ fn put_kind(out: &mut [u8], k: Stored, s: Summary) -> Stored
 }
 
 // Status, kind of the runs, and their number (rule S10).
-pub fn put_status(out: &mut [u8], k: Stored, s: Summary) -> Stored
+pub fn put_status(out: &mut [u8], k: Option<usize>, s: Summary) -> Option<usize>
     ensures { Puts (filled k out.old) (fields (status_word (status_by s) ∷ kind_word (kind_by s) ∷ decimal (runs_by s) ∷ [])) (filled result out.new) }
 {
     let main = put_main(out, k, s);

@@ -33,8 +33,7 @@ fn with_main(s: Summary, r: &[u32]) -> Summary
         settled: true,
         main: field(r, word::KIND),
         flagged: has_bit(r, bit::FLAKY),
-        run: s.run,
-        runs: s.runs,
+        ..s
     }
 }
 
@@ -45,11 +44,9 @@ fn with_run(s: Summary, r: &[u32]) -> Summary
 {
     let k = field(r, word::KIND);
     Summary {
-        settled: s.settled,
-        main: s.main,
-        flagged: s.flagged,
         run: if s.runs == 0 { k } else { s.run },
         runs: s.runs + 1,
+        ..s
     }
 }
 
@@ -80,6 +77,7 @@ pub fn sum_up(words: &[u32]) -> Summary
         runs: 0,
     };
     let mut at = 0;
+    // while: each turn passes a whole record.
     while rows::stands_here(&words[at..]) {
         let end = at + 32;
         let r = &words[at..end];

@@ -5,9 +5,9 @@ use mathlib.Core.List.{List}
 use mathlib.Core.Bool.{true, false}
 use native.Mathlib.Omega.{arith}
 use lib.ListN.{length, length-replicate}
+use Rattle.std.specs.Prelude.{Some, None}
 use Rattle.time_text.specs.of_area.Answer.{Answer, gives, refuses}
 use Rattle.time_text.specs.of_area.Area.{zeros, placing, laid}
-use Rattle.time_text.specs.of_area.declared.Stored.TheVariants.{Put, Full}
 use Rattle.tree_report.specs.Layout.{layout}
 use Rattle.list_text.specs.Listing.{listing_of, listing_answer, output_for, output_of}
 use Rattle.list_text.specs.inside.Behind.{Filled, filled, behind, Puts}
@@ -39,21 +39,21 @@ module _ (words text : List ℕ) (n : ℕ) where
     unfolding output_of
     output = ap (λ (a : Answer ℕ). output_for a n f) answered
 
-    module _ {out : List ℕ} {t : Filled} (z : out ≡ zeros n) (p : Puts (filled (Put 0) out) f t) where
+    module _ {out : List ℕ} {t : Filled} (z : out ≡ zeros n) (p : Puts (filled (Some 0) out) f t) where
       left_behind : t ≡ (placing cause.OutputFull n f, laid (zeros n) f)
       left_behind =
           p.same ∙ ap (λ (x : List ℕ). behind (gives 0, x) f) z ∙ from_start (zeros n) f
           ∙ ap (λ (m : ℕ). (placing cause.OutputFull m f, laid (zeros n) f)) (length-replicate {A = ℕ} n 0)
 
     -- the listing was put
-    pub whole-listing : {out out' : List ℕ} (m : ℕ) → out ≡ zeros n → Puts (filled (Put 0) out) f (filled (Put m) out') → (gives m ≡ listing_answer words text n) × (out' ≡ output_of words text n)
+    pub whole-listing : {out out' : List ℕ} (m : ℕ) → out ≡ zeros n → Puts (filled (Some 0) out) f (filled (Some m) out') → (gives m ≡ listing_answer words text n) × (out' ≡ output_of words text n)
     whole-listing m z p =
         let l = left_behind z p in
         let a : gives m ≡ placing cause.OutputFull n f = ap (λ (x : Filled). x.0) l in
         (a ∙ sym answered, ap (λ (x : Filled). x.1) l ∙ sym (output ∙ ap (λ (x : Answer ℕ). output_for x n f) (sym a)))
 
     -- it didn't fit
-    pub short-listing : {out out' out'' : List ℕ} → out ≡ zeros n → Puts (filled (Put 0) out) f (filled Full out')
+    pub short-listing : {out out' out'' : List ℕ} → out ≡ zeros n → Puts (filled (Some 0) out) f (filled None out')
         → out'' ≡ zeros n → (refuses cause.OutputFull ≡ listing_answer words text n) × (out'' ≡ output_of words text n)
     short-listing z p y =
         let l = left_behind z p in

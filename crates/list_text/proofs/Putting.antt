@@ -1,6 +1,6 @@
 -- Texts put one behind the other. Assumes nothing.
 use Prim.Native.Nat.{ℕ, ◌+◌, ◌-◌, ◌≤◌, ◌<◌, min}
-use mathlib.Core.Path.{◌≡◌, refl, sym, ap, ◌∙◌}
+use mathlib.Core.Path.{◌≡◌, refl, sym, ap, subst, ◌∙◌}
 use mathlib.Core.List.{List, [], ◌∷◌, ◌++◌, append_assoc}
 use mathlib.Core.Bool.{Bool, true, false, cond, not, ◌&&◌}
 use native.Mathlib.Nat.{min-eq_left, min-eq_right}
@@ -11,13 +11,14 @@ use borrow.Rule.Slice.PartMut.{put_mid}
 use lib.Dec.{leb}
 use lib.ListN.{length, take, drop, length-append, length-drop, drop_of_length-le, take-append-drop}
 use lib.Seq.{length-take-le, take_all, take_at, drop_at, take-append-le}
+use Rattle.std.specs.Borrow.{MutBor}
+use Rattle.std.specs.Fn.{Once, FnOnceReturnsAtMut}
+use Rattle.std.specs.Prelude.{Option, Some, None}
 use Rattle.time_text.specs.of_area.Answer.{gives, refuses}
 use Rattle.time_text.specs.of_area.Area.{placing, laid, stored_answer}
-use Rattle.time_text.specs.of_area.declared.Stored.{Stored}
-use Rattle.time_text.specs.of_area.declared.Stored.TheVariants.{Put, Full}
 use Rattle.time_text.proofs.of_area.Parts.{rest_part, rest_back}
 use Rattle.time_text.proofs.of_area.Laying.{laid-fits, laid-over, laid-append, put-fits, full-over}
-use Rattle.list_text.specs.inside.Behind.{Filled, filled, is_full, behind, Puts}
+use Rattle.list_text.specs.inside.Behind.{Filled, filled, is_full, free_of, Writes, behind, Puts}
 use Rattle.time_text.specs.of_refusal.declared.Cause.TheVariants as cause
 
 leb-less : (a b r : ℕ) → a ≤ r → leb b (r - a) ≡ leb (a + b) r
@@ -132,22 +133,32 @@ pub other : {s t : Filled} {f g : List ℕ} → Puts s f t → f ≡ g → Puts 
 other {s} p q = record { same = p.same ∙ ap (behind s) q }
 
 -- once a text didn't fit, nothing more is put, whatever it is
-pub puts-full : (out f : List ℕ) → Puts (filled Full out) f (filled Full out)
+pub puts-full : (out f : List ℕ) → Puts (filled None out) f (filled None out)
 unfolding behind
 puts-full out f = record { same = refl }
+
+rest-same : (used from : ℕ) (out : List ℕ) → from ≡ min used (length out) → drop from out ≡ drop used out
+rest-same used from out e = go (dec_le used (length out))
+  where
+    go : Dec (used ≤ length out) → drop from out ≡ drop used out
+    go (yes h) = rw (e, min-eq_left h) refl
+    go (no h) =
+        let z : from ≡ length out = e ∙ min-eq_right (omega arith) in
+        drop_of_length-le out {i = from} (omega arith) ∙ sym (drop_of_length-le out {i = used} (omega arith))
+
+front-same : (used from : ℕ) (out : List ℕ) → from ≡ min used (length out) → take from out ≡ take used out
+front-same used from out e = go (dec_le used (length out))
+  where
+    go : Dec (used ≤ length out) → take from out ≡ take used out
+    go (yes h) = rw (e, min-eq_left h) refl
+    go (no h) =
+        let z : from ≡ length out = e ∙ min-eq_right (omega arith) in
+        take_all from out (omega arith) ∙ sym (take_all used out (omega arith))
 
 -- a call that is lent the area from the mark on
 module _ (used from : ℕ) (out out' f : List ℕ) (e : from ≡ min used (length out)) (o : out' ≡ take from out ++ laid (drop from out) f) where
   same-front : take from out ++ laid (drop from out) f ≡ take used out ++ laid (drop used out) f
-  same-front = go (dec_le used (length out))
-    where
-      go : Dec (used ≤ length out) → take from out ++ laid (drop from out) f ≡ take used out ++ laid (drop used out) f
-      go (yes h) = rw (e, min-eq_left h) refl
-      go (no h) =
-          let z : from ≡ length out = e ∙ min-eq_right (omega arith) in
-          let a : take from out ≡ take used out = take_all from out (omega arith) ∙ sym (take_all used out (omega arith)) in
-          let b : drop from out ≡ drop used out = drop_of_length-le out {i = from} (omega arith) ∙ sym (drop_of_length-le out {i = used} (omega arith)) in
-          rw (a, b) refl
+  same-front = rw (front-same used from out e, rest-same used from out e) refl
 
   room-same : length (drop from out) ≡ length out - used
   room-same = length-drop from out ∙ go (dec_le used (length out))
@@ -171,13 +182,13 @@ module _ (used from : ℕ) (out out' f : List ℕ) (e : from ≡ min used (lengt
       record { same = rw (lt-leb (length f) (length out - used) l, o ∙ same-front) refl }
 
 -- the same in the code's terms: ys is what the call left of the part that it was lent, r its answer
-pub full-stays : {k : Stored} (out t : List ℕ) → k ≡ Full → Puts (filled k out) t (filled Full out)
+pub full-stays : {k : Option ℕ} (out t : List ℕ) → k ≡ None → Puts (filled k out) t (filled None out)
 full-stays out t e = rw e (puts-full out t)
 
 abbrev lent : List ℕ → ℕ → List ℕ
 lent out from = take (length out - from) (drop from out)
 
-module _ (r : Stored) (out t ys : List ℕ) (used from : ℕ) (e : from ≡ min used (length out)) (w : ys ≡ laid (lent out from) t)
+module _ (r : Option ℕ) (out t ys : List ℕ) (used from : ℕ) (e : from ≡ min used (length out)) (w : ys ≡ laid (lent out from) t)
     (a : stored_answer cause.OutputFull r ≡ placing cause.OutputFull (length (lent out from)) t) where
   back : put_mid from (length out - from) out ys ≡ take from out ++ laid (drop from out) t
   back = rest_back out from ys ∙ ap (λ (z : List ℕ). take from out ++ z) (w ∙ ap (λ (z : List ℕ). laid z t) (rest_part out from))
@@ -186,19 +197,38 @@ module _ (r : Stored) (out t ys : List ℕ) (used from : ℕ) (e : from ≡ min 
   answer = a ∙ ap (λ (z : List ℕ). placing cause.OutputFull (length z) t) (rest_part out from)
 
   -- a call that was lent the free part of the area and put its text: the text is put behind what is in use
-  pub lent-put : {k : Stored} (n : ℕ) → k ≡ Put used → r ≡ Put n → Puts (filled k out) t (filled (Put (used + n)) (put_mid from (length out - from) out ys))
+  pub lent-put : {k : Option ℕ} (n : ℕ) → k ≡ Some used → r ≡ Some n → Puts (filled k out) t (filled (Some (used + n)) (put_mid from (length out - from) out ys))
   lent-put n q p = rw q (put-behind used from out (put_mid from (length out - from) out ys) t e back n (sym (ap (stored_answer cause.OutputFull) p) ∙ answer))
 
   -- a call that was lent the free part and had no room: the area counts as full from then on
-  pub lent-full : {k : Stored} → k ≡ Put used → r ≡ Full → Puts (filled k out) t (filled Full (put_mid from (length out - from) out ys))
+  pub lent-full : {k : Option ℕ} → k ≡ Some used → r ≡ None → Puts (filled k out) t (filled None (put_mid from (length out - from) out ys))
   lent-full q p = rw q (full_put used from out (put_mid from (length out - from) out ys) t e back (sym (ap (stored_answer cause.OutputFull) p) ∙ answer))
 
   -- what such a call put fits into what was free, so that the sum of both doesn't overflow
-  pub lent-most : (n : ℕ) → r ≡ Put n → n ≤ length out - used
+  pub lent-most : (n : ℕ) → r ≡ Some n → n ≤ length out - used
   lent-most n p =
       let q = put-fits cause.OutputFull (length (drop from out)) t n (sym (ap (stored_answer cause.OutputFull) p) ∙ answer) in
       let s : length (drop from out) ≡ length out - used = room-same used from out (put_mid from (length out - from) out ys) t e back in
       omega (arith, q.0, q.1)
+
+-- the same of a closure that was lent that part
+module _ {F : Type 0} {g : Once F (MutBor (List ℕ) × Unit {0}) (Option ℕ × (MutBor (List ℕ) × Unit {0}))} {write : F} {k : Option ℕ} {used from : ℕ}
+    (t : List ℕ) (r : Option ℕ) (out ys : List ℕ) (q : k ≡ Some used) (e : from ≡ min used (length out)) (v : Writes g write (free_of k out) t)
+    (h : FnOnceReturnsAtMut g write (lent out from) r ys) where
+  free-lent : free_of k out ≡ lent out from
+  free-lent = ap (λ (x : Option ℕ). free_of x out) q ∙ sym (rest-same used from out e) ∙ sym (rest_part out from)
+
+  written : (stored_answer cause.OutputFull r ≡ placing cause.OutputFull (length (lent out from)) t) × (ys ≡ laid (lent out from) t)
+  written = let P : List ℕ → Type 0 = λ x. Writes g write x t in subst P free-lent v r ys h
+
+  pub wrote : (n : ℕ) → r ≡ Some n → Puts (filled k out) t (filled (Some (used + n)) (put_mid from (length out - from) out ys))
+  wrote n p = lent-put r out t ys used from e written.1 written.0 n q p
+
+  pub wrote-full : r ≡ None → Puts (filled k out) t (filled None (put_mid from (length out - from) out ys))
+  wrote-full p = lent-full r out t ys used from e written.1 written.0 q p
+
+  pub wrote-most : (n : ℕ) → r ≡ Some n → n ≤ length out - used
+  wrote-most n p = lent-most r out t ys used from e written.1 written.0 n p
 
 -- ---- a loop that puts: of the text w the part f is still to come, s₀ is the area at the start, s as it is
 pub record Coming (s₀ : Filled) (w : List ℕ) (s : Filled) (f : List ℕ) : Type 0 where
@@ -220,10 +250,10 @@ coming_puts {s₀} {s} {t} {w} {f} {g} c p = record { left = ap (λ (x : Filled)
 pub coming-done : {s₀ s : Filled} {w : List ℕ} → Coming s₀ w s [] → Puts s₀ w s
 coming-done {s₀} {s} c = record { same = sym (behind-none s) ∙ c.left }
 
-coming-full : {s₀ : Filled} {w : List ℕ} (out : List ℕ) {f : List ℕ} → Coming s₀ w (filled Full out) f → Puts s₀ w (filled Full out)
+coming-full : {s₀ : Filled} {w : List ℕ} (out : List ℕ) {f : List ℕ} → Coming s₀ w (filled None out) f → Puts s₀ w (filled None out)
 coming-full out {f} c = record { same = (puts-full out f).same ∙ c.left }
 
 -- the loop ends once a text didn't fit, or where nothing is left
-pub coming-stop : {s₀ : Filled} {w : List ℕ} (k : Stored) {out f : List ℕ} (b : Bool) → Coming s₀ w (filled k out) f → (not (is_full k) && b) ≡ false → (b ≡ false → f ≡ []) → Puts s₀ w (filled k out)
-coming-stop (Put k) b c e none = coming-done (coming_on c (none e))
-coming-stop Full {out} b c e none = coming-full out c
+pub coming-stop : {s₀ : Filled} {w : List ℕ} (k : Option ℕ) {out f : List ℕ} (b : Bool) → Coming s₀ w (filled k out) f → (not (is_full k) && b) ≡ false → (b ≡ false → f ≡ []) → Puts s₀ w (filled k out)
+coming-stop (Some k) b c e none = coming-done (coming_on c (none e))
+coming-stop None {out} b c e none = coming-full out c

@@ -10,7 +10,7 @@ ghost use Rattle.list_text.specs.inside.Behind.{filled, Puts};
 
 pub use list_text as the_list_text;
 use list_text::put;
-use list_text::the_area::{Stored, least};
+use list_text::the_area::least;
 use list_text::the_tree_record::{bit, field, has_bit, word};
 pub use list_text::{the_area, the_names, the_refusal, the_tree_record};
 
@@ -24,7 +24,7 @@ pub fn part_of(text: &[u8], start: u32, len: u32) -> &[u8]
     &rest[..to]
 }
 
-fn put_quoted(out: &mut [u8], k: Stored, s: &[u8]) -> Stored
+fn put_quoted(out: &mut [u8], k: Option<usize>, s: &[u8]) -> Option<usize>
     ensures { Puts (filled k out.old) (32 ∷ quoted s.now) (filled result out.new) }
 {
     let opened = put(out, k, b" \"");
@@ -33,7 +33,7 @@ fn put_quoted(out: &mut [u8], k: Stored, s: &[u8]) -> Stored
 }
 
 // The name of a suite or case (rule L8).
-pub fn put_name(out: &mut [u8], k: Stored, text: &[u8], r: &[u32]) -> Stored
+pub fn put_name(out: &mut [u8], k: Option<usize>, text: &[u8], r: &[u32]) -> Option<usize>
     ensures { Puts (filled k out.old) (32 ∷ quoted (tree.text_at text.now r.now word.name)) (filled result out.new) }
 {
     put_quoted(
@@ -44,7 +44,7 @@ pub fn put_name(out: &mut [u8], k: Stored, text: &[u8], r: &[u32]) -> Stored
 }
 
 // The name of a report, which may be missing.
-pub fn put_first(out: &mut [u8], k: Stored, text: &[u8], r: &[u32]) -> Stored
+pub fn put_first(out: &mut [u8], k: Option<usize>, text: &[u8], r: &[u32]) -> Option<usize>
     ensures { Puts (filled k out.old) (32 ∷ or_dash quoted (tree.first text.now r.now)) (filled result out.new) }
 {
     if has_bit(r, bit::NAME) {
@@ -53,7 +53,7 @@ pub fn put_first(out: &mut [u8], k: Stored, text: &[u8], r: &[u32]) -> Stored
     put(out, k, b" -")
 }
 
-pub fn put_classname(out: &mut [u8], k: Stored, text: &[u8], r: &[u32]) -> Stored
+pub fn put_classname(out: &mut [u8], k: Option<usize>, text: &[u8], r: &[u32]) -> Option<usize>
     ensures { Puts (filled k out.old) (32 ∷ or_dash quoted (tree.second text.now r.now)) (filled result out.new) }
 {
     if has_bit(r, bit::CLASSNAME) {
@@ -70,7 +70,7 @@ pub fn put_classname(out: &mut [u8], k: Stored, text: &[u8], r: &[u32]) -> Store
     put(out, k, b" -")
 }
 
-pub fn put_time(out: &mut [u8], k: Stored, r: &[u32]) -> Stored
+pub fn put_time(out: &mut [u8], k: Option<usize>, r: &[u32]) -> Option<usize>
     ensures { Puts (filled k out.old) (32 ∷ or_dash timed (tree.time r.now)) (filled result out.new) }
 {
     if has_bit(r, bit::TIME) {
@@ -85,7 +85,7 @@ pub fn put_time(out: &mut [u8], k: Stored, r: &[u32]) -> Stored
     put(out, k, b" -")
 }
 
-pub fn put_number(out: &mut [u8], k: Stored, n: u64) -> Stored
+pub fn put_number(out: &mut [u8], k: Option<usize>, n: u64) -> Option<usize>
     ensures { Puts (filled k out.old) (32 ∷ decimal n) (filled result out.new) }
 {
     let space = put(out, k, b" ");
@@ -99,14 +99,14 @@ fn number_of(low: u32, high: u32) -> u64
 }
 
 // The count at the words o and o + 1.
-fn put_count(out: &mut [u8], k: Stored, r: &[u32], o: usize) -> Stored
+fn put_count(out: &mut [u8], k: Option<usize>, r: &[u32], o: usize) -> Option<usize>
     requires { o ≤ 30 }
     ensures { Puts (filled k out.old) (32 ∷ decimal (tree.number_at r.now o)) (filled result out.new) }
 {
     put_number(out, k, number_of(field(r, o), field(r, o + 1)))
 }
 
-fn put_disabled(out: &mut [u8], k: Stored, r: &[u32]) -> Stored
+fn put_disabled(out: &mut [u8], k: Option<usize>, r: &[u32]) -> Option<usize>
     ensures { Puts (filled k out.old) (32 ∷ or_dash decimal (tree.counts r.now).disabled) (filled result out.new) }
 {
     if has_bit(r, bit::DISABLED) {
@@ -116,7 +116,7 @@ fn put_disabled(out: &mut [u8], k: Stored, r: &[u32]) -> Stored
 }
 
 // The five counts of a report or suite.
-pub fn put_counts(out: &mut [u8], k: Stored, r: &[u32]) -> Stored
+pub fn put_counts(out: &mut [u8], k: Option<usize>, r: &[u32]) -> Option<usize>
     ensures { Puts (filled k out.old) (fields (count_fields (tree.counts r.now))) (filled result out.new) }
 {
     let tests = put_count(out, k, r, word::TESTS);

@@ -1,9 +1,8 @@
 // The public listing of a layout: its text, put into an area that the caller lends.
 #![tactic(auto)]
 
-ghost use Rattle.std.specs.Prelude.{◌≡◌, true, length};
+ghost use Rattle.std.specs.Prelude.{◌≡◌, true, length, Some};
 ghost use Rattle.tree_layout.specs.of_refusal.Refusal.{refused, late};
-ghost use Rattle.tree_layout.specs.of_area.declared.Stored.TheVariants.{Put};
 ghost use Rattle.tree_layout.specs.of_tree_report.Layout.{layout};
 ghost use Rattle.list_suites.specs.of_list_text.inside.Behind.{filled, Puts};
 ghost use Rattle.list_suites.specs.of_list_text.Listing.{listed, output_of};
@@ -14,7 +13,7 @@ ghost use Rattle.lister.specs.Answer.{listing_from};
 use list_suites::the_list_sums::rows::stands_here;
 use list_suites::the_list_text::put;
 pub use list_suites::the_list_values;
-use tree_layout::the_area::{Stored, least, limit};
+use tree_layout::the_area::{least, limit};
 use tree_layout::the_refusal::{Cause, Refusal, Verdict, no_refusal, refuse_late};
 use tree_layout::the_tree_record::{field, kind, word};
 pub use tree_layout::{
@@ -30,10 +29,10 @@ pub struct Listing {
 }
 
 // By rule L10.
-fn put_whole(out: &mut [u8], text: &[u8], r: &[u32], below: &[u32]) -> Stored
-    ensures { Puts (filled (Put 0) out.old) (whole_shown text.now r.now (records_in below.now)) (filled result out.new) }
+fn put_whole(out: &mut [u8], text: &[u8], r: &[u32], below: &[u32]) -> Option<usize>
+    ensures { Puts (filled (Some 0) out.old) (whole_shown text.now r.now (records_in below.now)) (filled result out.new) }
 {
-    let opened = put(out, Stored::Put(0), b"(report");
+    let opened = put(out, Some(0), b"(report");
     let name = list_suites::the_list_values::put_first(out, opened, text, r);
     let counts = list_suites::the_list_values::put_counts(out, name, r);
     let suites = list_suites::put_suites(out, counts, text, below);
@@ -41,10 +40,11 @@ fn put_whole(out: &mut [u8], text: &[u8], r: &[u32], below: &[u32]) -> Stored
 }
 
 // By rule L6. The report is the first live record; there is one in every layout.
-fn put_report(out: &mut [u8], text: &[u8], words: &[u32]) -> Stored
-    ensures { Puts (filled (Put 0) out.old) (report_shown text.now (records_in words.now)) (filled result out.new) }
+fn put_report(out: &mut [u8], text: &[u8], words: &[u32]) -> Option<usize>
+    ensures { Puts (filled (Some 0) out.old) (report_shown text.now (records_in words.now)) (filled result out.new) }
 {
     let mut at = 0;
+    // while: each turn passes a whole record.
     while stands_here(&words[at..]) {
         let end = at + 32;
         let r = &words[at..end];
@@ -53,7 +53,7 @@ fn put_report(out: &mut [u8], text: &[u8], words: &[u32]) -> Stored
             return put_whole(out, text, r, &words[end..]);
         }
     }
-    Stored::Put(0)
+    Some(0)
 }
 
 // By rule F13.
@@ -78,7 +78,7 @@ pub fn list_known(records: &[u32], text: &[u8], out: &mut [u8]) -> Listing
     let limit = least(records.len(), limit::WORDS);
     let bytes = least(text.len(), limit::BYTES);
     let put = put_report(out, &text[..bytes], &records[..limit]);
-    let Stored::Put(length) = put else {
+    let Some(length) = put else {
         tree_layout::the_area::clear(out);
         return refuse(Cause::OutputFull);
     };

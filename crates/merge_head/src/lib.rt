@@ -26,6 +26,7 @@ pub fn report_in(words: &[u32]) -> &[u32]
     ensures { result.now ≡ head.first_of (only live (records_in words.now)) }
 {
     let mut at = 0;
+    // while: each turn passes a whole record.
     while stands_here(&words[at..]) {
         let end = at + 32;
         let k = field(&words[at..end], word::KIND);

@@ -43,6 +43,7 @@ pub fn needs_of(words: &[u32]) -> Needs
     let mut records = 0;
     let mut bytes = 0;
     let mut at = 0;
+    // while: each turn passes a whole record.
     while stands_here(&words[at..]) {
         let end = at + 32;
         let r = &words[at..end];
@@ -65,6 +66,7 @@ pub fn put_rows(words: &[u32], text: &[u8], out: &mut [u32], bytes: &mut [u8], f
     let mut next = from.word;
     let mut fill = from.fill;
     let mut at = 0;
+    // while: each turn passes a whole record.
     while stands_here(&words[at..]) {
         let end = at + 32;
         let r = &words[at..end];

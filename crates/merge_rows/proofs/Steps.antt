@@ -7,8 +7,7 @@ use native.Mathlib.Nat.{le_of_eq}
 use native.Mathlib.Omega.{arith}
 use lib.Dec.{eqb}
 use lib.ListN.{length, get_or, set, take, drop, drop_of_length-le}
-use Rattle.write_bytes.specs.of_area.declared.Stored.{Stored}
-use Rattle.write_bytes.specs.of_area.declared.Stored.TheVariants.{Put}
+use Rattle.std.specs.Prelude.{Option, Some}
 use Rattle.write_bytes.proofs.of_area.Laying.{laid-fits}
 use Rattle.write_bytes.specs.of_list_text.inside.Behind.{Filled, filled, behind, Puts}
 use Rattle.write_bytes.specs.of_tree_record.Record as words
@@ -71,7 +70,7 @@ module _ (m : ℕ) (texts r : List ℕ) (fill : ℕ) (w : List ℕ) {a b : ℕ} 
 
 -- ---- a whole record
 -- the words of r fill an area of their length
-pub copied : (row r w : List ℕ) (k : Stored) → length row ≡ length r → Puts (filled (Put 0) row) r (filled k w) → w ≡ r
+pub copied : (row r w : List ℕ) (k : Option ℕ) → length row ≡ length r → Puts (filled (Some 0) row) r (filled k w) → w ≡ r
 unfolding behind
 copied row r w k n p =
     ap (λ (t : Filled). t.1) p.same ∙ laid-fits row r (le_of_eq (sym n))

@@ -12,7 +12,7 @@ pub use tree_merge::{
     the_list_sums, the_list_values, the_starts, the_tree_counts, the_tree_layout,
 };
 use write_bytes::put_words;
-use write_bytes::the_area::{Stored, copy_into};
+use write_bytes::the_area::copy_into;
 pub use write_bytes::the_tree_record;
 use write_bytes::the_tree_record::{bit, field, has_bit, kind, put_field, word};
 
@@ -179,7 +179,7 @@ pub fn move_row(row: &mut [u32], bytes: &mut [u8], fill: usize, text: &[u8], r: 
     ensures row_after { row.new ≡ slots.row_moved_of text.now fill r.now }
     ensures bytes_after { bytes.new ≡ splice fill (slots.row_texts text.now r.now) bytes.old }
 {
-    put_words(row, Stored::Put(0), r);
+    put_words(row, Some(0), r);
     let m = text_bits(field(r, word::KIND));
     let a = move_front(row, bytes, fill, text, r, m);
     move_back(row, bytes, a, text, r, m)

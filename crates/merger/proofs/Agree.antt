@@ -1,5 +1,5 @@
 -- Of two layouts, the tree that the code makes and its answer are those of the definitions. Assumes nothing.
-use Prim.Native.Nat.{ℕ, suc, ◌+◌, ◌-◌, ◌/◌, ◌≤◌, ◌<◌, min}
+use Prim.Native.Nat.{ℕ, suc, ◌+◌, ◌/◌, ◌≤◌, ◌<◌, min}
 use mathlib.Core.Bool.{Bool, true, false, cond, ◌&&◌}
 use mathlib.Core.List.{List, [], ◌∷◌, ◌++◌, append_assoc}
 use mathlib.Core.Option.{Option, some}
@@ -20,7 +20,6 @@ use Rattle.merge_records.specs.of_schema.Elements as named
 use Rattle.merge_records.specs.of_tree_record.Record.{has_bit, text_at}
 use Rattle.merge_records.specs.of_tree_report.Report.{Report}
 use Rattle.merge_records.specs.of_tree_report.Layout.{used_words, used_text, filled, records_of, layout}
-use Rattle.merge_records.specs.of_tree_report.ReportOf.{report_of}
 use Rattle.merge_records.specs.of_tree_counts.Counts as counts
 use Rattle.merge_records.specs.of_tree_counts.Counts.{is_count, added}
 use Rattle.merge_head.specs.of_build_draft.Parts.{counts_in}

@@ -31,9 +31,7 @@ use Rattle.merge_records.specs.declared.Mark.{Mark}
 use Rattle.merge_records.specs.inside.Copied.{below_in, sizes_in, texts_for, records_for, Room}
 use Rattle.merge_records.proofs.Copying.{length_moved}
 use Rattle.merge_head.specs.inside.Head.{first_of, name_size, head_of}
-use Rattle.merge_limits.specs.declared.Step.{Step}
-use Rattle.merge_limits.specs.declared.Step.TheVariants.{Not}
-use Rattle.merge_limits.specs.inside.Limits.{step_answer, room_by}
+use Rattle.merge_limits.specs.inside.Limits.{room_by}
 use Rattle.merger.specs.inside.Whole.{report_in, name_text, sums_of, nanos_for, rows_for, row_texts_for, tree_texts, tree_words, room_for, used_answer, left_by, Sized, Enough, Zero}
 
 pub report-is : {r : List ℕ} (words : List ℕ) → r ≡ first_of (only live (records_in words)) → r ≡ report_in words
@@ -193,13 +191,12 @@ module _ (a s b t records bytes ys : List ℕ) (l : length ys ≡ length (take 3
 
 -- ---- in areas of zeros
 module _ (a s b t records bytes : List ℕ) (z : Zero records bytes) where
-  pub none-put : {x : Cause} {st : Step} → st ≡ Not x → step_answer st ≡ room_for a b (length records) (length bytes)
-      → (step_answer st ≡ room_for a b (length records) (length bytes))
+  pub none-put : {x : Cause} → refuses x ≡ room_for a b (length records) (length bytes)
+      → (refuses x ≡ room_for a b (length records) (length bytes))
       × ((records ≡ left_by (room_for a b (length records) (length bytes)) (length records) (tree_words a s b t))
       × (bytes ≡ left_by (room_for a b (length records) (length bytes)) (length bytes) (tree_texts a s b t)))
-  none-put {x} {st} e k =
-      let r : refuses x ≡ room_for a b (length records) (length bytes) = sym (ap step_answer e) ∙ k in
-      (k, (z.words ∙ ap (λ (o : Answer (Unit {0})). left_by o (length records) (tree_words a s b t)) r, z.texts ∙ ap (λ (o : Answer (Unit {0})). left_by o (length bytes) (tree_texts a s b t)) r))
+  none-put r =
+      (r, (z.words ∙ ap (λ (o : Answer (Unit {0})). left_by o (length records) (tree_words a s b t)) r, z.texts ∙ ap (λ (o : Answer (Unit {0})). left_by o (length bytes) (tree_texts a s b t)) r))
 
   pub all-put : {records₂ bytes₂ : List ℕ} {c : Counts} {n : ℕ} → gives tt ≡ room_for a b (length records) (length bytes) → Enough a s b t records bytes → c ≡ sums_of a b → n ≡ nanos_for a b
       → records₂ ≡ splice 0 (head_of (report_in a) (report_in b) c n (take 32 records) ++ rows_for a s b t (length (name_text s (report_in a)))) records

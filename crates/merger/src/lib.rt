@@ -19,7 +19,7 @@ use clearing::the_area::{least, limit};
 use clearing::the_refusal::{Cause, Refusal, Verdict, no_refusal, refuse_late};
 pub use merge_head::{the_tree_put, the_tree_values};
 use merge_head::{name_size, nanos_of, put_head, report_in, sums_of};
-use merge_limits::{Step, is_long, room_by};
+use merge_limits::{is_long, room_by};
 use merge_records::the_list_values::part_of;
 use merge_records::the_merge_rows::put_text;
 pub use merge_records::the_starts;
@@ -36,7 +36,7 @@ pub struct Merging {
 }
 
 // One record for the report, and what the two trees need.
-fn room_for(first: &[u32], second: &[u32], words: usize, bytes: usize) -> Step
+fn room_for(first: &[u32], second: &[u32], words: usize, bytes: usize) -> Result<(), Cause>
     requires { (length first.now ≤ most_words) × (length second.now ≤ most_words) }
     ensures { step_answer result ≡ whole.room_for first.now second.now words bytes }
 {
@@ -121,7 +121,7 @@ fn place(
     nanos: u64,
     records: &mut [u32],
     text: &mut [u8],
-) -> Step
+) -> Result<(), Cause>
     requires { (nanos < 8388608000000000) × (counts ≡ whole.sums_of first.now second.now) × (nanos ≡ whole.nanos_for first.now second.now)
         × whole.Sized first.now first_text.now second.now second_text.now × whole.Zero records.old text.old }
     ensures result_value { step_answer result ≡ whole.room_for first.now second.now (length records.old) (length text.old) }
@@ -130,10 +130,7 @@ fn place(
     ensures text_after { text.new ≡ whole.left_by (whole.room_for first.now second.now (length records.old) (length text.old)) (length text.old)
         (whole.tree_texts first.now first_text.now second.now second_text.now) }
 {
-    let room = room_for(first, second, records.len(), text.len());
-    let Step::Done = room else {
-        return room;
-    };
+    room_for(first, second, records.len(), text.len())?;
     put_tree(
         first,
         first_text,
@@ -144,7 +141,7 @@ fn place(
         records,
         text,
     );
-    Step::Done
+    Ok(())
 }
 
 // 17, then 22, then room.
@@ -155,7 +152,7 @@ fn merge_used(
     second_text: &[u8],
     records: &mut [u32],
     text: &mut [u8],
-) -> Step
+) -> Result<(), Cause>
     requires { whole.Sized first.now first_text.now second.now second_text.now × whole.Zero records.old text.old }
     ensures result_value { step_answer result ≡ whole.used_answer first.now second.now (length records.old) (length text.old) }
     ensures records_after { records.new ≡ whole.left_by (whole.used_answer first.now second.now (length records.old) (length text.old)) (length records.old)
@@ -168,11 +165,11 @@ fn merge_used(
     let sums = sums_of(a, b);
     let verdict = sums.verdict;
     let Verdict::Accepted = verdict else {
-        return Step::Not(Cause::CountLimit);
+        return Err(Cause::CountLimit);
     };
     let nanos = nanos_of(a, b);
     if is_long(nanos) {
-        return Step::Not(Cause::TimeLimit);
+        return Err(Cause::TimeLimit);
     }
     let counts = sums.counts;
     place(
@@ -195,7 +192,7 @@ fn merge_known(
     second_text: &[u8],
     records: &mut [u32],
     text: &mut [u8],
-) -> Step
+) -> Result<(), Cause>
     requires { (layout first.now first_text.now ≡ true) × (layout second.now second_text.now ≡ true)
         × (records.old ≡ zeros (length records.old)) × (text.old ≡ zeros (length text.old)) }
     ensures result_value { step_answer result
@@ -230,15 +227,15 @@ fn refuse(cause: Cause) -> Merging
     }
 }
 
-fn merging_of(step: Step) -> Merging
+fn merging_of(step: Result<(), Cause>) -> Merging
     ensures { result ≡ merging_from (outcome_of (step_answer step)) }
 {
     match step {
-        Step::Done => Merging {
+        Ok(()) => Merging {
             verdict: Verdict::Accepted,
             refusal: no_refusal(),
         },
-        Step::Not(cause) => refuse(cause),
+        Err(cause) => refuse(cause),
     }
 }
 

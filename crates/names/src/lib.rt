@@ -17,17 +17,7 @@ use area::least;
 pub fn same(a: &[u8], b: &[u8]) -> bool
     ensures { result ≡ same_bytes a.now b.now }
 {
-    if a.len() != b.len() {
-        return false;
-    }
-    let mut i = 0;
-    while i < a.len() {
-        if a[i] != b[i] {
-            return false;
-        }
-        i += 1;
-    }
-    true
+    a == b
 }
 
 // The place of s, from 1, among the names that stand one behind the other in names, or 0.
@@ -35,15 +25,12 @@ pub fn code_in(names: &[u8], lengths: &[u8], s: &[u8]) -> usize
     ensures { result ≡ code_in (cut names.now lengths.now) s.now }
 {
     let mut at = 0;
-    let mut k = 0;
-    while k < lengths.len() {
-        let end = least(at + lengths[k] as usize, names.len());
-        let name = &names[at..end];
-        at = end;
-        k += 1;
-        if same(name, s) {
-            return k;
+    for (k, n) in lengths.iter().enumerate() {
+        let end = least(at + *n as usize, names.len());
+        if same(&names[at..end], s) {
+            return k + 1;
         }
+        at = end;
     }
     0
 }

@@ -2,11 +2,10 @@
 use Prim.Native.Nat.{ℕ}
 use mathlib.Core.Path.{◌≡◌, refl, sym, ap, ◌∙◌}
 use mathlib.Core.List.{List}
+use Rattle.std.specs.Prelude.{Option, Some, None}
 use Rattle.case_tags.specs.of_refusal.declared.Cause.TheVariants as cause
 use Rattle.case_tags.specs.of_area.Answer.{Answer}
 use Rattle.case_tags.specs.of_area.Area.{stored_answer}
-use Rattle.case_tags.specs.of_area.declared.Stored.{Stored}
-use Rattle.case_tags.specs.of_area.declared.Stored.TheVariants.{Put, Full}
 use Rattle.explain.specs.of_time_text.Written.{count}
 use Rattle.xml_call.specs.of_xml_machine.Tokens.{done-with, refused, Result}
 use Rattle.xml_call.specs.of_xml_state.declared.Tokenized.{Tokenized}
@@ -26,9 +25,9 @@ port-table t n k e = ap (λ (q : Tokenized). tokenized_port (told q)) (sym e)
 pub port-refused : (t : Tokenized) (number byte : ℕ) → t ≡ Refused number byte → tokenized_port (refused number byte) ≡ tokenized_port (told t)
 port-refused t number byte e = ap (λ (q : Tokenized). tokenized_port (told q)) (sym e)
 
-module _ (s : Stored) {a : Answer ℕ} (e : stored_answer cause.OutputFull s ≡ a) where
-  pub count-put : (n : ℕ) → s ≡ Put n → n ≡ count a
-  count-put n p = ap (λ (x : Stored). count (stored_answer cause.OutputFull x)) (sym p) ∙ ap count e
+module _ (s : Option ℕ) {a : Answer ℕ} (e : stored_answer cause.OutputFull s ≡ a) where
+  pub count-put : (n : ℕ) → s ≡ Some n → n ≡ count a
+  count-put n p = ap (λ (x : Option ℕ). count (stored_answer cause.OutputFull x)) (sym p) ∙ ap count e
 
-  pub count-full : s ≡ Full → 0 ≡ count a
-  count-full p = ap (λ (x : Stored). count (stored_answer cause.OutputFull x)) (sym p) ∙ ap count e
+  pub count-full : s ≡ None → 0 ≡ count a
+  count-full p = ap (λ (x : Option ℕ). count (stored_answer cause.OutputFull x)) (sym p) ∙ ap count e

@@ -7,7 +7,6 @@ ghost use Rattle.xml_call.specs.of_xml_listing.XmlListing.{lent, xml_listing, xm
 ghost use Rattle.explain_xml.specs.XmlExplanation.{xml_line_answer, xml_explanation_in};
 ghost use Rattle.port_c.specs.Documents.{tokenized_port};
 
-use case_tags::the_area::Stored;
 use case_tags::the_refusal::NOWHERE;
 use xml_call::the_xml_state::Tokenized;
 
@@ -91,7 +90,7 @@ pub extern "C" fn kerzhoma_explain_xml(
 {
     let stored = explain_xml::explain_xml(source, number, byte, events, attributes, out);
     match stored {
-        Stored::Put(n) => n,
-        Stored::Full => 0,
+        Some(n) => n,
+        None => 0,
     }
 }

@@ -15,7 +15,6 @@ ghost use Rattle.port_values.specs.of_port_refusal.Port.{port_outcome};
 ghost use Rattle.port_values.specs.of_port_refusal.Back.{plain_refusal};
 ghost use Rattle.port_c.specs.Answers.{listing_port, writing_port, document_port, explained_port};
 
-use case_tags::the_area::Stored;
 use port_values::the_port_refusal::{KRefusal, from_refusal, to_refusal};
 
 // The length is 0 where the call refuses.
@@ -248,7 +247,7 @@ pub extern "C" fn kerzhoma_time_text(out: &mut [u8], secs: u32, nanos: u32) -> u
     ensures out_after { out.new ≡ whole out.old (written_time secs nanos) }
 {
     let stored = explain::the_time_text::write_time(out, secs, nanos);
-    let Stored::Put(n) = stored else {
+    let Some(n) = stored else {
         case_tags::the_area::clear(out);
         return 0;
     };

@@ -1,9 +1,9 @@
 // A refusal for other languages: numbers only, in a struct that C has too.
 #![tactic(auto)]
 
-ghost use Rattle.std.specs.Prelude.{◌≡◌, min};
+ghost use Rattle.std.specs.Prelude.{◌≡◌, ◌+◌, ◌≤◌, min};
 ghost use Rattle.port_refusal.specs.Port.{code, path_words, not_refused, refused_port, port_refusal};
-ghost use Rattle.port_refusal.specs.Back.{cause_at, plain_path, plain_refusal};
+ghost use Rattle.port_refusal.specs.Back.{cause_at, element_from, plain_path, plain_refusal};
 
 pub use refusal as the_refusal;
 use refusal::{Cause, NOWHERE, Path, PathElement, Refusal, Verdict, number_of};
@@ -58,10 +58,7 @@ fn code_of(cause: Cause) -> u32
 fn depth_of(len: usize) -> u32
     ensures { result ≡ min len 6 }
 {
-    if len < 6 {
-        return len as u32;
-    }
-    6
+    len.min(6) as u32
 }
 
 fn words_of(path: Path) -> [u32; 18]
@@ -162,48 +159,34 @@ fn cause_at(code: u32) -> Cause
 fn len_of(depth: u32) -> usize
     ensures { result ≡ min depth 6 }
 {
-    if depth < 6 {
-        return depth as usize;
+    (depth as usize).min(6)
+}
+
+// The element whose three words begin at i.
+fn element_from(words: [u32; 18], i: usize) -> PathElement
+    requires { i ≤ 15 }
+    ensures { result ≡ element_from words i (i + 1) (i + 2) }
+{
+    PathElement {
+        kind: words[i],
+        index: words[i + 1],
+        event: words[i + 2],
     }
-    6
 }
 
 fn path_of(k: KRefusal) -> Path
     ensures { result ≡ plain_path k }
 {
     let words = k.path;
-    let a = PathElement {
-        kind: words[0],
-        index: words[1],
-        event: words[2],
-    };
-    let b = PathElement {
-        kind: words[3],
-        index: words[4],
-        event: words[5],
-    };
-    let c = PathElement {
-        kind: words[6],
-        index: words[7],
-        event: words[8],
-    };
-    let d = PathElement {
-        kind: words[9],
-        index: words[10],
-        event: words[11],
-    };
-    let e = PathElement {
-        kind: words[12],
-        index: words[13],
-        event: words[14],
-    };
-    let f = PathElement {
-        kind: words[15],
-        index: words[16],
-        event: words[17],
-    };
     Path {
-        elements: [a, b, c, d, e, f],
+        elements: [
+            element_from(words, 0),
+            element_from(words, 3),
+            element_from(words, 6),
+            element_from(words, 9),
+            element_from(words, 12),
+            element_from(words, 15),
+        ],
         len: len_of(k.depth),
     }
 }

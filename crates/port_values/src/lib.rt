@@ -14,7 +14,7 @@ ghost use Rattle.port_values.specs.Codes.{no_code_of};
 use build_draft::the_timestamp::Moment;
 use build_draft::the_tree_counts::{Counted, Counts};
 use build_draft::the_uuids::Words;
-use build_draft::{Builder, Built, Step, settle};
+use build_draft::{Builder, Built, settle};
 use port_refusal::the_refusal::{Cause, Verdict, refuse_late};
 use port_refusal::{KRefusal, from_refusal};
 
@@ -96,7 +96,7 @@ pub fn not_built(records: &mut [u32], text: &mut [u8]) -> KBuilt
     ensures records_after { records.new ≡ zeros (length records.old) }
     ensures text_after { text.new ≡ zeros (length text.old) }
 {
-    let answer = settle(Step::Not(Cause::NotLayout), records, text);
+    let answer = settle(Err(Cause::NotLayout), records, text);
     built(answer)
 }
 

@@ -22,12 +22,10 @@ fn say_entry(rt: &impl Print, days: u64) -> io::Result<()> {
 
 fn main(rt: HostRuntime) -> io::Result<()> {
     println!(rt; "pub const DAYS_BEFORE: [u32; 400] = [")?;
-    let mut year = 0u16;
     let mut days = 0u64;
-    while year < 400 {
+    for year in 0..400u16 {
         say_entry(&rt, days)?;
         days += year_days(year);
-        year += 1;
     }
     println!(rt; "];")?;
     Ok(())

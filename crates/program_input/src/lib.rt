@@ -9,6 +9,7 @@ use std::io::Read;
 pub fn read_input<'a>(rt: &impl Input, room: &'a mut [u8]) -> io::Result<&'a [u8]> {
     let mut from = rt.reader();
     let mut n = 0;
+    // while: each turn passes what one read gave.
     while n < room.len() {
         let k = from.read(&mut room[n..])?;
         if k == 0 {

@@ -12,7 +12,7 @@ use list_cleared::the_lister::Listing;
 use list_cleared::{list_and_clear, pass_on};
 pub use reader as the_reader;
 use reader::read;
-use reader::the_area::{Stored, clear, copy_into};
+use reader::the_area::{clear, copy_into};
 pub use reader::the_clearing;
 use reader::the_refusal::Verdict;
 
@@ -55,8 +55,8 @@ pub fn refuse(out: &mut [u8]) -> usize
     clear(out);
     let put = copy_into(out, b"(refused)\n");
     match put {
-        Stored::Put(n) => n,
-        Stored::Full => out.len(),
+        Some(n) => n,
+        None => out.len(),
     }
 }
 

@@ -1,5 +1,7 @@
 -- What each act of the code comes to, in the mode it is done in. Assumes nothing.
+use Rattle.std.specs.Prelude.{Ok, Err}
 use Prim.Native.Nat.{ℕ, ◌+◌, ◌*◌, ◌≤◌}
+use mathlib.Core.Logic.{◌⊎◌, inl, inr}
 use mathlib.Core.Path.{◌≡◌, refl, sym, ap, subst, ◌∙◌}
 use mathlib.Core.Bool.{Bool, true, false, cond, not, ◌||◌}
 use mathlib.Core.List.{List, []}
@@ -24,10 +26,8 @@ use Rattle.read_texts.specs.of_read_state.declared.Act.TheVariants as act
 use Rattle.read_texts.specs.of_read_place.Marks.{Marks, marks_after}
 use Rattle.read_texts.specs.of_read_content.Content.{Content, property_kind, record_of_it, adding, describing, outputting, perform}
 use Rattle.read_texts.specs.of_read_element.inside.Refines.{went}
-use Rattle.read_texts.specs.of_read_content.inside.Holds.{kill_words, Holds, Opened, Lists, Carries, Holding, opens, is_at, is_text, is_list, has_list, apt, Performs, fault_of, list_of, with_list, status_end}
+use Rattle.read_texts.specs.of_read_content.inside.Holds.{Performed, kill_words, Holds, Opened, Lists, Carries, Holding, opens, is_at, is_text, is_list, has_list, apt, Performs, fault_of, list_of, with_list, status_end}
 use Rattle.read_texts.specs.of_read_content.declared.Content.{Content as CodedContent}
-use Rattle.read_texts.specs.of_read_content.declared.Performed.{Performed}
-use Rattle.read_texts.specs.of_read_content.declared.Performed.TheVariants.{To, Not}
 use Rattle.read_texts.proofs.of_read_content.Areas.{fits-words, fits-text, fits-description, fits-gathered}
 use Rattle.read_texts.proofs.of_read_content.Refusing.{halts}
 use Rattle.read_opening.proofs.Opening.{comes-on, list-opened, opens-bounds, few-properties}
@@ -134,35 +134,35 @@ module _ (l : Level) (o : Output) (seen closed : Bool) (t : Tally) (name : List 
   abbrev In : CodedMode → CodedAct → Type 0
   In k a = Acted a k l o seen closed t name m p rooms j xs words text scratch attributes source s r
 
-  pass-in : (k : CodedMode) → Holds words text scratch attributes source c s → Lists (mode_at k l o) m c s → r ≡ To c → In k act.Pass
+  pass-in : (k : CodedMode) → Holds words text scratch attributes source c s → Lists (mode_at k l o) m c s → r ≡ Ok c → In k act.Pass
   unfolding turn marks_after perform
   pass-in k hd li q = rw q (went (hd, li))
 
-  skip-in : (k : CodedMode) → Holds words text scratch attributes source c s → Lists (mode_at k l o) m c s → r ≡ To c → In k act.Skip
+  skip-in : (k : CodedMode) → Holds words text scratch attributes source c s → Lists (mode_at k l o) m c s → r ≡ Ok c → In k act.Skip
   unfolding or_skip turn marks_after perform
   skip-in k hd li q = rw q (went (hd, li))
 
-  stop-in : (k : CodedMode) → Holds words text scratch attributes source c s → Lists (mode_at k l o) m c s → r ≡ To c → In k act.Stop
+  stop-in : (k : CodedMode) → Holds words text scratch attributes source c s → Lists (mode_at k l o) m c s → r ≡ Ok c → In k act.Stop
   unfolding turn marks_after perform
   stop-in k hd li q = rw q (went (hd, li))
 
-  text_in : (k : CodedMode) (out : CodedOutput) → is_at (mode_at k l o) ≡ true → Holds words text scratch attributes source c s → Lists (mode_at k l o) m c s → r ≡ To c → In k (act.OpenText out)
+  text_in : (k : CodedMode) (out : CodedOutput) → is_at (mode_at k l o) ≡ true → Holds words text scratch attributes source c s → Lists (mode_at k l o) m c s → r ≡ Ok c → In k (act.OpenText out)
   unfolding turn marks_after perform
   text_in mode.At out a hd li q = rw q (went (hd, li.0))
   text_in mode.Text out a hd li q = no a
   text_in mode.List out a hd li q = no a
 
-  end-in : (k : CodedMode) → not (is_text (mode_at k l o)) ≡ true → Holds words text scratch attributes source c s → Lists (mode_at k l o) m c s → r ≡ To c → In k act.CloseList
+  end-in : (k : CodedMode) → not (is_text (mode_at k l o)) ≡ true → Holds words text scratch attributes source c s → Lists (mode_at k l o) m c s → r ≡ Ok c → In k act.CloseList
   unfolding turn marks_after perform
   end-in mode.At a hd li q = rw q (went (hd, li))
   end-in mode.Text a hd li q = no a
   end-in mode.List a hd li q = rw q (went (hd, (li.0, li.1.0)))
 
-  missing-in : (k : CodedMode) → p.attribute ≡ nowhere → r ≡ Not (fault_of MissingReport) → In k act.Missing
+  missing-in : (k : CodedMode) → p.attribute ≡ nowhere → r ≡ Err (fault_of MissingReport) → In k act.Missing
   unfolding perform
   missing-in k pa q = halts p MissingReport pa refl q
 
-  broken-in : (k : CodedMode) (why : Cause) → p.attribute ≡ nowhere → r ≡ Not (fault_of why) → In k (act.Broken why)
+  broken-in : (k : CodedMode) (why : Cause) → p.attribute ≡ nowhere → r ≡ Err (fault_of why) → In k (act.Broken why)
   unfolding perform
   broken-in k why pa q = halts p why pa refl q
 
@@ -192,7 +192,7 @@ module _ (l : Level) (o : Output) (seen closed : Bool) (t : Tally) (name : List 
   property-in mode.List false a li f = comes-on (f li) (same_lists l m _ refl refl refl)
 
   list-in : (k : CodedMode) (e : Bool) {words₀ : List ℕ} → has_list (mode_at k l o) ≡ true → Holds words₀ text scratch attributes source c s → Lists (mode_at k l o) m c s
-      → words ≡ kill_words (list_of l c).count (list_of l c).first words₀ → r ≡ To (with_list l c (record { first = c.used; count = 0 })) → In k (act.OpenList e)
+      → words ≡ kill_words (list_of l c).count (list_of l c).first words₀ → r ≡ Ok (with_list l c (record { first = c.used; count = 0 })) → In k (act.OpenList e)
   unfolding turn marks_after perform
   list-in mode.At true a hd li w q =
       rw q (comes-on (list-opened hd p m l a li w) (λ d t x. list_left l _ d t (same_lists l m _ refl refl refl d t x)))
@@ -206,21 +206,29 @@ module _ (l : Level) (o : Output) (seen closed : Bool) (t : Tally) (name : List 
     turn-to e f h = subst (λ (x : CodedAct). In k x) (sym e) (f (subst (λ (x : CodedAct). apt x (mode_at k l o) ≡ true) e h))
 
     module _ (h : apt a (mode_at k l o) ≡ true) (li : Lists (mode_at k l o) m c s) where
-      module _ (hd : Holds words text scratch attributes source c s) (q : r ≡ To c) where
-        pub acted-pass : a ≡ act.Pass → In k a
+      module _ (hd : Holds words text scratch attributes source c s) (q : r ≡ Ok c) where
+        acted-pass : a ≡ act.Pass → In k a
         acted-pass e = turn-to e (λ x. pass-in k hd li q) h
 
-        pub acted-skip : a ≡ act.Skip → In k a
+        acted-skip : a ≡ act.Skip → In k a
         acted-skip e = turn-to e (λ x. skip-in k hd li q) h
 
-        pub acted-stop : a ≡ act.Stop → In k a
+        acted-stop : a ≡ act.Stop → In k a
         acted-stop e = turn-to e (λ x. stop-in k hd li q) h
 
-        pub acted-text : {out : CodedOutput} → a ≡ act.OpenText out → In k a
+        acted-text : {out : CodedOutput} → a ≡ act.OpenText out → In k a
         acted-text {out} e = turn-to e (λ x. text_in k out x hd li q) h
 
-        pub acted-end : a ≡ act.CloseList → In k a
+        acted-end : a ≡ act.CloseList → In k a
         acted-end e = turn-to e (λ x. end-in k x hd li q) h
+
+        -- the acts that leave records and texts, as the code takes them together
+        pub acted-still : (a ≡ act.Pass) ⊎ ((a ≡ act.Skip) ⊎ (((out : CodedOutput) × (a ≡ act.OpenText out)) ⊎ ((a ≡ act.CloseList) ⊎ (a ≡ act.Stop)))) → In k a
+        acted-still (inl e) = acted-pass e
+        acted-still (inr (inl e)) = acted-skip e
+        acted-still (inr (inr (inl x))) = acted-text x.1
+        acted-still (inr (inr (inr (inl e)))) = acted-end e
+        acted-still (inr (inr (inr (inr e)))) = acted-stop e
 
       pub acted-close : a ≡ act.Close
           → (Lists (at l) m c s → Performs (turn (closing l) (standing k l o seen closed t)).mode (marks_after (closing l) (length s.records) m)
@@ -237,7 +245,7 @@ module _ (l : Level) (o : Output) (seen closed : Bool) (t : Tally) (name : List 
       acted-property {e} q f = turn-to q (λ x. property-in k e x li f) h
 
       pub acted-list : {e : Bool} {words₀ : List ℕ} → a ≡ act.OpenList e → Holds words₀ text scratch attributes source c s
-          → words ≡ kill_words (list_of l c).count (list_of l c).first words₀ → r ≡ To (with_list l c (record { first = c.used; count = 0 })) → In k a
+          → words ≡ kill_words (list_of l c).count (list_of l c).first words₀ → r ≡ Ok (with_list l c (record { first = c.used; count = 0 })) → In k a
       acted-list {e} z hd w q = turn-to z (λ x. list-in k e x hd li w q) h
 
       pub acted-open : {kind : ℕ} {e : Bool} → a ≡ act.Open kind e
@@ -247,10 +255,10 @@ module _ (l : Level) (o : Output) (seen closed : Bool) (t : Tally) (name : List 
       acted-open e f = turn-to e f h
 
     module _ (h : apt a (mode_at k l o) ≡ true) (pa : p.attribute ≡ nowhere) where
-      pub acted-missing : a ≡ act.Missing → r ≡ Not (fault_of MissingReport) → In k a
+      pub acted-missing : a ≡ act.Missing → r ≡ Err (fault_of MissingReport) → In k a
       acted-missing e q = turn-to e (λ x. missing-in k pa q) h
 
-      pub acted-broken : {why : Cause} → a ≡ act.Broken why → r ≡ Not (fault_of why) → In k a
+      pub acted-broken : {why : Cause} → a ≡ act.Broken why → r ≡ Err (fault_of why) → In k a
       acted-broken {why} e q = turn-to e (λ x. broken-in k why pa q) h
 
 -- ---- closing
@@ -259,15 +267,15 @@ module _ (cl : CodedLevel) (k : Control) (m : Marks) (p : Place) (rooms : Rooms)
   abbrev Shut : Level → Type 0
   Shut l = Performs (turn (closing l) k).mode (marks_after (closing l) (length s.records) m) p words text scratch attributes source (perform rooms p (closing l) j xs k m s) r
 
-  shut-suite : Holds words text scratch attributes source c s → s.gathered ≡ [] → r ≡ To c → Shut suite
+  shut-suite : Holds words text scratch attributes source c s → s.gathered ≡ [] → r ≡ Ok c → Shut suite
   unfolding turn marks_after perform
   shut-suite hd g q = rw q (went (hd, (tt, g)))
 
-  shut-case : Holds words text scratch attributes source c s → Lists (at case) m c s → ruled k.tally ≡ true → r ≡ To c → Shut case
+  shut-case : Holds words text scratch attributes source c s → Lists (at case) m c s → ruled k.tally ≡ true → r ≡ Ok c → Shut case
   unfolding turn marks_after perform need
   shut-case hd li e q = rw (q, e) (went (hd, (li.0.0, li.1)))
 
-  shut-not : p.attribute ≡ nowhere → ruled k.tally ≡ false → r ≡ Not (fault_of StatusRule) → Shut case
+  shut-not : p.attribute ≡ nowhere → ruled k.tally ≡ false → r ≡ Err (fault_of StatusRule) → Shut case
   unfolding perform need
   shut-not pa e q = halts p StatusRule pa (rw e refl) q
 
@@ -282,16 +290,16 @@ module _ (cl : CodedLevel) (k : Control) (m : Marks) (p : Place) (rooms : Rooms)
     at_level : {b : CodedLevel} → cl ≡ b → Lists (at (level_of b)) m c s
     at_level e = subst (λ (x : CodedLevel). Lists (at (level_of x)) m c s) e li
 
-    pub closed-top : cl ≡ level.Top → Holds words text scratch attributes source c s → r ≡ To c → Shut (level_of cl)
+    pub closed-top : cl ≡ level.Top → Holds words text scratch attributes source c s → r ≡ Ok c → Shut (level_of cl)
     closed-top e hd q = to_level e (shut-suite hd li.1 q)
 
-    pub closed-suite : cl ≡ level.Suite → Holds words text scratch attributes source c s → r ≡ To c → Shut (level_of cl)
+    pub closed-suite : cl ≡ level.Suite → Holds words text scratch attributes source c s → r ≡ Ok c → Shut (level_of cl)
     closed-suite e hd q = to_level e (shut-suite hd li.1 q)
 
-    pub closed-case : cl ≡ level.Case → {t : Tally} {b : Bool} → k.tally ≡ t → b ≡ ruled t → b ≡ true → Holds words text scratch attributes source c s → r ≡ To c → Shut (level_of cl)
+    pub closed-case : cl ≡ level.Case → {t : Tally} {b : Bool} → k.tally ≡ t → b ≡ ruled t → b ≡ true → Holds words text scratch attributes source c s → r ≡ Ok c → Shut (level_of cl)
     closed-case e te be bt hd q = to_level e (shut-case hd (at_level e) (ap ruled te ∙ sym be ∙ bt) q)
 
-    pub closed-not : cl ≡ level.Case → {t : Tally} {b : Bool} → k.tally ≡ t → b ≡ ruled t → b ≡ false → p.attribute ≡ nowhere → r ≡ Not (fault_of StatusRule) → Shut (level_of cl)
+    pub closed-not : cl ≡ level.Case → {t : Tally} {b : Bool} → k.tally ≡ t → b ≡ ruled t → b ≡ false → p.attribute ≡ nowhere → r ≡ Err (fault_of StatusRule) → Shut (level_of cl)
     closed-not e te be bt pa q = to_level e (shut-not pa (ap ruled te ∙ sym be ∙ bt) q)
 
     pub closed-status : cl ≡ level.Status → (Lists (at status) m c s → Performs (at case) m p words text scratch attributes source (describing rooms p m s) r) → Shut (level_of cl)

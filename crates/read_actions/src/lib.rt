@@ -11,7 +11,8 @@ ghost use Rattle.read_actions.specs.inside.Promises.{Closes, ReadyIn, PerformsAc
 use read_opening::the_read_lists::open_list;
 use read_opening::{open_element, read_property};
 use read_texts::the_read_attribute::Range;
-use read_texts::the_read_content::{Content, Performed, refused};
+use read_texts::the_read_content::{Content, refused};
+use read_texts::the_read_fault::Fault;
 use read_texts::the_read_place::Marks;
 use read_texts::the_read_state::{Act, Control, Level};
 use read_texts::the_refusal::Cause;
@@ -31,7 +32,7 @@ fn close(
     records: &mut [u32],
     text: &mut [u8],
     scratch: &[u8],
-) -> Performed
+) -> Result<Content, Fault>
     requires text_len_bound { length text.old ≤ 16777216 }
     requires fill_in_bounds { content.fill ≤ length text.old }
     requires description_in_bounds { content.description ≤ length scratch.now }
@@ -40,13 +41,13 @@ fn close(
         (areas records.old text.old) (areas records.new text.new) scratch.now result }
 {
     match level {
-        Level::Top => Performed::To(content),
-        Level::Suite => Performed::To(content),
+        Level::Top | Level::Suite => Ok(content),
         Level::Case => {
             if is_ruled(tally) {
-                return Performed::To(content);
+                Ok(content)
+            } else {
+                refused(Cause::StatusRule)
             }
-            refused(Cause::StatusRule)
         }
         Level::Status => close_status(marks.status_at, content, records, text, scratch),
     }
@@ -64,7 +65,7 @@ pub fn perform(
     records: &mut [u32],
     text: &mut [u8],
     scratch: &[u8],
-) -> Performed
+) -> Result<Content, Fault>
     requires control_value { apt act (mode_of control) ≡ true }
     requires ready_in { ReadyIn (mode_of control) (marks_of marks) range content (tagged attributes.now source.now)
         (areas records.old text.old) scratch.now }
@@ -72,21 +73,16 @@ pub fn perform(
         (areas records.old text.old) (areas records.new text.new) scratch.now result }
 {
     let level = control.level;
-    let tally = control.tally;
     match act {
         Act::Open(kind, _) => open_element(kind, range, content, attributes, source, records, text),
-        Act::Close => close(level, tally, marks, content, records, text, scratch),
+        Act::Close => close(level, control.tally, marks, content, records, text, scratch),
         Act::CloseText(output) => close_text(level, output, marks, content, records, text, scratch),
-        Act::OpenList(_) => Performed::To(open_list(level, content, records)),
+        Act::OpenList(_) => Ok(open_list(level, content, records)),
         Act::ReadProperty(_) => read_property(
             level, range, content, attributes, source, records, text,
         ),
         Act::Missing => refused(Cause::MissingReport),
         Act::Broken(cause) => refused(cause),
-        Act::Pass => Performed::To(content),
-        Act::Skip => Performed::To(content),
-        Act::OpenText(_) => Performed::To(content),
-        Act::CloseList => Performed::To(content),
-        Act::Stop => Performed::To(content),
+        Act::Pass | Act::Skip | Act::OpenText(_) | Act::CloseList | Act::Stop => Ok(content),
     }
 }

@@ -1,4 +1,5 @@
 -- The loop along the events of an open status element. Assumes nothing.
+use Rattle.std.specs.Prelude.{Option, Some, None}
 use Prim.Native.Nat.{ℕ, ◌-◌, ◌≤◌, ◌<◌}
 use mathlib.Core.Path.{◌≡◌, sym, subst, ◌∙◌}
 use mathlib.Core.List.{List, []}
@@ -12,8 +13,6 @@ use Rattle.read_pieces.specs.of_read_state.Control.{status, at}
 use Rattle.read_pieces.specs.of_read_state.declared.Mode.TheVariants.{At}
 use Rattle.read_pieces.specs.of_read_state.declared.Output.TheVariants.{Out}
 use Rattle.read_again.specs.declared.Again.{Again}
-use Rattle.read_again.specs.declared.Turn.{Turn}
-use Rattle.read_again.specs.declared.Turn.TheVariants as turn
 use Rattle.read_again.specs.Told.{told}
 use Rattle.read_again.specs.inside.Turns.{rest, told_from, Went, Over, Turned}
 use Rattle.read_pieces.specs.of_refusal.declared.Cause.TheVariants as cause
@@ -32,8 +31,8 @@ module _ {events source : List ℕ} {from : ℕ} {out₀ out : List ℕ} {a : Ag
   pub loop-same : length out ≡ length out₀
   loop-same = (l.laying []).same
 
-  module _ (out' : List ℕ) (r : Turn) (t : Turned events source out out' a r) where
-    pub loop-goes : (b : Again) → r ≡ turn.Go b → Looping events source from out₀ out' b × (count_of events - b.event < count_of events - a.event)
+  module _ (out' : List ℕ) (r : Option (Option Again)) (t : Turned events source out out' a r) where
+    pub loop-goes : (b : Again) → r ≡ Some (Some b) → Looping events source from out₀ out' b × (count_of events - b.event < count_of events - a.event)
     loop-goes b e = go (subst (Turned events source out out' a) e t)
       where
         go : Went events source out out' a b → Looping events source from out₀ out' b × (count_of events - b.event < count_of events - a.event)
@@ -47,7 +46,7 @@ module _ {events source : List ℕ} {from : ℕ} {out₀ out : List ℕ} {a : Ag
           (let x = w.later in let y = w.within in omega arith),
         )
 
-    pub loop-done : r ≡ turn.Done → (attributes : List ℕ)
+    pub loop-done : r ≡ Some None → (attributes : List ℕ)
         → (gives a.fill ≡ placing cause.ScratchFull (length out₀) (told (at status) (rest events attributes source from)))
         × (out' ≡ laid out₀ (told (at status) (rest events attributes source from)))
     loop-done e attributes = go (subst (Turned events source out out' a) e t)
@@ -57,7 +56,7 @@ module _ {events source : List ℕ} {from : ℕ} {out₀ out : List ℕ} {a : Ag
             × (out' ≡ laid out₀ (told (at status) (rest events attributes source from)))
         go w = let d = laying-done cause.ScratchFull (laying_on (l.laying attributes) (w.0 attributes)) in (d.0, w.1 ∙ d.1)
 
-    pub loop-full : r ≡ turn.Full → (attributes : List ℕ)
+    pub loop-full : r ≡ None → (attributes : List ℕ)
         → (refuses cause.ScratchFull ≡ placing cause.ScratchFull (length out₀) (told (at status) (rest events attributes source from)))
         × (out' ≡ laid out₀ (told (at status) (rest events attributes source from)))
     loop-full e attributes = go (subst (Turned events source out out' a) e t)

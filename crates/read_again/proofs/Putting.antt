@@ -8,10 +8,9 @@ use borrow.Author.Tests.{le-leb}
 use borrow.Rule.Slice.PartMut.{put_mid}
 use lib.Dec.{leb}
 use lib.ListN.{length, take, drop, length-drop, take-append-drop}
+use Rattle.std.specs.Prelude.{Option, Result, Ok, Err}
 use Rattle.read_pieces.specs.of_area.Answer.{Answer, gives, refuses}
 use Rattle.read_pieces.specs.of_area.Area.{stored_answer, placing, laid}
-use Rattle.read_pieces.specs.of_area.declared.Stored.{Stored}
-use Rattle.read_pieces.specs.of_area.declared.Stored.TheVariants.{Put}
 use Rattle.read_pieces.proofs.of_area.Laying.{laid-fits}
 use Rattle.read_pieces.proofs.of_area.Parts.{rest_part, rest_back}
 use Rattle.read_pieces.specs.of_utf8.Utf8.{utf8}
@@ -19,8 +18,8 @@ use Rattle.read_pieces.specs.of_utf8.Characters.{encode}
 use Rattle.read_pieces.specs.of_reference.Reference.{refs_ok, decoded, is_named, char_of, is_numeric, unnamed}
 use Rattle.read_pieces.specs.of_table.Event.{PieceKind, Text, CData, Ref, Other, Indent}
 use Rattle.read_pieces.specs.of_text.Kept.{kept_answer}
-use Rattle.read_pieces.specs.of_text.declared.kept.Kept.{Kept}
-use Rattle.read_pieces.specs.of_text.declared.kept.Kept.TheVariants as kept
+use Rattle.read_pieces.specs.of_text.declared.kept.Unkept.{Unkept}
+use Rattle.read_pieces.specs.of_text.declared.kept.Unkept.TheVariants as kept
 use Rattle.read_machine.specs.of_read_content.Content.{piece_of}
 use Rattle.read_pieces.specs.inside.Pieces.{piece_answer, piece_laid}
 use Rattle.read_pieces.proofs.Gathering.{placed, laid_by, piece-answer, piece-laid}
@@ -77,24 +76,24 @@ module _ (n : ℕ) (v : List ℕ) (why : Cause) (ne : why ≡ cause.ScratchFull 
       go true e = clash cc
       go false e = ne cc
 
-answer : (n : ℕ) (a : Answer (List ℕ)) → (a ≡ refuses cause.ScratchFull → ⊥) → (r : Kept) → kept_answer cause.ScratchFull r ≡ placed n a
+answer : (n : ℕ) (a : Answer (List ℕ)) → (a ≡ refuses cause.ScratchFull → ⊥) → (r : Result ℕ Unkept) → kept_answer cause.ScratchFull r ≡ placed n a
     → stored_answer cause.ScratchFull (put_by r) ≡ placing cause.ScratchFull n (given a)
-answer n (gives v) h (kept.Put m) e = e
-answer n (gives v) h kept.Full e = e
-answer n (gives v) h kept.NotUtf8 e = absurd (not-placed n v cause.NotUtf8 (λ z. clash cc) e)
-answer n (gives v) h kept.BadReference e = absurd (not-placed n v cause.BadReference (λ z. clash cc) e)
-answer n (gives v) h kept.UnknownName e = absurd (not-placed n v cause.UnknownEntity (λ z. clash cc) e)
-answer n (refuses why) h (kept.Put m) e = absurd (clash cc)
-answer n (refuses why) h kept.Full e = let z : why ≡ cause.ScratchFull = cc in absurd (h (ap refuses z))
-answer n (refuses why) h kept.NotUtf8 e = none-put n
-answer n (refuses why) h kept.BadReference e = none-put n
-answer n (refuses why) h kept.UnknownName e = none-put n
+answer n (gives v) h (Ok m) e = e
+answer n (gives v) h (Err kept.Full) e = e
+answer n (gives v) h (Err kept.NotUtf8) e = absurd (not-placed n v cause.NotUtf8 (λ z. clash cc) e)
+answer n (gives v) h (Err kept.BadReference) e = absurd (not-placed n v cause.BadReference (λ z. clash cc) e)
+answer n (gives v) h (Err kept.UnknownName) e = absurd (not-placed n v cause.UnknownEntity (λ z. clash cc) e)
+answer n (refuses why) h (Ok m) e = absurd (clash cc)
+answer n (refuses why) h (Err kept.Full) e = let z : why ≡ cause.ScratchFull = cc in absurd (h (ap refuses z))
+answer n (refuses why) h (Err kept.NotUtf8) e = none-put n
+answer n (refuses why) h (Err kept.BadReference) e = none-put n
+answer n (refuses why) h (Err kept.UnknownName) e = none-put n
 
 module _ (out : List ℕ) (k : ℕ) (kind : PieceKind) (s : List ℕ) where
   part-size : length (take (length out - k) (drop k out)) ≡ length out - k
   part-size = ap length (rest_part out k) ∙ length-drop k out
 
-  pub piece-answers : (r : Kept) (q : Stored) → kept_answer cause.ScratchFull r ≡ piece_answer kind (length (take (length out - k) (drop k out))) s → q ≡ put_by r
+  pub piece-answers : (r : Result ℕ Unkept) (q : Option ℕ) → kept_answer cause.ScratchFull r ≡ piece_answer kind (length (take (length out - k) (drop k out))) s → q ≡ put_by r
       → stored_answer cause.ScratchFull q ≡ placing cause.ScratchFull (length out - k) (given (piece_of kind s))
   piece-answers r q e p =
       ap (stored_answer cause.ScratchFull) p

@@ -1,4 +1,5 @@
 -- The events of a table gone over again, one by one. Assumes nothing.
+use Rattle.std.specs.Prelude.{Some, Result, Ok, Err}
 use Prim.Native.Nat.{ℕ, zero, suc, ◌+◌, ◌-◌, ◌≤◌, ◌<◌}
 use mathlib.Core.Path.{◌≡◌, refl, sym, ap, subst, ◌∙◌}
 use mathlib.Core.List.{List, [], ◌∷◌, ◌++◌}
@@ -15,8 +16,7 @@ use Rattle.read_pieces.specs.of_table.Table.{word, count_of}
 use Rattle.read_pieces.specs.of_table.Event.{Attribute, Start, Empty, End, Event, Tag, Piece, Eof, Fault, tag_kind, piece_kind, piece_bytes, kind_at, bytes_at, attributes_from, event_of, event_at, resolve_from}
 use Rattle.read_pieces.proofs.of_table.Resolving.{event-of-kind, resolve-end, resolve-next}
 use Rattle.read_machine.specs.of_table_events.Skip.{Skip, next, broken_at, up_from, skip_of, skip_answer}
-use Rattle.read_machine.specs.of_table_events.declared.Skipped.{Skipped}
-use Rattle.read_machine.specs.of_table_events.declared.Skipped.TheVariants as skip
+use Rattle.read_pieces.specs.of_refusal.declared.Cause.{Cause}
 use Rattle.read_machine.proofs.of_table_events.Numbered.{kind-within, kind-is, bytes-in}
 use Rattle.read_machine.proofs.of_table_events.Turns.{Far}
 use Rattle.read_pieces.specs.of_read_element.Outcome.{unlimited}
@@ -27,7 +27,6 @@ use Rattle.read_pieces.specs.of_read_state.declared.Output.{Output as CodedOutpu
 use Rattle.read_pieces.specs.of_read_state.declared.Mode.{Mode as CodedMode}
 use Rattle.read_pieces.specs.of_read_rules.Rules.{plan_at, in_skip, shallower}
 use Rattle.read_again.specs.declared.Again.{Again}
-use Rattle.read_again.specs.declared.Turn.TheVariants as turn
 use Rattle.read_again.specs.Told.{added, along, told}
 use Rattle.read_machine.specs.of_table_events.inside.Pieces.{is_piece}
 use Rattle.read_again.specs.inside.Turns.{turn_behind, rest, told_from, Known, Went, Over, Turned}
@@ -229,10 +228,10 @@ module _ (events source : List ℕ) (a : Again) (kind : ℕ) (e : kind ≡ cond 
           skip-tells attributes = tag-tells attributes ∙ l (λ x. told x (rest events attributes source (a.event + 1)))
               ∙ skip-told events attributes source (at status) bytes (count_of events) (count_of events - (a.event + 1)) (a.event + 1) 0 (let z = in_table in omega arith)
 
-          pub turn-skip : (before : List ℕ) (r : Skipped)
+          pub turn-skip : (before : List ℕ) (r : Result ℕ (Cause × ℕ))
               → ((attributes : List ℕ) → skip_answer r ≡ skip_of (bytes_at events source a.event) 0 (a.event + 1) (rest events attributes source (a.event + 1)))
-              → Turned events source before before a (turn_behind r a.output a.fill)
-          turn-skip before (skip.Next j) q =
+              → Turned events source before before a (Some (turn_behind r a.output a.fill))
+          turn-skip before (Ok j) q =
               let w : Far (a.event + 1) (a.event + 1 + (count_of events - (a.event + 1))) (next j) =
               subst (Far (a.event + 1) (a.event + 1 + (count_of events - (a.event + 1)))) (sym (q []))
               (skip-within unlimited events [] source (bytes_at events source a.event) 0 (count_of events - (a.event + 1)) (a.event + 1)) in
@@ -247,7 +246,7 @@ module _ (events source : List ℕ) (a : Again) (kind : ℕ) (e : kind ≡ cond 
                 fits = omega arith;
                 area = none-laid before a.fill;
               }
-          turn-skip before (skip.Refused why j) q = (
+          turn-skip before (Err (why, j)) q = (
             λ attributes. skip-tells attributes
                 ∙ ap (λ (s : List ℕ). behind events attributes source (at status) bytes (count_of events) (skip_of s 0 (a.event + 1) (rest events attributes source (a.event + 1)))) same
                 ∙ ap (behind events attributes source (at status) bytes (count_of events)) (sym (q attributes)),

@@ -16,18 +16,18 @@ ghost use Rattle.read_again.specs.inside.Turns.{put_by, Leads, LedBy, turn_behin
 ghost use Rattle.read_pieces.specs.of_refusal.declared.Cause.TheVariants as cause;
 
 use read_machine::the_read_content::Content;
-use read_machine::the_table_events::{Skipped, bytes_at, is_piece, kind_at, skip_from};
+use read_machine::the_table_events::the_refusal::Cause;
+use read_machine::the_table_events::{bytes_at, is_piece, kind_at, skip_from};
 pub use read_machine::{the_read_path, the_table_events};
 pub use read_pieces as the_read_pieces;
 use read_pieces::gather_piece;
-use read_pieces::the_area::Stored;
 use read_pieces::the_names::tag_of;
 use read_pieces::the_read_children::step_status;
 use read_pieces::the_read_rules::{step_list, step_text};
 pub use read_pieces::the_read_scratch;
 use read_pieces::the_read_state::{Act, Mode, Output};
 use read_pieces::the_table::kind;
-use read_pieces::the_text::kept::Kept;
+use read_pieces::the_text::kept::Unkept;
 
 // Where it stands: in the element or in a child's text, at an event, with so many bytes put.
 #[derive(Clone, Copy)]
@@ -36,13 +36,6 @@ pub struct Again {
     pub output: Output,
     pub event: usize,
     pub fill: usize,
-}
-
-#[derive(Clone, Copy)]
-pub enum Turn {
-    Go(Again),
-    Done,
-    Full,
 }
 
 // Where a tag leads.
@@ -54,20 +47,18 @@ pub enum Led {
 }
 
 // What is put of a piece: one that is refused adds nothing.
-fn put_of(kept: Kept) -> Stored
+fn put_of(kept: Result<usize, Unkept>) -> Option<usize>
     ensures { result ≡ put_by kept }
 {
     match kept {
-        Kept::Put(n) => Stored::Put(n),
-        Kept::Full => Stored::Full,
-        Kept::NotUtf8 => Stored::Put(0),
-        Kept::BadReference => Stored::Put(0),
-        Kept::UnknownName => Stored::Put(0),
+        Ok(n) => Some(n),
+        Err(Unkept::Full) => None,
+        Err(_) => Some(0),
     }
 }
 
 // A piece of the description, from k on; one of a child is passed over.
-fn put_piece(mode: Mode, kind: u32, bytes: &[u8], out: &mut [u8], k: usize) -> Stored
+fn put_piece(mode: Mode, kind: u32, bytes: &[u8], out: &mut [u8], k: usize) -> Option<usize>
     requires { k ≤ length out.old }
     ensures result_value { (o : plan.Output) → stored_answer cause.ScratchFull result
         ≡ placing cause.ScratchFull (length out.old - k) (added (mode_at mode plan.status o) (piece_kind kind) (piece_bytes kind bytes.now)) }
@@ -76,8 +67,7 @@ fn put_piece(mode: Mode, kind: u32, bytes: &[u8], out: &mut [u8], k: usize) -> S
 {
     match mode {
         Mode::At => put_of(gather_piece(kind, bytes, &mut out[k..])),
-        Mode::Text => Stored::Put(0),
-        Mode::List => Stored::Put(0),
+        Mode::Text | Mode::List => Some(0),
     }
 }
 
@@ -88,15 +78,14 @@ fn led_by(act: Act, mode: Mode, output: Output) -> Led
         Act::Pass => Led::To(mode, output),
         Act::Skip => Led::Skip,
         Act::OpenText(o) => Led::To(Mode::Text, o),
-        Act::CloseText(_) => Led::To(Mode::At, output),
-        Act::CloseList => Led::To(Mode::At, output),
-        Act::Open(_, _) => Led::End,
-        Act::Close => Led::End,
-        Act::OpenList(_) => Led::End,
-        Act::ReadProperty(_) => Led::End,
-        Act::Stop => Led::End,
-        Act::Missing => Led::End,
-        Act::Broken(_) => Led::End,
+        Act::CloseText(_) | Act::CloseList => Led::To(Mode::At, output),
+        Act::Open(_, _)
+        | Act::Close
+        | Act::OpenList(_)
+        | Act::ReadProperty(_)
+        | Act::Stop
+        | Act::Missing
+        | Act::Broken(_) => Led::End,
     }
 }
 
@@ -119,67 +108,57 @@ fn lead(mode: Mode, output: Output, kind: u32, name: &[u8]) -> Led
     led_by(act, mode, output)
 }
 
-fn turn_behind(skipped: Skipped, output: Output, fill: usize) -> Turn
+// Behind a skip; a skip that is refused ends it.
+fn turn_behind(skipped: Result<usize, (Cause, usize)>, output: Output, fill: usize) -> Option<Again>
     ensures { result ≡ turn_behind skipped output fill }
 {
-    match skipped {
-        Skipped::Next(j) => Turn::Go(Again {
-            mode: Mode::At,
-            output,
-            event: j,
-            fill,
-        }),
-        Skipped::Refused(_, _) => Turn::Done,
-    }
+    let event = skipped.ok()?;
+    Some(Again {
+        mode: Mode::At,
+        output,
+        event,
+        fill,
+    })
 }
 
-// One event, with what is skipped behind it.
-fn go_over(at: Again, events: &[u32], source: &[u8], out: &mut [u8]) -> Turn
+// One event, with what is skipped behind it: where it stands then, if it isn't at the end; None where the piece has no room.
+fn go_over(at: Again, events: &[u32], source: &[u8], out: &mut [u8]) -> Option<Option<Again>>
     requires known { Known events.now }
     requires fill_in_bounds { at.fill ≤ length out.old }
     ensures { Turned events.now source.now out.old out.new at result }
 {
-    let mode = at.mode;
-    let output = at.output;
-    let i = at.event;
-    let k = at.fill;
-    let kind = kind_at(events, i);
+    let kind = kind_at(events, at.event);
     if kind == kind::EOF {
-        return Turn::Done;
+        return Some(None);
     }
     if kind == kind::FAULT {
-        return Turn::Done;
+        return Some(None);
     }
-    let bytes = bytes_at(events, source, i);
-    let next = i + 1;
+    let bytes = bytes_at(events, source, at.event);
+    let next = at.event + 1;
     if is_piece(kind) {
-        let put = put_piece(mode, kind, bytes, out, k);
-        let Stored::Put(n) = put else {
-            return Turn::Full;
-        };
-        let fill = k + n;
-        return Turn::Go(Again {
+        let n = put_piece(at.mode, kind, bytes, out, at.fill)?;
+        return Some(Some(Again {
+            event: next,
+            fill: at.fill + n,
+            ..at
+        }));
+    }
+    let led = lead(at.mode, at.output, kind, bytes);
+    match led {
+        Led::To(mode, output) => Some(Some(Again {
             mode,
             output,
             event: next,
-            fill,
-        });
-    }
-    let led = lead(mode, output, kind, bytes);
-    match led {
-        Led::To(m, o) => Turn::Go(Again {
-            mode: m,
-            output: o,
-            event: next,
-            fill: k,
-        }),
-        Led::Skip => turn_behind(skip_from(events, source, i), output, k),
-        Led::End => Turn::Done,
+            ..at
+        })),
+        Led::Skip => Some(turn_behind(skip_from(events, source, at.event), at.output, at.fill)),
+        Led::End => Some(None),
     }
 }
 
 // What the events of an open status element from number `from` on add to its description, at the front of `out`.
-pub fn gather_again(events: &[u32], source: &[u8], from: usize, out: &mut [u8]) -> Stored
+pub fn gather_again(events: &[u32], source: &[u8], from: usize, out: &mut [u8]) -> Option<usize>
     requires known { Known events.now }
     requires from_bound { from ≤ count_of events.now }
     ensures by_index { (attributes : List ℕ) → stored_answer cause.ScratchFull result
@@ -193,14 +172,11 @@ pub fn gather_again(events: &[u32], source: &[u8], from: usize, out: &mut [u8]) 
         event: from,
         fill: 0,
     };
-    loop {
-        let next = go_over(at, events, source, out);
-        match next {
-            Turn::Go(a) => at = a,
-            Turn::Done => break Stored::Put(at.fill),
-            Turn::Full => break Stored::Full,
-        }
+    // while: each step goes over an event and what is skipped behind it.
+    while let Some(a) = go_over(at, events, source, out)? {
+        at = a;
     }
+    Some(at.fill)
 }
 
 // The content with its description, which a child's text was put over, at scratch's front again.
@@ -217,7 +193,8 @@ pub fn restored(
     ensures restores { Restores events.now source.now first content scratch.old scratch.new }
 {
     let _put = gather_again(events, source, first, scratch);
-    let mut c = content;
-    c.child = c.description;
-    c
+    Content {
+        child: content.description,
+        ..content
+    }
 }

@@ -1,4 +1,5 @@
 -- Marks behind the records, and the text area that lent its room for them. Assumes nothing.
+use Rattle.std.specs.Prelude.{Result}
 use Prim.Native.Nat.{ℕ, ◌-◌, ◌≤◌, ◌<◌}
 use mathlib.Core.Path.{◌≡◌, sym, ap, subst, ◌∙◌}
 use mathlib.Core.List.{List, ◌++◌}
@@ -13,11 +14,12 @@ use Rattle.read_indexed.specs.of_read_element.inside.Held.{Held, Roomy}
 use Rattle.read_indexed.specs.of_read_element.inside.Refines.{Table, Areas, areas}
 use Rattle.read_indexed.specs.of_read_attribute.declared.Range.{Range}
 use Rattle.read_indexed.specs.of_read_attribute.inside.Steps.{Matches}
-use Rattle.read_indexed.specs.of_read_fault.declared.Step.{Step}
 use Rattle.read_indexed.specs.of_read_each.inside.Fresh.{fresh}
 use Rattle.read_indexed.specs.of_read_each.inside.Promises.{read_from, ReadsWithin}
 use Rattle.read_indexed.specs.of_read_marks.inside.Marks.{Marks}
 use Rattle.read_indexed.proofs.of_read_places.Noting.{front-is, rest-is}
+use Rattle.read_indexed.specs.of_read_extra_record.declared.Given.{Given as Counted}
+use Rattle.read_indexed.specs.of_read_fault.declared.Fault.{Fault}
 
 zero-at : (n i : ℕ) → get_or (zeros n) i 0 ≡ 0
 zero-at n i = go (dec_lt i n)
@@ -63,7 +65,7 @@ begun kind fill k own text own' text' e f h =
     (subst (λ (t : List ℕ). Held (take k own) t 0 fill (fresh kind (take fill t))) (sym f) h)
 
 -- what was read once they were there
-pub within_same : (kind fill : ℕ) (table : Table) (range : Range) (own text own' text' : List ℕ) (after : Areas) (r : Step) → text' ≡ text → length own' ≡ length own
+pub within_same : (kind fill : ℕ) (table : Table) (range : Range) (own text own' text' : List ℕ) (after : Areas) (r : Result Counted Fault) → text' ≡ text → length own' ≡ length own
     → ReadsWithin kind table range fill (areas own' text') after r → ReadsWithin kind table range fill (areas own text) after r
 within_same kind fill table range own text own' text' after r e l x rooms p used whole w ro =
     subst (λ (t : List ℕ). Matches p after.records after.text (read_from rooms p used kind table range (take fill t)) r) e

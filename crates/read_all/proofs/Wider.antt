@@ -1,4 +1,5 @@
 -- Areas that are longer by words that are zero. Assumes nothing.
+use Rattle.std.specs.Prelude.{Result}
 use Prim.Native.Nat.{ℕ, ◌+◌, ◌-◌, ◌≤◌, ◌<◌}
 use mathlib.Core.Path.{◌≡◌, refl, sym, ap, subst, ◌∙◌}
 use mathlib.Core.Bool.{Bool, true, false, ◌||◌}
@@ -17,8 +18,9 @@ use Rattle.read_indexed.specs.of_read_element.Attributes.{Given}
 use Rattle.read_indexed.specs.of_read_element.inside.Held.{Held}
 use Rattle.read_indexed.specs.of_read_attribute.inside.Steps.{Matches}
 use Rattle.read_indexed.specs.of_read_element.inside.Refines.{went, stopped}
-use Rattle.read_indexed.specs.of_read_fault.declared.Step.{Step}
 use Rattle.read_indexed.specs.of_read_each.inside.Fresh.{fresh}
+use Rattle.read_indexed.specs.of_read_extra_record.declared.Given.{Given as Counted}
+use Rattle.read_indexed.specs.of_read_fault.declared.Fault.{Fault}
 
 held-wider : {own text : List ℕ} {extras fill : ℕ} {g : Given} (z : ℕ) → Held own text extras fill g → Held (own ++ zeros z) text extras fill g
 held-wider {own} {text} {extras} {fill} {g} z hd = record {
@@ -35,7 +37,7 @@ held-wider {own} {text} {extras} {fill} {g} z hd = record {
   filled = hd.filled;
 }
 
-pub matches_wider : {p : Place} {own text : List ℕ} {o : Outcome Given} {s : Step} (z : ℕ) → Matches p own text o s → Matches p (own ++ zeros z) text o s
+pub matches_wider : {p : Place} {own text : List ℕ} {o : Outcome Given} {s : Result Counted Fault} (z : ℕ) → Matches p own text o s → Matches p (own ++ zeros z) text o s
 matches_wider z (went h) = went (held-wider z h)
 matches_wider z stopped = stopped
 
@@ -70,12 +72,12 @@ module _ (kind fill : ℕ) (texts own text : List ℕ) (hd : Held own text 0 fil
         }
 
 -- the words behind the first k were cleared
-pub cleared : {p : Place} (k n : ℕ) (own : List ℕ) {own' text back : List ℕ} {o : Outcome Given} {s : Step}
+pub cleared : {p : Place} (k n : ℕ) (own : List ℕ) {own' text back : List ℕ} {o : Outcome Given} {s : Result Counted Fault}
     → own' ≡ take k own ++ back → back ≡ zeros n → Matches p (take k own) text o s → Matches p own' text o s
 cleared {p} k n own {own'} {text} {back} {o} {s} e z x = subst (λ (l : List ℕ). Matches p l text o s) (sym (e ∙ ap (λ (l : List ℕ). take k own ++ l) z)) (matches_wider n x)
 
 -- the words behind the part came back as they were
-pub behind : {p : Place} (n : ℕ) {front rest text : List ℕ} {o : Outcome Given} {s : Step} → rest ≡ zeros n → Matches p front text o s → Matches p (front ++ rest) text o s
+pub behind : {p : Place} (n : ℕ) {front rest text : List ℕ} {o : Outcome Given} {s : Result Counted Fault} → rest ≡ zeros n → Matches p front text o s → Matches p (front ++ rest) text o s
 behind {p} n {front} {rest} {text} {o} {s} z x = subst (λ (l : List ℕ). Matches p (front ++ l) text o s) (sym z) (matches_wider n x)
 
 or-false : (a b : Bool) → (a || b) ≡ false → (a ≡ false) × (b ≡ false)

@@ -13,7 +13,8 @@ use read_indexed::read_marked;
 use read_indexed::the_area::clear_words;
 use read_indexed::the_read_attribute::Range;
 use read_indexed::the_read_each::read_each;
-use read_indexed::the_read_fault::Step;
+use read_indexed::the_read_extra_record::Given;
+use read_indexed::the_read_fault::Fault;
 use read_indexed::the_read_marks::mark_range;
 use read_indexed::the_read_plain::plain_to;
 use read_indexed::the_tree_record::kind::{CASE, SUITE};
@@ -64,7 +65,7 @@ fn read_cleared(
     fill: usize,
     own: &mut [u32],
     text: &mut [u8],
-) -> Step
+) -> Result<Given, Fault>
     requires kind_bound { kind ≤ 12 }
     requires first_in_bounds { (range.end - range.first) * 33 + 32 ≤ length own.old }
     requires first_in_bounds_2 { fill + (range.end - range.first) * 4 ≤ length text.old }
@@ -104,7 +105,7 @@ pub fn read_all(
     fill: usize,
     own: &mut [u32],
     text: &mut [u8],
-) -> Step
+) -> Result<Given, Fault>
     requires kind_bound { kind ≤ 12 }
     requires begins { Begins kind (tagged attributes.now source.now) range clear fill (areas own.old text.old) }
     ensures { ReadsAttributes kind (tagged attributes.now source.now) range fill

@@ -30,12 +30,9 @@ use Rattle.read_repeats.specs.inside.Words.{attribute_in}
 use Rattle.read_role.specs.inside.Roles.{took_given}
 use Rattle.read_attribute.specs.inside.Steps.{taken_step, gave_step, by_key_of, Matches}
 use Rattle.read_extras.specs.of_read_extra_record.declared.Given.{Given as Counted}
-use Rattle.read_extras.specs.of_read_extra_record.declared.Gave.{Gave}
-use Rattle.read_extras.specs.of_read_extra_record.declared.Gave.TheVariants as gave
-use Rattle.read_role.specs.of_read_values.declared.Took.{Took}
-use Rattle.read_role.specs.of_read_values.declared.Took.TheVariants as took
-use Rattle.read_fault.specs.inside.Faults.{fault_step}
-use Rattle.read_fault.specs.declared.Step.{Step}
+use Rattle.std.specs.Prelude.{Result, Ok, Err}
+use Rattle.read_fault.specs.inside.Faults.{fault_of}
+use Rattle.read_fault.specs.declared.Fault.{Fault}
 use Rattle.read_attribute.proofs.RoleKeys.{Accepts, unknown-accepts}
 use Rattle.read_repeats.specs.of_refusal.declared.Cause.TheVariants as cause
 
@@ -54,37 +51,37 @@ numbers_of (refuses n) = (0, 0)
 
 module _ {p : Place} {j : ℕ} {own text : List ℕ} where
   -- a value's answer: its refusals have the Attribute
-  value-by : (key : ℕ) (given : Counted) (t : Took) {o : Outcome Given} {a : Answer (ℕ × ℕ)} → Meets (within (numbered p j) key) own text o a → a ≡ took_given given.extras t → (key ≡ 0 → Accepts o)
+  value-by : (key : ℕ) (given : Counted) (t : Result ℕ Cause) {o : Outcome Given} {a : Answer (ℕ × ℕ)} → Meets (within (numbered p j) key) own text o a → a ≡ took_given given.extras t → (key ≡ 0 → Accepts o)
       → Matches p own text o (taken_step t given key j)
-  value-by key given (took.To n) (went {s = h} {c = (e, f)} hd) q s =
+  value-by key given (Ok n) (went {s = h} {c = (e, f)} hd) q s =
       let z : e ≡ given.extras = ap (λ (b : Answer (ℕ × ℕ)). (numbers_of b).0) q in
       let y : f ≡ n = ap (λ (b : Answer (ℕ × ℕ)). (numbers_of b).1) q in
       let held : Held own text given.extras n h = rw (← z, ← y) hd in
       went held
-  value-by key given (took.Not why) (went hd) q s = let z : ◌≡◌ {A = ℕ} 0 1 = cc in absurd (omega arith)
-  value-by key given (took.To n) stopped q s = let z : ◌≡◌ {A = ℕ} 0 1 = cc in absurd (omega arith)
-  value-by zero given (took.Not why) stopped q s = absurd (s refl)
-  value-by (suc k) given (took.Not why) (stopped {f = n}) q s = let z : n ≡ why = cc in rw z stopped
+  value-by key given (Err why) (went hd) q s = let z : ◌≡◌ {A = ℕ} 0 1 = cc in absurd (omega arith)
+  value-by key given (Ok n) stopped q s = let z : ◌≡◌ {A = ℕ} 0 1 = cc in absurd (omega arith)
+  value-by zero given (Err why) stopped q s = absurd (s refl)
+  value-by (suc k) given (Err why) (stopped {f = n}) q s = let z : n ≡ why = cc in rw z stopped
 
   -- an extra's answer: they have none
-  extra-by : (found : Gave) {o : Outcome Given} {a : Answer (ℕ × ℕ)} → Meets (numbered p j) own text o a → a ≡ gave_answer found → Matches p own text o (gave_step found j)
-  extra-by (gave.To given) (went {s = h} {c = (e, f)} hd) q =
+  extra-by : (found : Result Counted Cause) {o : Outcome Given} {a : Answer (ℕ × ℕ)} → Meets (numbered p j) own text o a → a ≡ gave_answer found → Matches p own text o (gave_step found j)
+  extra-by (Ok given) (went {s = h} {c = (e, f)} hd) q =
       let z : e ≡ given.extras = ap (λ (b : Answer (ℕ × ℕ)). (numbers_of b).0) q in
       let y : f ≡ given.fill = ap (λ (b : Answer (ℕ × ℕ)). (numbers_of b).1) q in
       let held : Held own text given.extras given.fill h = rw (← z, ← y) hd in
       went held
-  extra-by (gave.Not why) (went hd) q = let z : ◌≡◌ {A = ℕ} 0 1 = cc in absurd (omega arith)
-  extra-by (gave.To given) stopped q = let z : ◌≡◌ {A = ℕ} 0 1 = cc in absurd (omega arith)
-  extra-by (gave.Not why) (stopped {f = n}) q = let z : n ≡ why = cc in rw z stopped
+  extra-by (Err why) (went hd) q = let z : ◌≡◌ {A = ℕ} 0 1 = cc in absurd (omega arith)
+  extra-by (Ok given) stopped q = let z : ◌≡◌ {A = ℕ} 0 1 = cc in absurd (omega arith)
+  extra-by (Err why) (stopped {f = n}) q = let z : n ≡ why = cc in rw z stopped
 
 -- an attribute with the role of its key
 module _ (kind j : ℕ) (x : Attribute) (g : Given) (rooms : Rooms) (p : Place) (used : ℕ) {own text : List ℕ} {key : ℕ} {r : Role} (ek : key ≡ key_of x.key) (er : r ≡ role_of kind key) where
-  by_key : {s : Step} → Matches p own text (by_role rooms (numbered p j) used kind key r x g) s → Matches p own text (by_key_of rooms (numbered p j) used kind x g) s
+  by_key : {s : Result Counted Fault} → Matches p own text (by_role rooms (numbered p j) used kind key r x g) s → Matches p own text (by_key_of rooms (numbered p j) used kind x g) s
   by_key {s} m =
       subst (λ (k : ℕ). Matches p own text (by_role rooms (numbered p j) used kind k (role_of kind k) x g) s) ek
       (subst (λ (t : Role). Matches p own text (by_role rooms (numbered p j) used kind key t x g) s) er m)
 
-  pub value-step : (given : Counted) (t : Took) {s : Step} → (r ≡ role.Extra → ⊥)
+  pub value-step : (given : Counted) (t : Result ℕ Cause) {s : Result Counted Fault} → (r ≡ role.Extra → ⊥)
       → Meets (within (numbered p j) key) own text (by_role rooms (numbered p j) used kind key r x g) (took_given given.extras t)
       → s ≡ taken_step t given key j → Matches p own text (by_key_of rooms (numbered p j) used kind x g) s
   value-step given t n m e =
@@ -93,7 +90,7 @@ module _ (kind j : ℕ) (x : Attribute) (g : Given) (rooms : Rooms) (p : Place) 
       in
       rw e (by_key (value-by key given t m refl quiet))
 
-  pub extra-step : (found : Gave) {s : Step} → r ≡ role.Extra → Meets (numbered p j) own text (read_extra rooms (numbered p j) used kind x g) (gave_answer found) → s ≡ gave_step found j
+  pub extra-step : (found : Result Counted Cause) {s : Result Counted Fault} → r ≡ role.Extra → Meets (numbered p j) own text (read_extra rooms (numbered p j) used kind x g) (gave_answer found) → s ≡ gave_step found j
       → Matches p own text (by_key_of rooms (numbered p j) used kind x g) s
   unfolding by_role
   extra-step found n m e = rw e (by_key (rw n (extra-by found m refl)))
@@ -113,7 +110,7 @@ repeat-told : {found among : Bool} (free : Bool) → found ≡ (not free && amon
 repeat-told true e k = k refl ∙ sym e
 repeat-told false e k = sym e
 
-passed : {p : Place} (q : Place) (n : Cause) {own text : List ℕ} {s : Step} (b : Bool) (m : Outcome Given) → b ≡ true → Matches p own text m s → Matches p own text (need b q n m) s
+passed : {p : Place} (q : Place) (n : Cause) {own text : List ℕ} {s : Result Counted Fault} (b : Bool) (m : Outcome Given) → b ≡ true → Matches p own text m s → Matches p own text (need b q n m) s
 unfolding need
 passed q n b m e x = rw e x
 
@@ -134,7 +131,7 @@ module _ (attributes source : List ℕ) (j : ℕ) where
 
   -- faulty (rule A2) or repeated (rule A3), and else the key and value
   module _ (p : Place) (ks : List (List ℕ)) where
-    pub step-faulty : {own text : List ℕ} {s : Step} (m : Outcome Given) → (get_or (lent attributes j) 0 0 ≡ 0 → ⊥) → s ≡ fault_step cause.FaultyAttribute 0 j
+    pub step-faulty : {own text : List ℕ} {s : Result Counted Fault} (m : Outcome Given) → (get_or (lent attributes j) 0 0 ≡ 0 → ⊥) → s ≡ Err (fault_of cause.FaultyAttribute 0 j)
         → Matches p own text (need (mark_at attributes j) (numbered p j) cause.FaultyAttribute (need (not (among (key_at attributes source j) ks)) (numbered p j) cause.RepeatedKey m)) s
     unfolding need
     step-faulty m h q = rw (q, mark-lent (ne_eqb (get_or (lent attributes j) 0 0) 0 h)) stopped
@@ -147,12 +144,12 @@ module _ (attributes source : List ℕ) (j : ℕ) where
       told : among (key_at attributes source j) ks ≡ found
       told = repeat-told free (e ∙ ap (λ (x : Attribute). not free && among x.key ks) attribute-lent) k
 
-      pub step-repeated : {own text : List ℕ} {s : Step} (m : Outcome Given) → found ≡ true → s ≡ fault_step cause.RepeatedKey 0 j
+      pub step-repeated : {own text : List ℕ} {s : Result Counted Fault} (m : Outcome Given) → found ≡ true → s ≡ Err (fault_of cause.RepeatedKey 0 j)
           → Matches p own text (need (mark_at attributes j) (numbered p j) cause.FaultyAttribute (need (not (among (key_at attributes source j) ks)) (numbered p j) cause.RepeatedKey m)) s
       unfolding need
       step-repeated m f q = rw (q, good, told ∙ f) stopped
 
-      pub step-on : {own text : List ℕ} {s : Step} (rooms : Rooms) (used kind : ℕ) (g : Given) → found ≡ false
+      pub step-on : {own text : List ℕ} {s : Result Counted Fault} (rooms : Rooms) (used kind : ℕ) (g : Given) → found ≡ false
           → Matches p own text (by_key_of rooms (numbered p j) used kind (attribute_in (lent attributes j) source) g) s
           → Matches p own text (need (mark_at attributes j) (numbered p j) cause.FaultyAttribute
           (need (not (among (key_at attributes source j) ks)) (numbered p j) cause.RepeatedKey (by_key_of rooms (numbered p j) used kind (attribute_at attributes source j) g))) s

@@ -10,9 +10,9 @@ ghost use Rattle.read_attribute.specs.inside.Promises.{ReadsAttribute, StepsAttr
 
 use read_extras::read_extra;
 pub use read_extras::the_read_extra_record;
-use read_extras::the_read_extra_record::{Gave, Given};
+use read_extras::the_read_extra_record::Given;
 pub use read_fault as the_read_fault;
-use read_fault::{Fault, Step, refused_at};
+use read_fault::{Fault, refused_at};
 use read_repeats::is_repeated;
 use read_repeats::the_area::wide;
 use read_repeats::the_names::key_of;
@@ -20,7 +20,6 @@ use read_repeats::the_read_keys::{Role, role_of};
 use read_repeats::the_refusal::Cause;
 use read_repeats::the_table_parts::bytes_of;
 use read_role::read_value;
-use read_role::the_read_values::Took;
 
 // Attributes from number `first` to before number `end`.
 #[derive(Clone, Copy)]
@@ -29,17 +28,14 @@ pub struct Range {
     pub end: usize,
 }
 
-fn taken(took: Took, given: Given, key: usize, j: usize) -> Step
+fn taken(took: Result<usize, Cause>, given: Given, key: usize, j: usize) -> Result<Given, Fault>
     requires key_bound { key < 2 ^ 32 }
     requires j_bound { j < 2 ^ 32 }
     ensures { result ≡ taken_step took given key j }
 {
     match took {
-        Took::To(fill) => Step::To(Given {
-            extras: given.extras,
-            fill,
-        }),
-        Took::Not(cause) => Step::Not(Fault {
+        Ok(fill) => Ok(Given { fill, ..given }),
+        Err(cause) => Err(Fault {
             cause,
             key: key as u32,
             attribute: j as u32,
@@ -48,14 +44,11 @@ fn taken(took: Took, given: Given, key: usize, j: usize) -> Step
 }
 
 // What is refused in an extra has the element's path alone (rule A11).
-fn gave(found: Gave, j: usize) -> Step
+fn gave(found: Result<Given, Cause>, j: usize) -> Result<Given, Fault>
     requires { j < 2 ^ 32 }
     ensures { result ≡ gave_step found j }
 {
-    match found {
-        Gave::To(given) => Step::To(given),
-        Gave::Not(cause) => refused_at(cause, j),
-    }
+    found.map_err(|cause| refused_at(cause, j))
 }
 
 // Attribute j, whose words are `words`, and whose key is good.
@@ -68,7 +61,7 @@ fn read_attribute(
     given: Given,
     own: &mut [u32],
     text: &mut [u8],
-) -> Step
+) -> Result<Given, Fault>
     requires in_bounds { 5 ≤ length words.now }
     requires j_bound { j < 2 ^ 32 }
     requires kind_bound { kind ≤ 12 }
@@ -99,7 +92,7 @@ pub fn step_attribute(
     given: Given,
     own: &mut [u32],
     text: &mut [u8],
-) -> Step
+) -> Result<Given, Fault>
     requires first_le_j { range.first ≤ j }
     requires j_in_bounds { j * 5 + 5 ≤ length attributes.now }
     requires j_bound { j < 65536 }
@@ -111,10 +104,10 @@ pub fn step_attribute(
     let at = j * 5;
     let words = &attributes[at..];
     if words[0] != 0 {
-        return refused_at(Cause::FaultyAttribute, j);
+        return Err(refused_at(Cause::FaultyAttribute, j));
     }
     if is_repeated(attributes, source, range.first, j, words, free) {
-        return refused_at(Cause::RepeatedKey, j);
+        return Err(refused_at(Cause::RepeatedKey, j));
     }
     read_attribute(kind, words, j, source, hint, given, own, text)
 }

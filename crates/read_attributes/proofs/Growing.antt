@@ -1,4 +1,5 @@
 -- An element's record behind its attributes, against the definition. Assumes nothing.
+use Rattle.std.specs.Prelude.{Result, Ok, Err}
 use Prim.Native.Nat.{ℕ, ◌+◌, ◌-◌, ◌*◌, ◌/◌, ◌%◌, ◌≤◌, ◌<◌}
 use mathlib.Core.Path.{◌≡◌, refl, sym, ap, subst, ◌∙◌}
 use mathlib.Core.Bool.{Bool, true, false, cond, not, ◌&&◌, ◌||◌}
@@ -23,11 +24,8 @@ use Rattle.read_attributes.specs.inside.Elements.{fault_element, missing_of, Fre
 use Rattle.read_all.specs.of_read_each.inside.Fresh.{fresh}
 use Rattle.read_all.specs.of_read_extra_record.declared.Given.{Given as Counted}
 use Rattle.read_all.specs.of_read_fault.declared.Fault.{Fault}
+use Rattle.read_attributes.specs.declared.Grown.{Grown as CodedGrown}
 use Rattle.read_all.specs.of_read_attribute.declared.Range.{Range}
-use Rattle.read_all.specs.of_read_fault.declared.Step.{Step}
-use Rattle.read_all.specs.of_read_fault.declared.Step.TheVariants as step
-use Rattle.read_attributes.specs.declared.Element.{Element}
-use Rattle.read_attributes.specs.declared.Element.TheVariants as element
 use Rattle.read_all.proofs.of_read_element.TreeOutcome.{Holds, held}
 use Rattle.read_all.proofs.of_read_each.HeldBounds.{held-extras}
 use Rattle.read_attributes.proofs.FreeKeys.{free-read, free-either}
@@ -97,14 +95,14 @@ module _ {rooms : Rooms} (p : Place) (before : List (List ℕ)) {n m : ℕ} (ro 
   unfolding read_element
   opened e = ap (λ (t : Bool). need t p cause.RecordsSpent (read_attributes rooms p (length before) kind [] j xs (fresh kind texts)) >>= rest p kind before) e
 
-  pub element-spent : n < 32 → p.attribute ≡ nowhere → {own text attributes source : List ℕ} {t : Element} → t ≡ fault_element RecordsSpent 0 nowhere
+  pub element-spent : n < 32 → p.attribute ≡ nowhere → {own text attributes source : List ℕ} {t : Result CodedGrown Fault} → t ≡ fault_element RecordsSpent 0 nowhere
       → Becomes p before own text attributes source (read_element rooms p kind j xs before texts) t
   unfolding need ◌>>=◌
   element-spent h w {own} {text} {attributes} {source} {t} q =
       let f : Fault = record { cause = RecordsSpent; key = 0; attribute = nowhere } in
       let e : (need false p cause.RecordsSpent (read_attributes rooms p (length before) kind [] j xs (fresh kind texts)) >>= rest p kind before) ≡ refused (fault_at p f) = rw w refl in
-      subst (λ (t : Element). Becomes p before own text attributes source (read_element rooms p kind j xs before texts) t) (sym q)
-      (subst (λ (o : Outcome Grown). Becomes p before own text attributes source o (element.Not f)) (sym (opened (ro.for-records 1 ∙ lt-leb (1 * 32) n (omega arith)) ∙ e)) stopped)
+      subst (λ (t : Result CodedGrown Fault). Becomes p before own text attributes source (read_element rooms p kind j xs before texts) t) (sym q)
+      (subst (λ (o : Outcome Grown). Becomes p before own text attributes source o (Err f)) (sym (opened (ro.for-records 1 ∙ lt-leb (1 * 32) n (omega arith)) ∙ e)) stopped)
 
   module _ (h : 32 ≤ n) where
     -- behind the attributes' outcome
@@ -114,56 +112,56 @@ module _ {rooms : Rooms} (p : Place) (before : List (List ℕ)) {n m : ℕ} (ro 
 
     module _ {own text attributes source : List ℕ} where
       pub element-halted : {f : Fault} → read_attributes rooms p (length before) kind [] j xs (fresh kind texts) ≡ refused (fault_at p f)
-          → Becomes p before own text attributes source (read_element rooms p kind j xs before texts) (element.Not f)
+          → Becomes p before own text attributes source (read_element rooms p kind j xs before texts) (Err f)
       unfolding ◌>>=◌
-      element-halted {f} e = subst (λ (o : Outcome Grown). Becomes p before own text attributes source o (element.Not f)) (sym (behind e)) stopped
+      element-halted {f} e = subst (λ (o : Outcome Grown). Becomes p before own text attributes source o (Err f)) (sym (behind e)) stopped
 
       module _ {given : Counted} (x : Gone own text (read_attributes rooms p (length before) kind [] j xs (fresh kind texts)) given) {k : ℕ} (e : k ≡ missing_of kind own) where
         pub element-lacking : p.attribute ≡ nowhere → (k ≡ 0 → ⊥) → Becomes p before own text attributes source (read_element rooms p kind j xs before texts) (fault_element MissingAttribute k nowhere)
         unfolding ◌>>=◌ complete
         element-lacking w z =
             let q = lacks p x.said w (leb 2 kind && leb kind 5) (has_bit 0 x.said.main) (leb 4 kind && leb kind 5) (has_bit 1 x.said.main) k (e ∙ missing-held kind x.holds) z in
-            subst (λ (o : Outcome Grown). Becomes p before own text attributes source o (element.Not (lacking k)))
+            subst (λ (o : Outcome Grown). Becomes p before own text attributes source o (Err (lacking k)))
             (sym (behind x.same ∙ ap (λ (o : Outcome Given). o >>= λ h. accepted (record { records = before ++ (h.main ∷ h.extras); texts = h.texts })) q)) stopped
 
         pub element-grown : k ≡ 0 → (free : Range) → Free attributes source free.first free.end
-            → Becomes p before own text attributes source (read_element rooms p kind j xs before texts) (element.Is (record { records = given.extras + 1; fill = given.fill; free = free }))
+            → Becomes p before own text attributes source (read_element rooms p kind j xs before texts) (Ok (record { records = given.extras + 1; fill = given.fill; free = free }))
         unfolding ◌>>=◌ complete
         element-grown z free f =
             let q = lacks-none p x.said (leb 2 kind && leb kind 5) (has_bit 0 x.said.main) (leb 4 kind && leb kind 5) (has_bit 1 x.said.main) k (e ∙ missing-held kind x.holds) z in
-            subst (λ (o : Outcome Grown). Becomes p before own text attributes source o (element.Is (record { records = given.extras + 1; fill = given.fill; free = free })))
+            subst (λ (o : Outcome Grown). Becomes p before own text attributes source o (Ok (record { records = given.extras + 1; fill = given.fill; free = free })))
             (sym (behind x.same ∙ ap (λ (o : Outcome Given). o >>= λ h. accepted (record { records = before ++ (h.main ∷ h.extras); texts = h.texts })) q))
             (went (grew {extras = given.extras} x.holds refl f))
 
 -- ---- what `read_record` comes to
 -- what `read_attributes` says
-abbrev ReadAll : ℕ → List ℕ → List ℕ → Range → List ℕ → List ℕ → List ℕ → List ℕ → List ℕ → Step → Type 0
+abbrev ReadAll : ℕ → List ℕ → List ℕ → Range → List ℕ → List ℕ → List ℕ → List ℕ → List ℕ → Result Counted Fault → Type 0
 ReadAll kind attributes source range texts own text own' text' r =
     (rooms : Rooms) (p : Place) (used : ℕ) → Roomy rooms used (length own) (length text)
     → Matches p own' text' (read_attributes rooms p used kind [] range.first (attributes_from attributes source (range.end - range.first) range.first) (fresh kind texts)) r
 
-module _ (kind : ℕ) (attributes source : List ℕ) (range : Range) (texts own₀ text : List ℕ) {own own' text' : List ℕ} {r : Step}
+module _ (kind : ℕ) (attributes source : List ℕ) (range : Range) (texts own₀ text : List ℕ) {own own' text' : List ℕ} {r : Result Counted Fault}
     (put : own ≡ set own₀ 0 kind) (room : 32 ≤ length own₀) (s : ReadAll kind attributes source range texts own text own' text' r) where
-  told : {t : Step} → r ≡ t → (rooms : Rooms) (p : Place) (used : ℕ) → Roomy rooms used (length own₀) (length text)
+  told : {t : Result Counted Fault} → r ≡ t → (rooms : Rooms) (p : Place) (used : ℕ) → Roomy rooms used (length own₀) (length text)
       → Matches p own' text' (read_attributes rooms p used kind [] range.first (attributes_from attributes source (range.end - range.first) range.first) (fresh kind texts)) t
   told q rooms p used ro =
-      subst (λ (t : Step).
+      subst (λ (t : Result Counted Fault).
       Matches p own' text' (read_attributes rooms p used kind [] range.first (attributes_from attributes source (range.end - range.first) range.first) (fresh kind texts)) t) q
       (s rooms p used (subst (λ (n : ℕ). Roomy rooms used n (length text)) (sym (ap length put ∙ length-set own₀ 0 kind)) ro))
 
   -- the extras have room
-  pub record-extras : {given : Counted} → r ≡ step.To given → given.extras * 32 + 32 ≤ length own'
+  pub record-extras : {given : Counted} → r ≡ Ok given → given.extras * 32 + 32 ≤ length own'
   record-extras q = held-extras (gone (told q (spacious (length own₀) (length text)) somewhere 0 (roomy_spacious (length own₀) (length text)))).holds
 
   module _ (rooms : Rooms) (p : Place) (before : List (List ℕ)) (w : p.attribute ≡ nowhere) (ro : Roomy rooms (length before) (length own₀) (length text)) where
-    pub record-halted : {f : Fault} → r ≡ step.Not f
+    pub record-halted : {f : Fault} → r ≡ Err f
         → Becomes p before own' text' attributes source
-        (read_element rooms p kind range.first (attributes_from attributes source (range.end - range.first) range.first) before texts) (element.Not f)
+        (read_element rooms p kind range.first (attributes_from attributes source (range.end - range.first) range.first) before texts) (Err f)
     record-halted q =
         element-halted p before ro kind range.first (attributes_from attributes source (range.end - range.first) range.first) texts room (halted (told q rooms p (length before) ro))
 
-    module _ {given : Counted} (q : r ≡ step.To given) {k : ℕ} (e : k ≡ missing_of kind own') where
-      pub record_lacking : (k ≡ 0 → ⊥) → {t : Element} → t ≡ fault_element MissingAttribute k nowhere
+    module _ {given : Counted} (q : r ≡ Ok given) {k : ℕ} (e : k ≡ missing_of kind own') where
+      pub record_lacking : (k ≡ 0 → ⊥) → {t : Result CodedGrown Fault} → t ≡ fault_element MissingAttribute k nowhere
           → Becomes p before own' text' attributes source (read_element rooms p kind range.first (attributes_from attributes source (range.end - range.first) range.first) before texts) t
       record_lacking z u =
           rw u
@@ -171,7 +169,7 @@ module _ (kind : ℕ) (attributes source : List ℕ) (range : Range) (texts own�
 
       pub record-grown : k ≡ 0 → range.first ≤ range.end → (known : Range) → Free attributes source known.first known.end → {free : Range} → free ≡ known_of known range
           → Becomes p before own' text' attributes source (read_element rooms p kind range.first (attributes_from attributes source (range.end - range.first) range.first) before texts)
-          (element.Is (record { records = given.extras + 1; fill = given.fill; free = free }))
+          (Ok (record { records = given.extras + 1; fill = given.fill; free = free }))
       record-grown z l known f {free} u =
           let x = gone (told q rooms p (length before) ro) in
           let h : Holds (λ _. Free attributes source range.first range.end) (accepted x.said) =

@@ -9,7 +9,7 @@ ghost use Rattle.read_attributes.specs.inside.Elements.{missing_of, fault_elemen
 
 use read_all::read_all;
 use read_all::the_read_attribute::Range;
-use read_all::the_read_fault::{Fault, Step};
+use read_all::the_read_fault::Fault;
 use read_all::the_read_free::free_to;
 use read_all::the_refusal::{Cause, NOWHERE};
 use read_all::the_tree_record::{has_bit, put_field};
@@ -22,12 +22,6 @@ pub struct Grown {
     pub records: usize,
     pub fill: usize,
     pub free: Range,
-}
-
-#[derive(Clone, Copy)]
-pub enum Element {
-    Is(Grown),
-    Not(Fault),
 }
 
 // The code of the first attribute that the element lacks, or 0 (rule A10).
@@ -43,10 +37,10 @@ fn missing_of(kind: u32, own: &[u32]) -> u32
     0
 }
 
-fn refused(cause: Cause, key: u32) -> Element
+fn refused(cause: Cause, key: u32) -> Result<Grown, Fault>
     ensures { result ≡ fault_element cause key nowhere }
 {
-    Element::Not(Fault {
+    Err(Fault {
         cause,
         key,
         attribute: NOWHERE,
@@ -106,7 +100,7 @@ fn read_record(
     fill: usize,
     own: &mut [u32],
     text: &mut [u8],
-) -> Element
+) -> Result<Grown, Fault>
     requires kind_bound { kind ≤ 12 }
     requires in_bounds { 32 ≤ length own.old }
     requires free { Free attributes.now source.now range.first clear }
@@ -115,20 +109,15 @@ fn read_record(
         (areas own.old text.old) (areas own.new text.new) result }
 {
     put_field(own, 0, kind);
-    let read = read_all(kind, attributes, source, range, clear, fill, own, text);
-    let given = match read {
-        Step::To(given) => given,
-        Step::Not(fault) => return Element::Not(fault),
-    };
+    let given = read_all(kind, attributes, source, range, clear, fill, own, text)?;
     let lacking = missing_of(kind, own);
     if lacking != 0 {
         return refused(Cause::MissingAttribute, lacking);
     }
-    let free = known_of(known, range);
-    Element::Is(Grown {
+    Ok(Grown {
         records: given.extras + 1,
         fill: given.fill,
-        free,
+        free: known_of(known, range),
     })
 }
 
@@ -144,7 +133,7 @@ pub fn read_element(
     fill: usize,
     own: &mut [u32],
     text: &mut [u8],
-) -> Element
+) -> Result<Grown, Fault>
     requires kind_bound { kind ≤ 12 }
     requires vacant { Vacant (tagged attributes.now source.now) range known fill (areas own.old text.old) }
     ensures { ReadsElement kind (tagged attributes.now source.now) range fill

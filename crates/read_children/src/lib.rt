@@ -35,6 +35,7 @@ fn text_of(output: Output, empty: bool) -> Act
 }
 
 // The outputs of suite, case and status element; any other child is skipped (rules R11 and S4), and an Empty one ends where it stands (rule R13).
+#[tactic(auto, using(crate::proofs::Children::child_out, crate::proofs::Children::child_err), unfolding(crate::specs::Children::outputs, crate::specs::Children::emptied))]
 pub fn child(tag: usize, empty: bool) -> Act
     ensures { (l : plan.Level) (name : List ℕ) → tag_of name ≡ tag → act_in (plan.at l) name result ≡ cond empty (rules.emptied l name) (rules.outputs l name) }
 {
@@ -52,6 +53,7 @@ pub fn list_of(empty: bool) -> Act
     Act::OpenList(empty)
 }
 
+#[tactic(auto, using(crate::proofs::Children::status_opens))]
 fn open_status(tag: usize, empty: bool) -> Act
     ensures { (name : List ℕ) → tag_of name ≡ tag → act_in (plan.at plan.status) name result ≡ rules.at_status (cond empty Empty Start) name }
 {
@@ -62,6 +64,7 @@ fn open_status(tag: usize, empty: bool) -> Act
 }
 
 // It ends at an End of any of the seven status names (rule S2); children by rules S3 and S4.
+#[tactic(auto, using(crate::proofs::Children::kind_end), unfolding(crate::specs::Children::at_status))]
 pub fn step_status(kind: u32, tag: usize) -> Act
     ensures { (name : List ℕ) → tag_of name ≡ tag → act_in (plan.at plan.status) name result ≡ rules.at_status (tag_kind kind) name }
 {

@@ -1,10 +1,9 @@
 // What actions do to records and texts.
 #![tactic(auto)]
 
-ghost use Rattle.std.specs.Prelude.{◌≡◌};
+ghost use Rattle.std.specs.Prelude.{◌≡◌, Err};
 ghost use Rattle.read_place.specs.of_read_state.inside.Coded.{level_of};
 ghost use Rattle.read_place.specs.inside.Coded.{marks_of};
-ghost use Rattle.read_content.specs.declared.Performed.TheVariants.{Not};
 ghost use Rattle.read_content.specs.Content.{property_kind, takes};
 ghost use Rattle.read_content.specs.inside.Holds.{fault_of, no_content};
 
@@ -46,12 +45,6 @@ pub struct Content {
     pub free: Range,
 }
 
-#[derive(Clone, Copy)]
-pub enum Performed {
-    To(Content),
-    Not(Fault),
-}
-
 pub fn no_content() -> Content
     ensures { result ≡ no_content }
 {
@@ -69,10 +62,10 @@ pub fn no_content() -> Content
     }
 }
 
-pub fn refused(cause: Cause) -> Performed
-    ensures { result ≡ Not (fault_of cause) }
+pub fn refused(cause: Cause) -> Result<Content, Fault>
+    ensures { result ≡ Err (fault_of cause) }
 {
-    Performed::Not(Fault {
+    Err(Fault {
         cause,
         key: 0,
         attribute: NOWHERE,
@@ -83,10 +76,8 @@ pub fn property_kind(level: Level) -> u32
     ensures { result ≡ property_kind (level_of level) }
 {
     match level {
-        Level::Top => kind::SUITE_PROPERTY,
-        Level::Suite => kind::SUITE_PROPERTY,
-        Level::Case => kind::CASE_PROPERTY,
-        Level::Status => kind::CASE_PROPERTY,
+        Level::Top | Level::Suite => kind::SUITE_PROPERTY,
+        Level::Case | Level::Status => kind::CASE_PROPERTY,
     }
 }
 
@@ -96,8 +87,7 @@ pub fn is_taken(level: Level, marks: Marks) -> bool
 {
     match level {
         Level::Top => false,
-        Level::Suite => true,
-        Level::Case => true,
+        Level::Suite | Level::Case => true,
         Level::Status => kind::FLAKY_FAILURE <= marks.status_kind,
     }
 }

@@ -1,4 +1,5 @@
 -- An element's attributes, one after the other, against the definition. Assumes nothing.
+use Rattle.std.specs.Prelude.{Result, Ok, Err}
 use Prim.Native.Nat.{ℕ, ◌+◌, ◌-◌, ◌*◌, ◌/◌, ◌≤◌, ◌<◌}
 use mathlib.Core.Path.{◌≡◌, refl, sym, ap, subst, ◌∙◌}
 use mathlib.Core.Bool.{Bool, true, false, cond, ◌&&◌}
@@ -23,8 +24,6 @@ use Rattle.read_free.specs.of_text.Value.{value_text}
 use Rattle.read_attribute.specs.of_read_extras.inside.Hinted.{Hinted}
 use Rattle.read_attribute.specs.of_read_extra_record.declared.Given.{Given as Counted}
 use Rattle.read_attribute.specs.of_read_fault.declared.Fault.{Fault}
-use Rattle.read_attribute.specs.of_read_fault.declared.Step.{Step}
-use Rattle.read_attribute.specs.of_read_fault.declared.Step.TheVariants as step
 use Rattle.read_each.proofs.Stepping.{attribute_step}
 use Rattle.read_each.proofs.Kept.{Kept, kept_step}
 use Rattle.read_each.proofs.Sourced.{Sourced, sourced-none, sourced-more, place-new}
@@ -54,15 +53,15 @@ pub record Gone (own text : List ℕ) (m : Outcome Given) (given : Counted) : Ty
   pub same : m ≡ accepted said
 
 -- what a step that went on tells, with the place left out
-pub gone : {p : Place} {own text : List ℕ} {m : Outcome Given} {given : Counted} → Matches p own text m (step.To given) → Gone own text m given
+pub gone : {p : Place} {own text : List ℕ} {m : Outcome Given} {given : Counted} → Matches p own text m (Ok given) → Gone own text m given
 gone (went {s = g} h) = record { said = g; holds = h; same = refl }
 
 -- a step that halted tells that the definition refuses with this fault
-pub halted : {p : Place} {own text : List ℕ} {m : Outcome Given} {f : Fault} → Matches p own text m (step.Not f) → m ≡ refused (fault_at p f)
+pub halted : {p : Place} {own text : List ℕ} {m : Outcome Given} {f : Fault} → Matches p own text m (Err f) → m ≡ refused (fault_at p f)
 halted stopped = refl
 
 -- what `step_attribute` says of attribute j
-abbrev pub Stepped : List ℕ → List ℕ → ℕ → ℕ → Bool → ℕ → ℕ → Counted → List ℕ → List ℕ → List ℕ → List ℕ → Step → Type 0
+abbrev pub Stepped : List ℕ → List ℕ → ℕ → ℕ → Bool → ℕ → ℕ → Counted → List ℕ → List ℕ → List ℕ → List ℕ → Result Counted Fault → Type 0
 Stepped attributes source kind first free hint j given own text own' text' r =
     (g : Given) (rooms : Rooms) (p : Place) (used : ℕ) → Held own text given.extras given.fill g → Roomy rooms used (length own) (length text)
     → (free ≡ true → among (key_at attributes source j) (keys_of (attributes_from attributes source (j - first) first)) ≡ false)
@@ -109,13 +108,13 @@ module _ {kind : ℕ} {attributes source : List ℕ} {first end : ℕ} {own₀ t
   going-extras = held-extras (x.along (spacious (length own₀) (length text₀)) somewhere 0 (roomy_spacious (length own₀) (length text₀))).holds
 
   pub going_done : end ≤ j → (rooms : Rooms) (p : Place) (used : ℕ) → Roomy rooms used (length own₀) (length text₀)
-      → Matches p own text (read_attributes rooms p used kind [] first (attributes_from attributes source (end - first) first) g₀) (step.To given)
+      → Matches p own text (read_attributes rooms p used kind [] first (attributes_from attributes source (end - first) first) g₀) (Ok given)
   unfolding read_attributes
   going_done h rooms p used ro =
       let a = x.along rooms p used ro in
       let e = a.same
       ∙ ap (λ (xs : List Attribute). read_attributes rooms p used kind (keys_of (attributes_from attributes source (j - first) first)) j xs a.said) (attributes-end attributes source end j h) in
-      subst (λ (m : Outcome Given). Matches p own text m (step.To given)) (sym e) (went a.holds)
+      subst (λ (m : Outcome Given). Matches p own text m (Ok given)) (sym e) (went a.holds)
 
   -- the definition with attribute j taken first
   turn : j < end → (rooms : Rooms) (p : Place) (used : ℕ) (ro : Roomy rooms used (length own₀) (length text₀))
@@ -129,7 +128,7 @@ module _ {kind : ℕ} {attributes source : List ℕ} {first end : ℕ} {own₀ t
       a.same ∙ ap (λ (xs : List Attribute). read_attributes rooms p used kind (keys_of (attributes_from attributes source (j - first) first)) j xs a.said) (attributes-next attributes source end j h)
 
   module _ (h : j < end) {clear plain hint : ℕ} (f : Unrepeated attributes source first clear) (o : Plain attributes source first plain)
-      (t : hint ≡ cond (ltb j clear && ltb j plain) given.extras (given.extras + 1)) {own' text' : List ℕ} {r : Step}
+      (t : hint ≡ cond (ltb j clear && ltb j plain) given.extras (given.extras + 1)) {own' text' : List ℕ} {r : Result Counted Fault}
       (s : Stepped attributes source kind first (ltb j clear) hint j given own text own' text' r) where
     -- the hint says that there is no extra with j's key, or says nothing
     hinted : (rooms : Rooms) (p : Place) (used : ℕ) (ro : Roomy rooms used (length own₀) (length text₀)) → Hinted hint (x.along rooms p used ro).said (value_text (key_at attributes source j))
@@ -146,34 +145,34 @@ module _ {kind : ℕ} {attributes source : List ℕ} {first end : ℕ} {own₀ t
         go false q b u e = absurd (omega (arith, c))
 
     -- attribute j at a place and in rooms
-    taking : {t : Step} → r ≡ t → (rooms : Rooms) (p : Place) (used : ℕ) (ro : Roomy rooms used (length own₀) (length text₀))
+    taking : {t : Result Counted Fault} → r ≡ t → (rooms : Rooms) (p : Place) (used : ℕ) (ro : Roomy rooms used (length own₀) (length text₀))
         → Matches p own' text' (attribute_step attributes source kind first rooms p used j (x.along rooms p used ro).said) t
     taking q rooms p used ro =
         let a = x.along rooms p used ro in
-        subst (λ (t : Step). Matches p own' text' (attribute_step attributes source kind first rooms p used j a.said) t) q
+        subst (λ (t : Result Counted Fault). Matches p own' text' (attribute_step attributes source kind first rooms p used j a.said) t) q
         (s a.said rooms p used a.holds
         (subst (λ (n : ℕ). Roomy rooms used n (length text)) (sym x.own_same) (subst (λ (n : ℕ). Roomy rooms used (length own₀) n) (sym x.text_same) ro))
         (λ e. free-key attributes source first clear j f x.low (ltb-true j clear e))
         (hinted rooms p used ro))
 
-    pub going-stopped : {fault : Fault} → r ≡ step.Not fault → (rooms : Rooms) (p : Place) (used : ℕ) → Roomy rooms used (length own₀) (length text₀)
-        → Matches p own' text' (read_attributes rooms p used kind [] first (attributes_from attributes source (end - first) first) g₀) (step.Not fault)
+    pub going-stopped : {fault : Fault} → r ≡ Err fault → (rooms : Rooms) (p : Place) (used : ℕ) → Roomy rooms used (length own₀) (length text₀)
+        → Matches p own' text' (read_attributes rooms p used kind [] first (attributes_from attributes source (end - first) first) g₀) (Err fault)
     unfolding ◌>>=◌
     going-stopped {fault} q rooms p used ro =
         let e = turn h rooms p used ro
         ∙ ap (λ (m : Outcome Given). m >>= λ g. read_attributes rooms p used kind (keys_of (attributes_from attributes source (j - first) first) ++ (key_at attributes source j ∷ []))
         (j + 1) (attributes_from attributes source (end - (j + 1)) (j + 1)) g)
         (halted (taking q rooms p used ro)) in
-        subst (λ (m : Outcome Given). Matches p own' text' m (step.Not fault)) (sym e) stopped
+        subst (λ (m : Outcome Given). Matches p own' text' m (Err fault)) (sym e) stopped
 
     -- the stored keys stay
-    kept_on : {next : Counted} (q : r ≡ step.To next) (rooms : Rooms) (p : Place) (used : ℕ) (ro : Roomy rooms used (length own₀) (length text₀))
+    kept_on : {next : Counted} (q : r ≡ Ok next) (rooms : Rooms) (p : Place) (used : ℕ) (ro : Roomy rooms used (length own₀) (length text₀))
         → Kept (key_at attributes source j) (x.along rooms p used ro).said (gone (taking q rooms p used ro)).said
     kept_on q rooms p used ro =
         held (subst (λ (m : Outcome Given). Holds (λ g. Kept (key_at attributes source j) (x.along rooms p used ro).said g) m) (gone (taking q rooms p used ro)).same
         (kept_step attributes source kind first rooms p used j (x.along rooms p used ro).said (x.along rooms p used ro).holds.keyed))
 
-    pub going_on : {next : Counted} → r ≡ step.To next → length own' ≡ length own → length text' ≡ length text
+    pub going_on : {next : Counted} → r ≡ Ok next → length own' ≡ length own → length text' ≡ length text
         → Going kind attributes source first end own₀ text₀ g₀ own' text' (j + 1) next
     unfolding ◌>>=◌
     going_on {next} q l m = let lw = x.low in record {

@@ -72,9 +72,9 @@ module _ {own text : List ℕ} {extras fill : ℕ} {g : Given} (hd : Held own te
         ro.for-text (length g.texts + length v) ∙ lt-leb (length g.texts + length v) (length text) (omega arith)
 
     module _ (p : Place) (i : ℕ) where
-      pub old-full : {own' text' : List ℕ} → refuses cause.TextFull ≡ moved fill (placing cause.TextFull (length text - fill) v) → Meets p own' text' (old_extra rooms p v i g) (refuses cause.TextFull)
+      pub old-full : {own' text' : List ℕ} {why : Cause} → refuses why ≡ moved fill (placing cause.TextFull (length text - fill) v) → Meets p own' text' (old_extra rooms p v i g) (refuses why)
       unfolding old_extra
-      old-full e = meets-refused cause.TextFull _ (text-none (end-full fill (length text - fill) v e))
+      old-full e = let f = end-full fill (length text - fill) v e in rw f.0 (meets-refused cause.TextFull _ (text-none f.1))
 
       module _ {end : ℕ} {ys text' : List ℕ} (lt : i < extras) (e : gives end ≡ moved fill (placing cause.TextFull (length text - fill) v)) (t : text' ≡ take fill text ++ laid (drop fill text) v)
           (o : ys ≡ put_pair 4 fill (end - fill) (take (length own - (i * 32 + 32)) (drop (i * 32 + 32) own))) where

@@ -25,6 +25,7 @@ use Rattle.read_element.specs.inside.Refines.{went}
 use Rattle.read_extra_record.proofs.Storing.{end-put, end-full, text-size, Local, pair-local, keyed-more}
 use Rattle.read_extra_record.proofs.Extras.{meets-need, meets-refused, behind-main, text-grown, text-room, text-none}
 use Rattle.read_element.specs.of_refusal.declared.Cause.TheVariants as cause
+use Rattle.read_element.specs.of_refusal.declared.Cause.{Cause}
 
 -- setting a presence bit touches the first record alone
 pub marked-local : (k : ℕ) → Local (marked k)
@@ -136,10 +137,12 @@ module _ {own text : List ℕ} {extras fill : ℕ} {g : Given} (hd : Held own te
     spare : fits rooms.records (used + 1 + length g.extras + 1) ≡ true
     spare = ap (fits rooms.records) asked ∙ ro.for-records (extras + 2) ∙ le-leb ((extras + 2) * 32) (length own) (omega arith)
 
-    pub key-full : {own' text' : List ℕ} → refuses cause.TextFull ≡ moved fill (placing cause.TextFull (length text - fill) key)
-        → Meets p own' text' (new_extra rooms p used kind key value g) (refuses cause.TextFull)
+    pub key-full : {own' text' : List ℕ} {why : Cause} → refuses why ≡ moved fill (placing cause.TextFull (length text - fill) key)
+        → Meets p own' text' (new_extra rooms p used kind key value g) (refuses why)
     unfolding new_extra
-    key-full e = meets-need cause.RecordsSpent _ spare (meets-refused cause.TextFull _ (text-none hd ro key (end-full fill (length text - fill) key e)))
+    key-full e =
+        let f = end-full fill (length text - fill) key e in
+        rw f.0 (meets-need cause.RecordsSpent _ spare (meets-refused cause.TextFull _ (text-none hd ro key f.1)))
 
     module _ {middle : ℕ} {text₁ : List ℕ} (e : gives middle ≡ moved fill (placing cause.TextFull (length text - fill) key)) (t : text₁ ≡ take fill text ++ laid (drop fill text) key) where
       long : length key ≤ length text - fill
@@ -170,11 +173,12 @@ module _ {own text : List ℕ} {extras fill : ℕ} {g : Given} (hd : Held own te
       roomy₁ : Roomy rooms used (length own) (length text₁)
       roomy₁ = rw size₁ ro
 
-      pub value-full : {own' text' : List ℕ} → refuses cause.TextFull ≡ moved middle (placing cause.TextFull (length text₁ - middle) value)
-          → Meets p own' text' (new_extra rooms p used kind key value g) (refuses cause.TextFull)
+      pub value-full : {own' text' : List ℕ} {why : Cause} → refuses why ≡ moved middle (placing cause.TextFull (length text₁ - middle) value)
+          → Meets p own' text' (new_extra rooms p used kind key value g) (refuses why)
       unfolding new_extra
-      value-full q = meets-need cause.RecordsSpent _ spare
-          (meets-need cause.TextFull _ (text-room hd ro key long) (meets-refused cause.TextFull _ (text-none held₁ roomy₁ value (end-full middle (length text₁ - middle) value q))))
+      value-full q =
+          let f = end-full middle (length text₁ - middle) value q in
+          rw f.0 (meets-need cause.RecordsSpent _ spare (meets-need cause.TextFull _ (text-room hd ro key long) (meets-refused cause.TextFull _ (text-none held₁ roomy₁ value f.1))))
 
       module _ {end : ℕ} {text₂ ys : List ℕ} (e' : gives end ≡ moved middle (placing cause.TextFull (length text₁ - middle) value)) (t' : text₂ ≡ take middle text₁ ++ laid (drop middle text₁) value)
           (o : ys ≡ extra_words (kind + 11) fill (middle - fill) middle (end - middle) (take (length own - (extras * 32 + 32)) (drop (extras * 32 + 32) own))) where

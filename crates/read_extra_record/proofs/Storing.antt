@@ -1,19 +1,23 @@
 -- Texts and records put behind those that the areas hold. Assumes nothing.
 use Prim.Native.Nat.{ℕ, zero, suc, ◌+◌, ◌-◌, ◌*◌, ◌≤◌, ◌<◌}
 use mathlib.Core.Path.{◌≡◌, refl, sym, ap, ◌∙◌}
+use mathlib.Core.Bool.{Bool, true, false, cond}
 use mathlib.Core.List.{List, [], ◌∷◌, ◌++◌, append_assoc}
 use native.Mathlib.Omega.{arith}
+use borrow.Author.Tests.{leb-false}
+use lib.Dec.{leb}
 use lib.ListN.{length, get_or, set, take, drop, length-append, length-replicate, length-set}
 use lib.Seq.{take_at, drop_at, drop-drop, take-add, set-append_left}
 use Rattle.read_element.specs.of_area.Answer.{Answer, gives, refuses}
 use Rattle.read_element.specs.of_area.Area.{zeros, placing, laid}
-use Rattle.read_element.proofs.of_area.Laying.{laid-zeros, put-fits, full-over}
+use Rattle.read_element.proofs.of_area.Laying.{laid-zeros, put-fits}
 use Rattle.read_element.specs.of_tree_put.Put.{put_pair}
 use Rattle.read_element.proofs.of_tree_put.Puts.{pair-length}
 use Rattle.read_element.specs.Attributes.{changed}
 use Rattle.read_element.specs.of_utf8.Characters.{joined}
 use Rattle.read_element.specs.inside.Held.{moved, Keyed}
 use Rattle.read_element.specs.of_refusal.declared.Cause.TheVariants as cause
+use Rattle.read_element.specs.of_refusal.declared.Cause.{Cause}
 
 -- what the end of a text that was laid tells
 module _ (fill n : ℕ) (v : List ℕ) where
@@ -26,12 +30,12 @@ module _ (fill n : ℕ) (v : List ℕ) where
           let z : end ≡ fill + k = cc in (h.0, z ∙ ap (λ (j : ℕ). fill + j) h.1)
       go (refuses k) q p = let z : ◌≡◌ {A = ℕ} 0 1 = cc in absurd (omega arith)
 
-  pub end-full : refuses cause.TextFull ≡ moved fill (placing cause.TextFull n v) → n < length v
-  end-full e = go (placing cause.TextFull n v) refl e
+  pub end-full : {why : Cause} → refuses why ≡ moved fill (placing cause.TextFull n v) → (why ≡ cause.TextFull) × (n < length v)
+  end-full {why} e = go (leb (length v) n) refl e
     where
-      go : (m : Answer ℕ) → placing cause.TextFull n v ≡ m → refuses cause.TextFull ≡ moved fill m → n < length v
-      go (gives k) q p = let z : ◌≡◌ {A = ℕ} 0 1 = cc in absurd (omega arith)
-      go (refuses k) q p = let z : k ≡ cause.TextFull = cc in full-over cause.TextFull n v (ap refuses (sym z) ∙ sym q)
+      go : (t : Bool) → leb (length v) n ≡ t → refuses why ≡ moved fill (cond t (gives (length v)) (refuses cause.TextFull)) → (why ≡ cause.TextFull) × (n < length v)
+      go true q p = let z : ◌≡◌ {A = ℕ} 0 1 = cc in absurd (omega arith)
+      go false q p = (cc, leb-false (length v) n q)
 
 -- a text behind texts
 module _ (text t : List ℕ) (left : ℕ) (e : text ≡ t ++ zeros left) where

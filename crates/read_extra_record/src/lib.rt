@@ -13,7 +13,6 @@ ghost use Rattle.read_extra_record.specs.inside.Promises.{Bounded, ReplacesExtra
 ghost use Rattle.read_element.specs.of_refusal.declared.Cause.TheVariants as cause;
 
 use read_element::the_refusal::Cause;
-use read_element::the_text::kept::Kept;
 use read_element::the_text::value::store_value;
 use read_element::the_tree_put::{put_pair, put_text};
 use read_element::the_tree_record::put_field;
@@ -26,53 +25,37 @@ pub struct Given {
     pub fill: usize,
 }
 
-#[derive(Clone, Copy)]
-pub enum Gave {
-    To(Given),
-    Not(Cause),
-}
-
-// A value whose form is known to be good: where it ends, or that the text area is too short.
-#[derive(Clone, Copy)]
-enum Laid {
-    To(usize),
-    Full,
-}
-
-fn lay(value: &[u8], fill: usize, text: &mut [u8]) -> Laid
+// Stores a value whose form is known to be good: where it ends, or that the text area is too short.
+fn lay(value: &[u8], fill: usize, text: &mut [u8]) -> Result<usize, Cause>
     requires tt_value { gives tt ≡ checked_of value.now }
     requires fill_in_bounds { fill ≤ length text.old }
     ensures result_value { laid_answer result ≡ moved fill (placing cause.TextFull (length text.old - fill) (value_text value.now)) }
     ensures text_after { text.new ≡ take fill text.old ++ laid (drop fill text.old) (value_text value.now) }
 {
-    let kept = store_value(&mut text[fill..], value);
-    match kept {
-        Kept::Put(n) => Laid::To(fill + n),
-        Kept::Full => Laid::Full,
-        Kept::NotUtf8 => Laid::Full,
-        Kept::BadReference => Laid::Full,
-        Kept::UnknownName => Laid::Full,
+    match store_value(&mut text[fill..], value) {
+        Ok(n) => Ok(fill + n),
+        Err(_) => Err(Cause::TextFull),
     }
 }
 
 // The value of extra i is replaced (rule A8); its key isn't stored again (rule M5).
-pub fn old_extra(value: &[u8], i: usize, given: Given, own: &mut [u32], text: &mut [u8]) -> Gave
+pub fn old_extra(
+    value: &[u8],
+    i: usize,
+    given: Given,
+    own: &mut [u32],
+    text: &mut [u8],
+) -> Result<Given, Cause>
     requires tt_value { gives tt ≡ checked_of value.now }
     requires i_lt_extras { i < given.extras }
     requires bounded { Bounded given (areas own.old text.old) }
     ensures { ReplacesExtra value.now i given (areas own.old text.old) (areas own.new text.new) result }
 {
     let fill = given.fill;
-    let laid = lay(value, fill, text);
-    let Laid::To(end) = laid else {
-        return Gave::Not(Cause::TextFull);
-    };
+    let end = lay(value, fill, text)?;
     let at = i * 32 + 32;
     put_pair(&mut own[at..], 4, fill as u32, (end - fill) as u32);
-    Gave::To(Given {
-        extras: given.extras,
-        fill: end,
-    })
+    Ok(Given { fill: end, ..given })
 }
 
 // A blank record of a kind, with its key from `start` to before `middle` and its value from there to before `end`.
@@ -95,7 +78,7 @@ pub fn new_extra(
     given: Given,
     own: &mut [u32],
     text: &mut [u8],
-) -> Gave
+) -> Result<Given, Cause>
     requires kind_bound { kind ≤ 12 }
     requires tt_value { gives tt ≡ checked_of key.now }
     requires tt_value_2 { gives tt ≡ checked_of value.now }
@@ -104,19 +87,13 @@ pub fn new_extra(
 {
     let at = given.extras * 32 + 32;
     if own.len() < at + 32 {
-        return Gave::Not(Cause::RecordsSpent);
+        return Err(Cause::RecordsSpent);
     }
     let start = given.fill;
-    let keyed = lay(key, start, text);
-    let Laid::To(middle) = keyed else {
-        return Gave::Not(Cause::TextFull);
-    };
-    let laid = lay(value, middle, text);
-    let Laid::To(end) = laid else {
-        return Gave::Not(Cause::TextFull);
-    };
+    let middle = lay(key, start, text)?;
+    let end = lay(value, middle, text)?;
     put_extra_words(&mut own[at..], kind + 11, start, middle, end);
-    Gave::To(Given {
+    Ok(Given {
         extras: given.extras + 1,
         fill: end,
     })

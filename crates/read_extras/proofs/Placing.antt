@@ -34,9 +34,9 @@ module _ {own text key : List ℕ} {extras i : ℕ} (s : Placing own text key ex
     pub placing-more : i < extras → r ≡ false → Placing own text key extras (i + 1)
     placing-more h q = record { high = omega arith; same = turn h ∙ ap (λ (t : Bool). cond t i (place_at own text key (extras - (i + 1)) (i + 1))) (told q) }
 
-  pub placing-done : extras ≤ i → i ≡ place_at own text key extras 0
+  pub placing-done : extras ≤ i → extras ≡ place_at own text key extras 0
   unfolding place_at
-  placing-done h = let z : extras - i ≡ 0 = omega arith in sym (s.same ∙ ap (λ (n : ℕ). place_at own text key n i) z)
+  placing-done h = let h' = s.high in let z : extras - i ≡ 0 = omega arith in let y : i ≡ extras = omega arith in sym y ∙ sym (s.same ∙ ap (λ (n : ℕ). place_at own text key n i) z)
 
 -- texts of other lengths are other texts
 pub other_length : (a b : List ℕ) → (length a ≡ length b → ⊥) → false ≡ same_bytes a b

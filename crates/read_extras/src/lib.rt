@@ -14,30 +14,19 @@ ghost use Rattle.read_extras.specs.inside.Promises.{FindsPlace, PutsExtra, Reads
 pub use read_extra_record as the_read_extra_record;
 use read_extra_record::the_table_parts::bytes_of;
 use read_extra_record::the_tree_record::field;
-use read_extra_record::{Gave, Given, new_extra, old_extra};
+use read_extra_record::{Given, new_extra, old_extra};
 use text_key::the_area::wide;
 use text_key::the_refusal::Cause;
-use text_key::the_text::value::{Checked, check_value};
+use text_key::the_text::value::check_value;
 use text_key::{cleaned_length, is_cleaned};
 
-// Whether `stored` is the text, of n bytes, that would be stored for `key`: lengths are compared before bytes.
-fn is_stored(stored: &[u8], key: &[u8], n: usize) -> bool
-    requires { n ≡ length (value_text key.now) }
-    ensures { result ≡ same_bytes stored.now (value_text key.now) }
-{
-    if stored.len() != n {
-        return false;
-    }
-    is_cleaned(stored, key)
-}
-
-// Whether the record's key is the text, of n bytes, that would be stored for `key`.
+// Whether the record's key is the text, of n bytes, that would be stored for `key`: lengths are compared before bytes.
 fn is_key(words: &[u32], text: &[u8], key: &[u8], n: usize) -> bool
     requires { n ≡ length (value_text key.now) }
     ensures { result ≡ same_bytes (text_at text.now words.now 2) (value_text key.now) }
 {
     let stored = bytes_of(text, wide(field(words, 2)), wide(field(words, 3)));
-    is_stored(stored, key, n)
+    stored.len() == n && is_cleaned(stored, key)
 }
 
 // The place of the extra with this key among the extras, or their number.
@@ -46,15 +35,13 @@ fn place_of(own: &[u32], text: &[u8], extras: usize, key: &[u8]) -> usize
     ensures { result ≡ place_at own.now text.now (value_text key.now) extras 0 }
 {
     let n = cleaned_length(key);
-    let mut i = 0;
-    while i < extras {
+    for i in 0..extras {
         let at = i * 32 + 32;
         if is_key(&own[at..], text, key, n) {
             return i;
         }
-        i += 1;
     }
-    i
+    extras
 }
 
 // The same, where a hint that isn't larger than their number is believed.
@@ -76,7 +63,7 @@ fn put_extra(
     given: Given,
     own: &mut [u32],
     text: &mut [u8],
-) -> Gave
+) -> Result<Given, Cause>
     requires kind_bound { kind ≤ 12 }
     requires tt_value { gives tt ≡ checked_of key.now }
     requires tt_value_2 { gives tt ≡ checked_of value.now }
@@ -100,21 +87,12 @@ pub fn read_extra(
     given: Given,
     own: &mut [u32],
     text: &mut [u8],
-) -> Gave
+) -> Result<Given, Cause>
     requires kind_bound { kind ≤ 12 }
     requires bounded { Bounded given (areas own.old text.old) }
     ensures { ReadsExtra kind key.now value.now hint given (areas own.old text.old) (areas own.new text.new) result }
 {
-    let named = check_value(key);
-    match named {
-        Checked::NotUtf8 => return Gave::Not(Cause::NotUtf8),
-        Checked::BadReference => return Gave::Not(Cause::BadReference),
-        Checked::Good => {}
-    }
-    let valued = check_value(value);
-    match valued {
-        Checked::NotUtf8 => Gave::Not(Cause::NotUtf8),
-        Checked::BadReference => Gave::Not(Cause::BadReference),
-        Checked::Good => put_extra(kind, key, value, hint, given, own, text),
-    }
+    check_value(key)?;
+    check_value(value)?;
+    put_extra(kind, key, value, hint, given, own, text)
 }

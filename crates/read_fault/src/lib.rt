@@ -3,9 +3,8 @@
 
 ghost use Rattle.std.specs.Prelude.{◌≡◌, ◌<◌, ◌^◌};
 ghost use Rattle.read_extra_record.specs.of_read_element.Outcome as outcome;
-ghost use Rattle.read_fault.specs.inside.Faults.{fault_step, with_attribute};
+ghost use Rattle.read_fault.specs.inside.Faults.{fault_of, with_attribute};
 
-use read_extra_record::Given;
 use read_extra_record::the_refusal::{Cause, NOWHERE, Path, PathElement};
 
 // Why an element is refused: the code of the key whose value it is, 0 where the path has no Attribute, and the attribute's
@@ -17,23 +16,16 @@ pub struct Fault {
     pub attribute: u32,
 }
 
-// What one attribute comes to.
-#[derive(Clone, Copy)]
-pub enum Step {
-    To(Given),
-    Not(Fault),
-}
-
 // A refusal at attribute j whose path has no Attribute (rules A11 and F9).
-pub fn refused_at(cause: Cause, j: usize) -> Step
+pub fn refused_at(cause: Cause, j: usize) -> Fault
     requires { j < 2 ^ 32 }
-    ensures { result ≡ fault_step cause 0 j }
+    ensures { result ≡ fault_of cause 0 j }
 {
-    Step::Not(Fault {
+    Fault {
         cause,
         key: 0,
         attribute: j as u32,
-    })
+    }
 }
 
 pub fn element_of(kind: u32, index: u32, event: u32) -> PathElement

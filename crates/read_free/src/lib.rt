@@ -52,14 +52,12 @@ fn free_chained(
     ensures { Unrepeated attributes.now source.now first result }
 {
     let m = work.len() - (end - first);
-    let mut j = first;
-    while j < end {
+    for j in first..end {
         if enter(attributes, source, first, j, m, longest, work) {
             return j;
         }
-        j += 1;
     }
-    j
+    end
 }
 
 // The words are zero again afterwards.

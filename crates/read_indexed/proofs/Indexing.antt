@@ -1,4 +1,5 @@
 -- An element's attributes, one after the other, with marks behind its records. Assumes nothing.
+use Rattle.std.specs.Prelude.{Result, Ok, Err}
 use Prim.Native.Nat.{ℕ, ◌+◌, ◌-◌, ◌*◌, ◌≤◌, ◌<◌}
 use mathlib.Core.Path.{◌≡◌, refl, sym, ap, subst, ◌∙◌}
 use mathlib.Core.List.{List, [], ◌∷◌, ◌++◌}
@@ -22,10 +23,7 @@ use Rattle.read_each.specs.of_read_free.inside.Unrepeated.{Unrepeated}
 use Rattle.read_each.proofs.of_read_extras.Choosing.{place-held}
 use Rattle.read_each.specs.of_read_extra_record.declared.Given.{Given as Counted}
 use Rattle.read_each.specs.of_read_fault.declared.Fault.{Fault}
-use Rattle.read_each.specs.of_read_fault.declared.Step.{Step}
-use Rattle.read_each.specs.of_read_fault.declared.Step.TheVariants as step
-use Rattle.read_places.specs.of_read_marks.inside.Marks.{stored_for, New, Marks}
-use Rattle.read_places.specs.inside.Stands.{stored_key}
+use Rattle.read_places.specs.of_read_marks.inside.Marks.{stored_for, Marks}
 use Rattle.read_places.specs.inside.Told.{Quiet, Told}
 use Rattle.read_each.proofs.HeldBounds.{held-fill, held-extras}
 use Rattle.read_each.proofs.KeysBefore.{keys-next, free-key}
@@ -101,13 +99,13 @@ module _ {kind : ℕ} {attributes source : List ℕ} {first end k : ℕ} {own₀
       }
 
   pub indexing-done : end ≤ j → (rooms : Rooms) (p : Place) (used whole : ℕ) → length own₀ ≤ whole → Roomy rooms used whole (length text₀)
-      → Matches p (take k own) text (read_attributes rooms p used kind [] first (attributes_from attributes source (end - first) first) g₀) (step.To given)
+      → Matches p (take k own) text (read_attributes rooms p used kind [] first (attributes_from attributes source (end - first) first) g₀) (Ok given)
   unfolding read_attributes
   indexing-done h rooms p used whole w ro =
       let a = x.along rooms p used whole w ro in
       let e = a.same
       ∙ ap (λ (xs : List Attribute). read_attributes rooms p used kind (keys_of (attributes_from attributes source (j - first) first)) j xs a.said) (attributes-end attributes source end j h) in
-      subst (λ (o : Outcome Given). Matches p (take k own) text o (step.To given)) (sym e) (went a.holds)
+      subst (λ (o : Outcome Given). Matches p (take k own) text o (Ok given)) (sym e) (went a.holds)
 
   -- the definition with attribute j taken first
   turn : j < end → (rooms : Rooms) (p : Place) (used whole : ℕ) (w : length own₀ ≤ whole) (ro : Roomy rooms used whole (length text₀))
@@ -122,12 +120,12 @@ module _ {kind : ℕ} {attributes source : List ℕ} {first end k : ℕ} {own₀
 
   module _ (h : j < end) (room : (end - first) * 32 + 32 ≤ k) (inside : k ≤ length own₀) {clear hint : ℕ} (f : Unrepeated attributes source first clear)
       (hinted : hint ≤ given.extras → place_at (take k own) text (value_text (key_at attributes source j)) given.extras 0 ≡ hint)
-      {front text' : List ℕ} {r : Step} (s : Stepped attributes source kind first (ltb j clear) hint j given (take k own) text front text' r) where
+      {front text' : List ℕ} {r : Result Counted Fault} (s : Stepped attributes source kind first (ltb j clear) hint j given (take k own) text front text' r) where
     front-size : length (take k own) ≡ k
     front-size = length-take-le k own (let q = x.own_same in omega arith)
 
     -- attribute j at a place and in rooms
-    taking : {t : Step} → r ≡ t → (rooms : Rooms) (p : Place) (used whole : ℕ) (w : length own₀ ≤ whole) (ro : Roomy rooms used whole (length text₀))
+    taking : {t : Result Counted Fault} → r ≡ t → (rooms : Rooms) (p : Place) (used whole : ℕ) (w : length own₀ ≤ whole) (ro : Roomy rooms used whole (length text₀))
         → Matches p front text' (attribute_step attributes source kind first rooms p used j (x.along rooms p used whole w ro).said) t
     taking {t} q rooms p used whole w ro =
         let a = x.along rooms p used whole w ro in
@@ -137,33 +135,33 @@ module _ {kind : ℕ} {attributes source : List ℕ} {first end k : ℕ} {own₀
         let y : Roomy (narrow rooms used k) used (length (take k own)) (length text) =
         subst (λ (n : ℕ). Roomy (narrow rooms used k) used n (length text)) (sym front-size) (subst (λ (n : ℕ). Roomy (narrow rooms used k) used k n) (sym x.text_same) (roomy_narrow k ro)) in
         subst (λ (o : Outcome Given). Matches p front text' o t) (step-narrow attributes source kind first rooms p used j a.said k ro (omega arith) (omega arith))
-        (subst (λ (u : Step). Matches p front text' (attribute_step attributes source kind first (narrow rooms used k) p used j a.said) u) q
+        (subst (λ (u : Result Counted Fault). Matches p front text' (attribute_step attributes source kind first (narrow rooms used k) p used j a.said) u) q
         (s a.said (narrow rooms used k) p used a.holds y
         (λ e. free-key attributes source first clear j f x.low (ltb-true j clear e))
         (λ u. sym (place-held a.holds (value_text (key_at attributes source j))) ∙ hinted (omega arith))))
 
-    indexing-stopped : {fault : Fault} → r ≡ step.Not fault → (rooms : Rooms) (p : Place) (used whole : ℕ) → length own₀ ≤ whole → Roomy rooms used whole (length text₀)
-        → Matches p front text' (read_attributes rooms p used kind [] first (attributes_from attributes source (end - first) first) g₀) (step.Not fault)
+    indexing-stopped : {fault : Fault} → r ≡ Err fault → (rooms : Rooms) (p : Place) (used whole : ℕ) → length own₀ ≤ whole → Roomy rooms used whole (length text₀)
+        → Matches p front text' (read_attributes rooms p used kind [] first (attributes_from attributes source (end - first) first) g₀) (Err fault)
     unfolding ◌>>=◌
     indexing-stopped {fault} q rooms p used whole w ro =
         let e = turn h rooms p used whole w ro
         ∙ ap (λ (o : Outcome Given). o >>= λ g. read_attributes rooms p used kind (keys_of (attributes_from attributes source (j - first) first) ++ (key_at attributes source j ∷ []))
         (j + 1) (attributes_from attributes source (end - (j + 1)) (j + 1)) g)
         (halted (taking q rooms p used whole w ro)) in
-        subst (λ (o : Outcome Given). Matches p front text' o (step.Not fault)) (sym e) stopped
+        subst (λ (o : Outcome Given). Matches p front text' o (Err fault)) (sym e) stopped
 
     -- the areas once the first k words came back
     module _ {between : List ℕ} (size : length front ≡ k) (back : between ≡ front ++ drop k own) where
       pub between-size : length between ≡ length own
       between-size = let a = ap length back ∙ length-append front (drop k own) in let b = length-drop k own in let c = x.own_same in omega arith
 
-      pub indexing-halted : {fault : Fault} → r ≡ step.Not fault → (rooms : Rooms) (p : Place) (used whole : ℕ) → length own₀ ≤ whole → Roomy rooms used whole (length text₀)
-          → Matches p (take k between) text' (read_attributes rooms p used kind [] first (attributes_from attributes source (end - first) first) g₀) (step.Not fault)
+      pub indexing-halted : {fault : Fault} → r ≡ Err fault → (rooms : Rooms) (p : Place) (used whole : ℕ) → length own₀ ≤ whole → Roomy rooms used whole (length text₀)
+          → Matches p (take k between) text' (read_attributes rooms p used kind [] first (attributes_from attributes source (end - first) first) g₀) (Err fault)
       indexing-halted {fault} q rooms p used whole w ro =
-          subst (λ (z : List ℕ). Matches p z text' (read_attributes rooms p used kind [] first (attributes_from attributes source (end - first) first) g₀) (step.Not fault))
+          subst (λ (z : List ℕ). Matches p z text' (read_attributes rooms p used kind [] first (attributes_from attributes source (end - first) first) g₀) (Err fault))
           (sym (front-is k front (drop k own) size back)) (indexing-stopped q rooms p used whole w ro)
 
-    module _ {next : Counted} (q : r ≡ step.To next) where
+    module _ {next : Counted} (q : r ≡ Ok next) where
       abbrev went_on : Gone front text' (attribute_step attributes source kind first (spacious (length own₀) (length text₀)) somewhere 0 j plain.said) next
       went_on = gone (taking q (spacious (length own₀) (length text₀)) somewhere 0 (length own₀) (itself (length own₀)) (roomy_spacious (length own₀) (length text₀)))
 

@@ -15,8 +15,10 @@ pub use read_each as the_read_each;
 use read_each::the_read_attribute::{Range, step_attribute};
 use read_each::the_read_chains::key::key_at;
 use read_each::the_read_extra_record::Given;
-use read_each::the_read_fault::Step;
-pub use read_each::{the_read_attribute, the_read_fault, the_read_free, the_read_plain};
+use read_each::the_read_fault::Fault;
+pub use read_each::{
+    the_read_attribute, the_read_extra_record, the_read_fault, the_read_free, the_read_plain,
+};
 use read_places::the_table_parts::word_of;
 pub use read_places::{
     the_area, the_read_marks, the_refusal, the_text_filter, the_tree_put, the_tree_record,
@@ -65,7 +67,7 @@ pub fn read_marked(
     k: usize,
     own: &mut [u32],
     text: &mut [u8],
-) -> Step
+) -> Result<Given, Fault>
     requires kind_bound { kind ≤ 12 }
     requires first_bound { (range.end - range.first) * 32 + 32 ≤ k }
     requires k_in_bounds { k ≤ length own.old }
@@ -74,16 +76,13 @@ pub fn read_marked(
     ensures { ReadsWithin kind (tagged attributes.now source.now) range fill
         (areas own.old text.old) (areas (take k own.new) text.new) result }
 {
-    let end = range.end;
     let first = range.first;
-    let mut j = range.first;
     let mut given = Given { extras: 0, fill };
-    while j < end {
+    for j in first..range.end {
         let free = j < clear;
         let extras = given.extras;
-        let at = j - first;
         let hint = hint_for(attributes, source, first, j, extras, k, own, text);
-        let step = step_attribute(
+        given = step_attribute(
             kind,
             attributes,
             source,
@@ -94,15 +93,8 @@ pub fn read_marked(
             given,
             &mut own[..k],
             text,
-        );
-        j += 1;
-        match step {
-            Step::To(next) => {
-                note_extra(extras, next.extras, first, at, k, own);
-                given = next;
-            }
-            Step::Not(fault) => return Step::Not(fault),
-        }
+        )?;
+        note_extra(extras, given.extras, first, j - first, k, own);
     }
-    Step::To(given)
+    Ok(given)
 }

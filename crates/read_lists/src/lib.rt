@@ -13,6 +13,7 @@ pub use read_content::{the_read_attribute, the_read_attributes, the_read_state, 
 use read_content::{Content, List};
 
 // The record at the front of the part is marked dead, if it isn't.
+#[tactic(auto, using(crate::proofs::Marking::kill_put, crate::proofs::Marking::kill_not))]
 fn kill_record(words: &mut [u32])
     ensures { words.new ≡ killed words.old }
 {
@@ -23,46 +24,44 @@ fn kill_record(words: &mut [u32])
 }
 
 // The records from number `first` to before number `end` are marked dead (rule M3).
+#[tactic(auto, using(crate::proofs::Marking::killing_start, crate::proofs::Marking::killing_more, crate::proofs::Marking::killing_done))]
 pub fn kill(records: &mut [u32], first: usize, end: usize)
     requires first_le_end { first ≤ end }
     requires end_in_bounds { end * 32 ≤ length records.old }
     ensures { records.new ≡ kill_words (end - first) first records.old }
 {
-    let mut i = first;
-    while i < end {
+    for i in first..end {
         let at = i * 32;
         kill_record(&mut records[at..]);
-        i += 1;
     }
 }
 
 pub fn list_of(level: Level, content: Content) -> List
     ensures { result ≡ list_of (level_of level) content }
 {
-    let suite = content.suite_list;
-    let case = content.case_list;
     match level {
-        Level::Top => suite,
-        Level::Suite => suite,
-        Level::Case => case,
-        Level::Status => case,
+        Level::Top | Level::Suite => content.suite_list,
+        Level::Case | Level::Status => content.case_list,
     }
 }
 
 pub fn with_list(level: Level, content: Content, list: List) -> Content
     ensures { result ≡ with_list (level_of level) content list }
 {
-    let mut c = content;
     match level {
-        Level::Top => c.suite_list = list,
-        Level::Suite => c.suite_list = list,
-        Level::Case => c.case_list = list,
-        Level::Status => c.case_list = list,
+        Level::Top | Level::Suite => Content {
+            suite_list: list,
+            ..content
+        },
+        Level::Case | Level::Status => Content {
+            case_list: list,
+            ..content
+        },
     }
-    c
 }
 
 // The list before is marked dead (rule R17).
+#[tactic(auto, using(crate::proofs::Marking::old_kill, crate::proofs::Marking::old_end))]
 pub fn open_list(level: Level, content: Content, records: &mut [u32]) -> Content
     requires { ((list_of (level_of level) content).first + (list_of (level_of level) content).count) * 32 ≤ length records.old }
     ensures value { result ≡ with_list (level_of level) content (record { first = content.used; count = 0 }) }

@@ -7,9 +7,8 @@ use mathlib.Core.Logic.{◌⊎◌, inl, inr}
 use native.Mathlib.Omega.{arith}
 use Rattle.text_pieces.specs.of_refusal.Refusal.{number, OfRules, Refused, Outcome, accepted, refused}
 use Rattle.table_events.specs.of_table.Event.{Event, resolve}
-use Rattle.table_events.specs.of_table.Table.{check_of, checked_answer, table_of}
-use Rattle.table_events.specs.of_table.declared.Checked.{Checked}
-use Rattle.table_events.specs.of_table.declared.Checked.TheVariants.{Good, Bad}
+use Rattle.table_events.specs.of_table.Table.{check_of, checked_answer, table_of, Checked}
+use Rattle.std.specs.Prelude.{Ok, Err}
 use Rattle.read_path.specs.of_tree_report.Report.{Report}
 use Rattle.read_path.specs.of_tree_report.ReportOf.{report_from, only}
 use Rattle.read_path.specs.of_tree_report.Fields.{live}
@@ -72,8 +71,8 @@ pub table-refuses : (events attributes source : List ℕ) (r : Refused) → tabl
 table-refuses events attributes source r e = go (check_of events attributes source) e
   where
     go : (c : Checked) → checked_answer c ≡ refused r → r.cause ≡ cause.BadTable
-    go Good q = let z : ◌≡◌ {A = ℕ} 0 1 = cc in absurd (omega arith)
-    go (Bad i j) q = let z : record { cause = cause.BadTable; path = []; event = i; attribute = j } ≡ r = cc in sym (ap (λ (x : Refused). x.cause) z)
+    go (Ok u) q = let z : ◌≡◌ {A = ℕ} 0 1 = cc in absurd (omega arith)
+    go (Err (i, j)) q = let z : record { cause = cause.BadTable; path = []; event = i; attribute = j } ≡ r = cc in sym (ap (λ (x : Refused). x.cause) z)
 
 module _ (events attributes source : List ℕ) (words text scratch : ℕ) where
   abbrev table : Outcome (Unit {0})

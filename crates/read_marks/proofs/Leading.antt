@@ -1,5 +1,5 @@
 -- Of attributes in order, one that differs from the one before it is the first of its group. Assumes nothing.
-use Prim.Native.Nat.{ℕ, suc, ◌+◌, ◌-◌, ◌≤◌, ◌<◌}
+use Prim.Native.Nat.{ℕ, suc, ◌-◌, ◌≤◌, ◌<◌}
 use mathlib.Core.Path.{◌≡◌, refl, sym, ap, subst, ◌∙◌}
 use mathlib.Core.Logic.{◌⊎◌, inl, inr}
 use mathlib.Core.Bool.{Bool, true, false, cond, not, false≢true}
@@ -16,7 +16,7 @@ use Rattle.key_sort.specs.of_key_order.inside.KeyOrder.{Comes, common_length, co
 use Rattle.key_sort.proofs.of_key_order.Ordering.{comes-same, comes-tied}
 use Rattle.key_sort.proofs.of_key_order.Testing.{by_number}
 use Rattle.key_sort.specs.of_clean_order.inside.CleanOrder.{ComesBy}
-use Rattle.key_sort.specs.inside.Arranged.{count, numbers, Arranged}
+use Rattle.key_sort.specs.inside.Arranged.{Arranged}
 use Rattle.key_sort.proofs.Counting.{count-in, Placed, placed, ordered_at}
 use Rattle.read_marks.specs.inside.Marks.{stored_for, New, Leads}
 

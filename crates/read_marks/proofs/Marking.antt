@@ -32,10 +32,6 @@ module _ (attributes source words : List ℕ) {first end j mark : ℕ} (m : Mark
       go true p false q e = subst (λ (l : List ℕ). Marks attributes source first l) (sym e) m
       go false p u q e = subst (λ (l : List ℕ). Marks attributes source first l) (sym e) m
 
-pub lead_low : (t : Bool) {j lead r : ℕ} → r ≡ cond t j lead → j < 65536 → lead < 65536 → r < 65536
-lead_low true e h k = omega arith
-lead_low false e h k = omega arith
-
 -- what the test of the range tells
 pub in-range : (first j end : ℕ) → (leb first j && ltb j end) ≡ true → (first ≤ j) × (j < end)
 in-range first j end e = let p = (and-eq-true_iff (leb first j) (ltb j end)).0 e in (leb-true first j p.0, ltb-true j end p.1)

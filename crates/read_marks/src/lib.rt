@@ -13,7 +13,7 @@ use key_sort::sort;
 use key_sort::the_area::{clear, wide};
 use key_sort::the_clean_order::comes_cleaned;
 use key_sort::the_key_order::key_of;
-use key_sort::the_text::value::{Checked, check_value};
+use key_sort::the_text::value::check_value;
 pub use key_sort::the_text_key;
 
 // Whether number p isn't an attribute with what would be stored for the key of the one before it.
@@ -32,12 +32,6 @@ fn is_first(attributes: &[u32], source: &[u8], bytes: &[u8], p: usize) -> bool
         0,
         0,
     )
-}
-
-fn chosen(t: bool, a: u32, b: u32) -> u32
-    ensures { result ≡ cond t a b }
-{
-    if t { a } else { b }
 }
 
 // 1 for the first of its group, else two more than the number of that.
@@ -77,14 +71,14 @@ fn put_marks(
     ensures { Marks attributes.now source.now first words.new }
 {
     let n = bytes.len() / 2;
-    let mut p = 0;
     let mut lead = 0;
-    while p < n {
+    for p in 0..n {
         let j = number_at(bytes, p);
         let fresh = is_first(attributes, source, bytes, p);
-        lead = chosen(fresh, j, lead);
+        if fresh {
+            lead = j;
+        }
         put_mark(words, first, end, wide(j), mark_of(fresh, lead));
-        p += 1;
     }
 }
 
@@ -112,15 +106,6 @@ fn mark_keys(
     clear(bytes);
 }
 
-fn is_good(key: &[u8]) -> bool {
-    let checked = check_value(key);
-    match checked {
-        Checked::Good => true,
-        Checked::NotUtf8 => false,
-        Checked::BadReference => false,
-    }
-}
-
 // A number up to which the keys of the attributes from number `first` on are good: cleaning one that isn't may cost the square of its
 // bytes, and its attribute is refused.
 fn good_to(attributes: &[u32], source: &[u8], first: usize, end: usize) -> usize
@@ -129,14 +114,12 @@ fn good_to(attributes: &[u32], source: &[u8], first: usize, end: usize) -> usize
     ensures lower_bound { first ≤ result }
     ensures upper_bound { result ≤ end }
 {
-    let mut j = first;
-    while j < end {
-        if !is_good(key_of(attributes, source, j as u32)) {
+    for j in first..end {
+        if check_value(key_of(attributes, source, j as u32)).is_err() {
             return j;
         }
-        j += 1;
     }
-    j
+    end
 }
 
 // The word of an attribute becomes 1 where no earlier one of the range would store the same key, else two more than the number of the

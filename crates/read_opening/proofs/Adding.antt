@@ -1,4 +1,5 @@
 -- An element read behind the records, against the definition. Assumes nothing.
+use Rattle.std.specs.Prelude.{Result, Ok, Err}
 use Prim.Native.Nat.{ℕ, zero, suc, ◌+◌, ◌-◌, ◌*◌, ◌/◌, ◌≤◌, ◌<◌}
 use mathlib.Core.Path.{◌≡◌, refl, sym, ap, subst, ◌∙◌}
 use mathlib.Core.Bool.{Bool, true, false}
@@ -20,16 +21,14 @@ use Rattle.read_lists.specs.of_read_element.Attributes.{Given, Grown, read_eleme
 use Rattle.read_lists.specs.of_read_element.inside.Held.{Keyed, Held, Roomy}
 use Rattle.read_lists.specs.of_read_attributes.inside.Elements.{Free, Becomes, grew}
 use Rattle.read_lists.specs.of_read_attributes.declared.Grown.{Grown as CodedGrown}
-use Rattle.read_lists.specs.of_read_attributes.declared.Element.{Element}
-use Rattle.read_lists.specs.of_read_attributes.declared.Element.TheVariants as element
+use Rattle.read_lists.specs.of_read_content.of_read_fault.declared.Fault.{Fault}
 use Rattle.read_lists.proofs.of_read_element.TreeOutcome as outcome
 use Rattle.read_lists.proofs.of_read_element.TreeRoles.{suite-wide, case-wide}
 use Rattle.read_lists.proofs.of_read_element.TreeElement.{Few, no-extras, extras-of}
 use Rattle.read_lists.specs.of_read_content.Content.{Content, grown, adding}
 use Rattle.read_lists.specs.of_read_element.inside.Refines.{went, stopped}
-use Rattle.read_lists.specs.of_read_content.inside.Holds.{kind_in, Holds, Sized, Comes, Added, added_in, added_to}
+use Rattle.read_lists.specs.of_read_content.inside.Holds.{Performed, kind_in, Holds, Sized, Comes, Added, added_in, added_to}
 use Rattle.read_lists.specs.of_read_content.declared.Content.{Content as CodedContent}
-use Rattle.read_lists.specs.of_read_content.declared.Performed.{Performed}
 use Rattle.read_lists.proofs.of_read_content.Records.{joined-append, joined-size, whole_append, keyed-whole, kind-front, kind-behind}
 use Rattle.read_lists.proofs.of_read_content.Listing.{added-dead}
 use Rattle.read_lists.proofs.of_read_content.Areas.{fits-words, own-front, text-front}
@@ -84,7 +83,7 @@ own-size {own} {g = g} h =
     omega arith
 
 pub becomes-fits : {p : Place} {before : List (List ℕ)} {own text attributes source : List ℕ} {o : Outcome Grown} {e : CodedGrown}
-    → Becomes p before own text attributes source o (element.Is e) → e.records * 32 ≤ length own
+    → Becomes p before own text attributes source o (Ok e) → e.records * 32 ≤ length own
 becomes-fits {e = e} (went (grew h q f)) = let a = own-size h in omega arith
 
 -- ---- the kinds
@@ -156,13 +155,13 @@ module _ {words text scratch attributes source : List ℕ} {c : CodedContent} {s
   }
 
   module _ (p : Place) (kind : ℕ) where
-    comes : {own text' : List ℕ} {o : Outcome Grown} {el : Element} → Becomes p s.records own text' attributes source o el → outcome.Holds (NewKinds kind s.records) o
+    comes : {own text' : List ℕ} {o : Outcome Grown} {el : Result CodedGrown Fault} → Becomes p s.records own text' attributes source o el → outcome.Holds (NewKinds kind s.records) o
         → Comes (Added kind c s) p (put_mid (c.used * 32) (length words - c.used * 32) words own) text' scratch attributes source (o >>= λ g. accepted (grown s g)) (added_to el c)
     unfolding ◌>>=◌
     comes (went (grew {e = e} h q f)) (outcome.accept k) = went (grown-holds h q f k, new-added c s e k)
     comes stopped outcome.refuse = stopped
 
-    pub element-comes : (rooms : Rooms) {own text' : List ℕ} {el : Element} (j : ℕ) (xs : List Attribute) → 1 ≤ kind → kind ≤ 12
+    pub element-comes : (rooms : Rooms) {own text' : List ℕ} {el : Result CodedGrown Fault} (j : ℕ) (xs : List Attribute) → 1 ≤ kind → kind ≤ 12
         → Becomes p s.records own text' attributes source (read_element rooms p kind j xs s.records (take c.fill text)) el → {r : Performed} → r ≡ added_to el c
         → Comes (Added kind c s) p (put_mid (c.used * 32) (length words - c.used * 32) words own) text' scratch attributes source (adding rooms p kind j xs s) r
     unfolding adding
@@ -182,11 +181,11 @@ module _ {words text scratch attributes source : List ℕ} {c : CodedContent} {s
       subst (λ (k : ℕ). Roomy rooms k (length (take (length words - c.used * 32) (drop (c.used * 32) words))) (length text)) hd.used
       (subst (λ (k : ℕ). Roomy rooms c.used k (length text)) (sym n) r)
 
-  pub grown-fits : {own text' : List ℕ} {el : Element} {e : CodedGrown} (kind j : ℕ) (xs : List Attribute)
+  pub grown-fits : {own text' : List ℕ} {el : Result CodedGrown Fault} {e : CodedGrown} (kind j : ℕ) (xs : List Attribute)
       → ((rooms : Rooms) (p : Place) (before : List (List ℕ)) → p.attribute ≡ nowhere
       → Roomy rooms (length before) (length (take (length words - c.used * 32) (drop (c.used * 32) words))) (length text)
       → Becomes p before own text' attributes source (read_element rooms p kind j xs before (take c.fill text)) el)
-      → el ≡ element.Is e → e.records * 32 ≤ length own
+      → el ≡ Ok e → e.records * 32 ≤ length own
   grown-fits {own} {text'} {el} {e} kind j xs f q =
       let b = f (rooms_for (length words) (length text) (length scratch)) somewhere s.records refl (roomy-own (sized_for (length words) (length text) (length scratch))) in
       becomes-fits (rw q at b)

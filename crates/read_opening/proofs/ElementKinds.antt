@@ -1,5 +1,5 @@
 -- The kinds of the records that an element adds: its own, behind it its extras'. Assumes nothing.
-use Prim.Native.Nat.{ℕ, zero, suc, ◌+◌, ◌-◌, ◌%◌, ◌/◌, ◌^◌, ◌≤◌}
+use Prim.Native.Nat.{ℕ, zero, suc, ◌+◌, ◌%◌, ◌/◌, ◌^◌, ◌≤◌}
 use mathlib.Core.Path.{◌≡◌, refl, ◌∙◌}
 use mathlib.Core.Bool.{Bool, true, false, not, ◌&&◌, ◌||◌}
 use mathlib.Core.List.{List, [], ◌∷◌, ◌++◌}
@@ -25,7 +25,7 @@ use Rattle.read_lists.specs.of_read_keys.Roles.{role_of}
 use Rattle.read_lists.specs.of_read_element.Outcome.{Place, within, Rooms, fits}
 use Rattle.read_lists.specs.of_read_element.Attributes.{Given, with_main, read_text, place_of, extra_kind, old_extra, new_extra, read_extra, keep, by_role, among, numbered, read_attributes, complete, Grown, read_element}
 use Rattle.read_lists.proofs.of_read_element.TreeOutcome.{Holds, accept, bind, needed, answered, either}
-use Rattle.read_lists.proofs.of_read_element.TreeSheet.{Sorts, text, value}
+use Rattle.read_lists.proofs.of_read_element.TreeSheet.{Sorts}
 use Rattle.read_lists.proofs.of_read_element.TreeRoles.{Wide, Suits, as_first, as-value, as-second, as-tests, as-failures, as-errors, as-skipped, as-disabled, as-host}
 use Rattle.read_lists.proofs.of_read_element.TreeRoles.{as-assertions, as-uuid, as-moment, as-time, as-extra, as_ignored, Class, report, suite, case, suite_property}
 use Rattle.read_lists.proofs.of_read_element.TreeRoles.{case_property, failure, error, skipped, flaky_failure, flaky_error, rerun_failure, rerun_error, class_roles}

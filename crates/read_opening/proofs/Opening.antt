@@ -1,4 +1,5 @@
 -- Elements opened and properties read: what is known of the content then. Assumes nothing.
+use Rattle.std.specs.Prelude.{Ok, Err}
 use Prim.Native.Nat.{ℕ, ◌+◌, ◌-◌, ◌≤◌, ◌<◌}
 use mathlib.Core.Path.{◌≡◌, refl, sym, ap, subst, ◌∙◌}
 use mathlib.Core.Bool.{Bool, true, false, cond, ◌&&◌, ◌||◌}
@@ -17,11 +18,9 @@ use Rattle.read_lists.specs.of_read_state.inside.Coded.{opening}
 use Rattle.read_lists.specs.of_read_place.Marks.{Marks, marks_after}
 use Rattle.read_lists.specs.of_read_content.Content.{Content, kill_all, kill_kind, property_kind, record_of_it, adding, with_records, perform}
 use Rattle.read_lists.specs.of_read_element.inside.Refines.{went, stopped}
-use Rattle.read_lists.specs.of_read_content.inside.Holds.{kill_words, Holds, Listed, Opened, Lists, opens, has_list, Comes, Performs, no_list, list_of, content, with_list, Added}
+use Rattle.read_lists.specs.of_read_content.inside.Holds.{Performed, kill_words, Holds, Listed, Opened, Lists, opens, has_list, Comes, Performs, no_list, list_of, content, with_list, Added}
 use Rattle.read_lists.specs.of_read_content.declared.List.{List as CodedList}
 use Rattle.read_lists.specs.of_read_content.declared.Content.{Content as CodedContent}
-use Rattle.read_lists.specs.of_read_content.declared.Performed.{Performed}
-use Rattle.read_lists.specs.of_read_content.declared.Performed.TheVariants.{To, Not}
 use Rattle.read_lists.proofs.of_read_content.Areas.{words_size}
 use Rattle.read_lists.proofs.of_read_content.Killing.{kill-words, kind-size, kind-whole, all-size, all_whole, span-kind, span-all}
 use Rattle.read_lists.proofs.of_read_content.Listing.{added-listed, new-listed, one-listed, listed-anew, listed-other, dead-kind, dead-all, opened-added}
@@ -105,7 +104,7 @@ module _ {words text scratch attributes source : List ℕ} {c : CodedContent} {s
     -- the list before is marked dead (rule R17)
     pub list-opened : (l : Level) → has_list (at l) ≡ true → Lists (at l) m c s → {words' : List ℕ} → words' ≡ kill_words (list_of l c).count (list_of l c).first words
         → Performs (listing l) m p words' text scratch attributes source
-        (accepted (with_records s (kill_kind (property_kind l) (record_of_it l m) s.records))) (To (with_list l c (record { first = c.used; count = 0 })))
+        (accepted (with_records s (kill_kind (property_kind l) (record_of_it l m) s.records))) (Ok (with_list l c (record { first = c.used; count = 0 })))
     list-opened top a li e = no a
     list-opened suite a li e =
         went (
@@ -157,8 +156,8 @@ kind-bounds status = (lit≤ tt, lit≤ tt)
 
 -- a property more
 abbrev pub counted : Level → CodedList → Performed → Performed
-counted l list (To c) = To (with_list l c list)
-counted l list (Not f) = Not f
+counted l list (Ok c) = Ok (with_list l c list)
+counted l list (Err f) = Err f
 
 module _ {words text scratch attributes source : List ℕ} {c : CodedContent} {s : Content} (hd : Holds words text scratch attributes source c s) (m : Marks) where
   property-lists : (l : Level) → Lists (listing l) m c s → (c' : CodedContent) (s' : Content) → c'.used ≡ length s'.records → Added (property_kind l) c s c' s'

@@ -9,8 +9,9 @@ ghost use Rattle.read_opening.specs.inside.Promises.{Ready, AddsElement, OpensRe
 
 pub use read_lists as the_read_lists;
 use read_lists::the_read_attribute::Range;
-use read_lists::the_read_attributes::{Element, read_element};
-use read_lists::the_read_content::{Content, List, Performed, property_kind};
+use read_lists::the_read_attributes::read_element;
+use read_lists::the_read_content::the_read_fault::Fault;
+use read_lists::the_read_content::{Content, List, property_kind};
 use read_lists::the_read_state::Level;
 use read_lists::the_tree_record::kind::{CASE, REPORT, SUITE};
 use read_lists::{kill, list_of, with_list};
@@ -23,7 +24,7 @@ fn add_element(
     source: &[u8],
     records: &mut [u32],
     text: &mut [u8],
-) -> Performed
+) -> Result<Content, Fault>
     requires le_kind { 1 ≤ kind }
     requires kind_bound { kind ≤ 12 }
     requires ready { Ready range content (tagged attributes.now source.now) (areas records.old text.old) }
@@ -31,28 +32,22 @@ fn add_element(
         (areas records.old text.old) (areas records.new text.new) result }
 {
     let at = content.used * 32;
-    let known = content.free;
-    let read = read_element(
+    let grown = read_element(
         kind,
         attributes,
         source,
         range,
-        known,
+        content.free,
         content.fill,
         &mut records[at..],
         text,
-    );
-    match read {
-        Element::Is(grown) => {
-            let free = grown.free;
-            let mut c = content;
-            c.used = c.used + grown.records;
-            c.fill = grown.fill;
-            c.free = free;
-            Performed::To(c)
-        }
-        Element::Not(fault) => Performed::Not(fault),
-    }
+    )?;
+    Ok(Content {
+        used: content.used + grown.records,
+        fill: grown.fill,
+        free: grown.free,
+        ..content
+    })
 }
 
 // The report before is gone with its suites (rule R3).
@@ -63,14 +58,16 @@ fn open_report(
     source: &[u8],
     records: &mut [u32],
     text: &mut [u8],
-) -> Performed
+) -> Result<Content, Fault>
     requires { Ready range content (tagged attributes.now source.now) (areas records.old text.old) }
     ensures { OpensReport range content (tagged attributes.now source.now)
         (areas records.old text.old) (areas records.new text.new) result }
 {
     kill(records, content.report_at, content.used);
-    let mut c = content;
-    c.report_at = c.used;
+    let c = Content {
+        report_at: content.used,
+        ..content
+    };
     add_element(REPORT, range, c, attributes, source, records, text)
 }
 
@@ -81,14 +78,15 @@ fn open_suite(
     source: &[u8],
     records: &mut [u32],
     text: &mut [u8],
-) -> Performed
+) -> Result<Content, Fault>
     requires { Ready range content (tagged attributes.now source.now) (areas records.old text.old) }
     ensures { OpensSuite range content (tagged attributes.now source.now)
         (areas records.old text.old) (areas records.new text.new) result }
 {
-    let none = List { first: 0, count: 0 };
-    let mut c = content;
-    c.suite_list = none;
+    let c = Content {
+        suite_list: List { first: 0, count: 0 },
+        ..content
+    };
     add_element(SUITE, range, c, attributes, source, records, text)
 }
 
@@ -99,14 +97,15 @@ fn open_case(
     source: &[u8],
     records: &mut [u32],
     text: &mut [u8],
-) -> Performed
+) -> Result<Content, Fault>
     requires { Ready range content (tagged attributes.now source.now) (areas records.old text.old) }
     ensures { OpensCase range content (tagged attributes.now source.now)
         (areas records.old text.old) (areas records.new text.new) result }
 {
-    let none = List { first: 0, count: 0 };
-    let mut c = content;
-    c.case_list = none;
+    let c = Content {
+        case_list: List { first: 0, count: 0 },
+        ..content
+    };
     add_element(CASE, range, c, attributes, source, records, text)
 }
 
@@ -119,7 +118,7 @@ pub fn open_element(
     source: &[u8],
     records: &mut [u32],
     text: &mut [u8],
-) -> Performed
+) -> Result<Content, Fault>
     requires le_kind { 1 ≤ kind }
     requires kind_bound { kind ≤ 12 }
     requires ready { Ready range content (tagged attributes.now source.now) (areas records.old text.old) }
@@ -143,7 +142,7 @@ pub fn read_property(
     source: &[u8],
     records: &mut [u32],
     text: &mut [u8],
-) -> Performed
+) -> Result<Content, Fault>
     requires content_in_bounds { (list_of (level_of level) content).count * 32 ≤ length records.old }
     requires ready { Ready range content (tagged attributes.now source.now) (areas records.old text.old) }
     ensures { ReadsProperty (level_of level) range content (tagged attributes.now source.now)
@@ -151,8 +150,8 @@ pub fn read_property(
 {
     let old = list_of(level, content);
     let list = List {
-        first: old.first,
         count: old.count + 1,
+        ..old
     };
     let added = add_element(
         property_kind(level),
@@ -162,9 +161,6 @@ pub fn read_property(
         source,
         records,
         text,
-    );
-    match added {
-        Performed::To(c) => Performed::To(with_list(level, c, list)),
-        Performed::Not(fault) => Performed::Not(fault),
-    }
+    )?;
+    Ok(with_list(level, added, list))
 }

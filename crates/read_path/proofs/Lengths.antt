@@ -18,21 +18,21 @@ use Rattle.read_path.specs.Paths.{level_path, mode_path, path_of}
 use Rattle.read_path.specs.inside.Coded.{has_room}
 use Rattle.read_rules.specs.of_refusal.declared.Cause.TheVariants as cause
 
-pub level-short : (l : Level) (m : Marks) → length (level_path l m) ≤ 4
-level-short top m = omega arith
-level-short suite m = omega arith
-level-short case m = omega arith
-level-short status m = omega arith
+pub level_short : (l : Level) (m : Marks) → length (level_path l m) ≤ 4
+level_short top m = omega arith
+level_short suite m = omega arith
+level_short case m = omega arith
+level_short status m = omega arith
 
-pub level-room : (l : Level) (m : Marks) → length (level_path l m) ≤ 5
-level-room l m = omega (arith, level-short l m)
+pub level_room : (l : Level) (m : Marks) → length (level_path l m) ≤ 5
+level_room l m = omega (arith, level_short l m)
 
 one_more : (l : Level) (m : Marks) (e : PathElement) → length (level_path l m ++ (e ∷ [])) ≤ 5
-one_more l m e = omega (arith, level-short l m, length-append (level_path l m) (e ∷ []))
+one_more l m e = omega (arith, level_short l m, length-append (level_path l m) (e ∷ []))
 
 -- a mode's path has at most five elements
 pub mode-short : (mode : Mode) (m : Marks) → length (mode_path mode m) ≤ 5
-mode-short (at l) m = level-room l m
+mode-short (at l) m = level_room l m
 mode-short (gathering l o) m = one_more l m _
 mode-short (listing l) m = one_more l m _
 mode-short (skipping outer name depth) m = mode-short outer m

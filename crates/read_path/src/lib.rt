@@ -14,12 +14,14 @@ use read_place::the_read_state::{Act, Control, Level, Mode, Output};
 use read_rules::the_refusal::{NOWHERE, Path, PathElement};
 use read_rules::the_tree_record::kind::{CASE, REPORT, SUITE};
 
+#[tactic(auto, using(crate::proofs::Leading::leads_with, crate::proofs::Leading::leads_new))]
 fn root() -> Path
     ensures { Leads result standing.root }
 {
     Path::new().with(element_of(1, NOWHERE, NOWHERE))
 }
 
+#[tactic(auto, using(crate::proofs::Leading::leads_with))]
 fn suite_path(m: Marks) -> Path
     ensures { Leads result (standing.suite_path (marks_of m)) }
 {
@@ -27,12 +29,14 @@ fn suite_path(m: Marks) -> Path
 }
 
 // With the indices of suite and case (rule F4).
+#[tactic(auto, using(crate::proofs::Leading::leads_with))]
 fn case_path(m: Marks) -> Path
     ensures { Leads result (standing.case_path (marks_of m)) }
 {
     suite_path(m).with(element_of(3, m.case_index, m.case_start))
 }
 
+#[tactic(auto, using(crate::proofs::Leading::leads_with))]
 fn level_path(level: Level, m: Marks) -> Path
     ensures { Leads result (standing.level_path (level_of level) (marks_of m)) }
 {
@@ -56,20 +60,20 @@ fn output_element(output: Output) -> PathElement
 }
 
 // The path of where reading stands (rules R18 and F7).
+#[tactic(auto, using(crate::proofs::Leading::leads_with, crate::proofs::Lengths::level_room))]
 fn mode_path(control: Control, m: Marks) -> Path
     ensures { Leads result (standing.mode_path (mode_of control) (marks_of m)) }
 {
-    let mode = control.mode;
-    let level = control.level;
-    let output = control.output;
-    match mode {
-        Mode::At => level_path(level, m),
-        Mode::Text => level_path(level, m).with(output_element(output)),
-        Mode::List => level_path(level, m).with(element_of(4, NOWHERE, NOWHERE)),
+    let path = level_path(control.level, m);
+    match control.mode {
+        Mode::At => path,
+        Mode::Text => path.with(output_element(control.output)),
+        Mode::List => path.with(element_of(4, NOWHERE, NOWHERE)),
     }
 }
 
 // A suite or case has no event number while it is opened (rule F5).
+#[tactic(auto, using(crate::proofs::Leading::leads_with, crate::proofs::Leading::opening_other))]
 fn opening_path(kind: u32, m: Marks) -> Path
     ensures { (empty : Bool) (mode : plan.Mode) → Leads result (standing.path_of (opening kind empty) mode (marks_of m)) }
 {
@@ -85,19 +89,19 @@ fn closing_path(level: Level, m: Marks) -> Path
     ensures { (mode : plan.Mode) → Leads result (standing.path_of (closing (level_of level)) mode (marks_of m)) }
 {
     match level {
-        Level::Top => root(),
-        Level::Suite => root(),
-        Level::Case => level_path(level, m),
-        Level::Status => level_path(level, m),
+        Level::Top | Level::Suite => root(),
+        Level::Case | Level::Status => level_path(level, m),
     }
 }
 
+#[tactic(auto, using(crate::proofs::Leading::leads_with, crate::proofs::Lengths::level_room))]
 fn text_path(level: Level, output: Output, m: Marks) -> Path
     ensures { (mode : plan.Mode) → Leads result (standing.path_of (plan.close_text (level_of level) (output_of output)) mode (marks_of m)) }
 {
     level_path(level, m).with(output_element(output))
 }
 
+#[tactic(auto, using(crate::proofs::Leading::leads_two, crate::proofs::Lengths::level_short))]
 fn property_path(level: Level, m: Marks) -> Path
     ensures { (empty : Bool) (name : List ℕ) (mode : plan.Mode) → Leads result (standing.path_of (plan.read_property (level_of level) empty name) mode (marks_of m)) }
 {
@@ -106,6 +110,7 @@ fn property_path(level: Level, m: Marks) -> Path
 }
 
 // The path of a refusal at an action, of at most six elements (rule F3).
+#[tactic(auto, using(crate::proofs::Leading::leads_close, crate::proofs::Leading::leads_new))]
 pub fn path_of(act: Act, control: Control, m: Marks) -> Path
     ensures { (name : List ℕ) → Leads result (standing.path_of (act_of control name act) (mode_of control) (marks_of m)) }
 {
@@ -117,11 +122,7 @@ pub fn path_of(act: Act, control: Control, m: Marks) -> Path
         Act::ReadProperty(_) => property_path(level, m),
         Act::Broken(_) => mode_path(control, m),
         Act::Missing => Path::new(),
-        Act::Pass => root(),
-        Act::Skip => root(),
-        Act::OpenText(_) => root(),
-        Act::OpenList(_) => root(),
-        Act::CloseList => root(),
-        Act::Stop => root(),
+        Act::Pass | Act::Skip | Act::OpenText(_) | Act::OpenList(_) | Act::CloseList | Act::Stop =>
+            root(),
     }
 }

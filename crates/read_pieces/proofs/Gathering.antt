@@ -1,4 +1,5 @@
 -- Pieces of text gathered in scratch, against the definition. Assumes nothing.
+use Rattle.std.specs.Prelude.{Ok, Err, Result}
 use Prim.Native.Nat.{ℕ, ◌+◌, ◌-◌, ◌≤◌, ◌<◌}
 use mathlib.Core.Path.{◌≡◌, refl, sym, ap, ◌∙◌}
 use mathlib.Core.Bool.{Bool, true, false, cond, ◌&&◌}
@@ -28,15 +29,13 @@ use Rattle.read_scratch.specs.of_read_state.declared.Mode.TheVariants as mode
 use Rattle.read_scratch.specs.of_read_place.Marks.{Marks}
 use Rattle.read_scratch.specs.of_read_content.Content.{Content, piece_of, join_piece, own, gather}
 use Rattle.read_scratch.specs.of_read_element.inside.Refines.{went}
-use Rattle.read_scratch.specs.of_read_content.inside.Holds.{Holds, Opened, Sized, Lists, Performs, fault_of}
-use Rattle.read_pieces.specs.inside.Pieces.{piece_answer, piece_laid, joined_by, is_full, kept_length, told_by, gathers_at}
+use Rattle.read_scratch.specs.of_read_content.inside.Holds.{Performed, Holds, Opened, Sized, Lists, Performs, fault_of}
+use Rattle.read_pieces.specs.inside.Pieces.{piece_answer, piece_laid, joined_by, is_full, kept_length, told_by}
 use Rattle.read_scratch.specs.inside.Places.{piece_from, may_move, fronted_in}
 use Rattle.text_pieces.specs.of_text.Kept.{kept_answer}
-use Rattle.text_pieces.specs.of_text.declared.kept.Kept.{Kept}
-use Rattle.text_pieces.specs.of_text.declared.kept.Kept.TheVariants as kept
+use Rattle.text_pieces.specs.of_text.declared.kept.Unkept.{Unkept}
+use Rattle.text_pieces.specs.of_text.declared.kept.Unkept.TheVariants as kept
 use Rattle.read_scratch.specs.of_read_content.declared.Content.{Content as CodedContent}
-use Rattle.read_scratch.specs.of_read_content.declared.Performed.{Performed}
-use Rattle.read_scratch.specs.of_read_content.declared.Performed.TheVariants.{To, Not}
 use Rattle.read_scratch.proofs.of_read_content.Areas.{fits-description, fits-from, fits-gathered}
 use Rattle.read_scratch.proofs.of_read_content.Refusing.{halts}
 use Rattle.fronting.specs.of_refusal.declared.Cause.TheVariants as cause
@@ -327,7 +326,7 @@ module _ {words text scratch attributes source : List ℕ} {c : CodedContent} {s
 
     gathered-put : (a : Answer (List ℕ)) → piece_of kind b ≡ a → {n : ℕ} {scratch' : List ℕ} → gives n ≡ placed (length scratch - from) a
         → scratch' ≡ take from scratch ++ laid_by (drop from scratch) a
-        → Performs (mode_at k l o) m p words text scratch' attributes source (gather rooms p (mode_at k l o) kind b s) (To (joined_by k n c))
+        → Performs (mode_at k l o) m p words text scratch' attributes source (gather rooms p (mode_at k l o) kind b s) (Ok (joined_by k n c))
     unfolding gather there need ◌>>=◌
     gathered-put (gives v) q {n} {scratch'} e z =
         let f = put-fits cause.ScratchFull (length scratch - from) v n e in
@@ -359,19 +358,19 @@ module _ {words text scratch attributes source : List ℕ} {c : CodedContent} {s
 
     piece-not : (why : Cause) → (why ≡ cause.ScratchFull → may_move k c ≡ false) → {scratch' : List ℕ} {r : Performed}
         → refuses why ≡ piece_answer kind (length (take (length scratch - from) (drop from scratch))) b
-        → r ≡ Not (fault_of why) → Performs (mode_at k l o) m p words text scratch' attributes source (gather rooms p (mode_at k l o) kind b s) r
+        → r ≡ Err (fault_of why) → Performs (mode_at k l o) m p words text scratch' attributes source (gather rooms p (mode_at k l o) kind b s) r
     piece-not why only e q = halts p why pa (gathered-not (piece_of kind b) refl why only (answer-is e)) q
 
     -- a piece that is put, or refused where its text can't go to the front
-    pub piece-told : (x : Kept) {ys : List ℕ} {r : Performed} → (is_full x ≡ true → may_move k c ≡ false)
+    pub piece-told : (x : Result ℕ Unkept) {ys : List ℕ} {r : Performed} → (is_full x ≡ true → may_move k c ≡ false)
         → kept_answer cause.ScratchFull x ≡ piece_answer kind (length (take (length scratch - from) (drop from scratch))) b
         → ys ≡ piece_laid kind (take (length scratch - from) (drop from scratch)) b → r ≡ told_by k c x
         → Performs (mode_at k l o) m p words text (put_mid from (length scratch - from) scratch ys) attributes source (gather rooms p (mode_at k l o) kind b s) r
-    piece-told (kept.Put n) only e z q = rw q (gathered-put (piece_of kind b) refl (answer-is e) (scratch-is z))
-    piece-told kept.Full only e z q = piece-not cause.ScratchFull (λ x. only refl) e q
-    piece-told kept.NotUtf8 only e z q = piece-not cause.NotUtf8 (λ x. let w : ◌≡◌ {A = ℕ} 0 1 = cc in absurd (omega arith)) e q
-    piece-told kept.BadReference only e z q = piece-not cause.BadReference (λ x. let w : ◌≡◌ {A = ℕ} 0 1 = cc in absurd (omega arith)) e q
-    piece-told kept.UnknownName only e z q = piece-not cause.UnknownEntity (λ x. let w : ◌≡◌ {A = ℕ} 0 1 = cc in absurd (omega arith)) e q
+    piece-told (Ok n) only e z q = rw q (gathered-put (piece_of kind b) refl (answer-is e) (scratch-is z))
+    piece-told (Err kept.Full) only e z q = piece-not cause.ScratchFull (λ x. only refl) e q
+    piece-told (Err kept.NotUtf8) only e z q = piece-not cause.NotUtf8 (λ x. let w : ◌≡◌ {A = ℕ} 0 1 = cc in absurd (omega arith)) e q
+    piece-told (Err kept.BadReference) only e z q = piece-not cause.BadReference (λ x. let w : ◌≡◌ {A = ℕ} 0 1 = cc in absurd (omega arith)) e q
+    piece-told (Err kept.UnknownName) only e z q = piece-not cause.UnknownEntity (λ x. let w : ◌≡◌ {A = ℕ} 0 1 = cc in absurd (omega arith)) e q
 
   -- what a piece without room leaves in scratch
   pub over-holds : (kind : PieceKind) (b : List ℕ) (from : ℕ) → from ≡ piece_from mode.Text c → {ys : List ℕ} → ys ≡ piece_laid kind (take (length scratch - from) (drop from scratch)) b
@@ -398,17 +397,17 @@ from-fits mode.Text c a b e = omega arith
 from-fits mode.List c a b e = omega arith
 
 -- how much a piece may be
-pub piece-fits : (l : List ℕ) (from : ℕ) (x : Kept) (kind : PieceKind) (b : List ℕ) → from ≤ length l
+pub piece-fits : (l : List ℕ) (from : ℕ) (x : Result ℕ Unkept) (kind : PieceKind) (b : List ℕ) → from ≤ length l
     → kept_answer cause.ScratchFull x ≡ piece_answer kind (length (take (length l - from) (drop from l))) b → from + kept_length x ≤ length l
-piece-fits l from (kept.Put n) kind b h e = go (piece_of kind b) (e ∙ ap (λ (x : ℕ). piece_answer kind x b) (ap length (rest_part l from) ∙ length-drop from l) ∙ piece-answer kind (length l - from) b)
+piece-fits l from (Ok n) kind b h e = go (piece_of kind b) (e ∙ ap (λ (x : ℕ). piece_answer kind x b) (ap length (rest_part l from) ∙ length-drop from l) ∙ piece-answer kind (length l - from) b)
   where
     go : (a : Answer (List ℕ)) → gives n ≡ placed (length l - from) a → from + n ≤ length l
     go (gives v) q = let f = put-fits cause.ScratchFull (length l - from) v n q in let x = f.0 in let y = f.1 in omega arith
     go (refuses x) q = let w : ◌≡◌ {A = ℕ} 0 1 = cc in absurd (omega arith)
-piece-fits l from kept.Full kind b h e = omega arith
-piece-fits l from kept.NotUtf8 kind b h e = omega arith
-piece-fits l from kept.BadReference kind b h e = omega arith
-piece-fits l from kept.UnknownName kind b h e = omega arith
+piece-fits l from (Err kept.Full) kind b h e = omega arith
+piece-fits l from (Err kept.NotUtf8) kind b h e = omega arith
+piece-fits l from (Err kept.BadReference) kind b h e = omega arith
+piece-fits l from (Err kept.UnknownName) kind b h e = omega arith
 
 pub moves : (k : CodedMode) (c : CodedContent) → may_move k c ≡ true → k ≡ mode.Text
 moves mode.At c e = absurd (differ (sym e))
@@ -435,11 +434,3 @@ both false b e = absurd (differ (sym e))
 pub neither : (a b : Bool) → (a && b) ≡ false → a ≡ true → b ≡ false
 neither true b e q = e
 neither false b e q = absurd (differ (sym q))
-
--- where pieces are gathered
-pub gathers-at : (l : Level) → gathers_at l ≡ gathers (at l)
-unfolding gathers
-gathers-at plan.top = refl
-gathers-at plan.suite = refl
-gathers-at plan.case = refl
-gathers-at plan.status = refl

@@ -7,7 +7,7 @@ ghost use Rattle.read_scratch.specs.of_read_state.inside.Coded.{level_of, mode_o
 ghost use Rattle.read_scratch.specs.of_table.Event.{piece_kind, piece_bytes};
 ghost use Rattle.read_scratch.specs.inside.Places.{piece_from};
 ghost use Rattle.read_pieces.specs.inside.Promises.{GathersOver, Gathers};
-ghost use Rattle.read_pieces.specs.inside.Pieces.{piece_answer, piece_laid, described_by, lengthened_by, joined_by, is_full, kept_length, told_by, gathers_at};
+ghost use Rattle.read_pieces.specs.inside.Pieces.{piece_answer, piece_laid, described_by, lengthened_by, joined_by, is_full, kept_length, told_by};
 ghost use Rattle.fronting.specs.of_refusal.declared.Cause.TheVariants as cause;
 ghost use Rattle.read_scratch.specs.of_read_state.Control.{gathers};
 
@@ -15,41 +15,29 @@ use fronting::move_front;
 pub use fronting::the_area;
 use fronting::the_refusal::Cause;
 pub use read_scratch as the_read_scratch;
-use read_scratch::the_read_content::{Content, Performed, refused};
+use read_scratch::the_read_content::the_read_fault::Fault;
+use read_scratch::the_read_content::{Content, refused};
 use read_scratch::the_read_state::{Control, Level, Mode};
 use read_scratch::the_table::kind;
 pub use read_scratch::{the_read_children, the_read_rules, the_read_state, the_table};
 use read_scratch::{fronted, may_move, piece_from};
-use text_pieces::the_text::kept::Kept;
+use text_pieces::the_text::kept::Unkept;
 pub use text_pieces::{the_names, the_text};
 use text_pieces::{gather_cdata, gather_indent, gather_reference, gather_text};
-
-fn is_open_status(level: Level) -> bool
-    ensures { result ≡ gathers_at (level_of level) }
-{
-    match level {
-        Level::Top => false,
-        Level::Suite => false,
-        Level::Case => false,
-        Level::Status => true,
-    }
-}
 
 // Where pieces of text are gathered (rule R20).
 pub fn is_gathering(control: Control) -> bool
     ensures { result ≡ gathers (mode_of control) }
 {
-    let mode = control.mode;
-    let level = control.level;
-    match mode {
+    match control.mode {
         Mode::Text => true,
         Mode::List => false,
-        Mode::At => is_open_status(level),
+        Mode::At => matches!(control.level, Level::Status),
     }
 }
 
 // A piece of text by its event's kind (rule X9), into a part of scratch.
-pub fn gather_piece(kind: u32, bytes: &[u8], out: &mut [u8]) -> Kept
+pub fn gather_piece(kind: u32, bytes: &[u8], out: &mut [u8]) -> Result<usize, Unkept>
     ensures result_value { kept_answer cause.ScratchFull result ≡ piece_answer (piece_kind kind) (length out.old) (piece_bytes kind bytes.now) }
     ensures out_after { out.new ≡ piece_laid (piece_kind kind) out.old (piece_bytes kind bytes.now) }
 {
@@ -58,7 +46,7 @@ pub fn gather_piece(kind: u32, bytes: &[u8], out: &mut [u8]) -> Kept
         kind::CDATA => gather_cdata(out, bytes),
         kind::REF => gather_reference(out, bytes),
         kind::INDENT => gather_indent(out),
-        _ => Kept::Put(0),
+        _ => Ok(0),
     }
 }
 
@@ -67,15 +55,17 @@ fn described(content: Content, n: usize) -> Content
     requires { content.description + n ≤ 9223372036854775807 }
     ensures { result ≡ described_by n content }
 {
-    let mut c = content;
-    let end = c.description + n;
-    if c.child == c.description {
-        c.child = end;
-        c.description = end;
-        return c;
+    let end = content.description + n;
+    let child = if content.child == content.description {
+        end
+    } else {
+        content.child
+    };
+    Content {
+        description: end,
+        child,
+        ..content
     }
-    c.description = end;
-    c
 }
 
 // The text of a child with n bytes more.
@@ -83,9 +73,10 @@ fn lengthened(content: Content, n: usize) -> Content
     requires { content.gathered + n ≤ 9223372036854775807 }
     ensures { result ≡ lengthened_by n content }
 {
-    let mut c = content;
-    c.gathered = c.gathered + n;
-    c
+    Content {
+        gathered: content.gathered + n,
+        ..content
+    }
 }
 
 fn joined(mode: Mode, content: Content, n: usize) -> Content
@@ -99,34 +90,33 @@ fn joined(mode: Mode, content: Content, n: usize) -> Content
     }
 }
 
-fn is_full(piece: Kept) -> bool
+fn is_full(piece: Result<usize, Unkept>) -> bool
     ensures { result ≡ is_full piece }
 {
-    match piece {
-        Kept::Full => true,
-        Kept::Put(_) => false,
-        Kept::NotUtf8 => false,
-        Kept::BadReference => false,
-        Kept::UnknownName => false,
-    }
+    matches!(piece, Err(Unkept::Full))
 }
 
 // What a piece comes to; 21 is told here, at the Ref (rule F12).
-fn told(mode: Mode, content: Content, piece: Kept) -> Performed
+fn told(mode: Mode, content: Content, piece: Result<usize, Unkept>) -> Result<Content, Fault>
     requires { piece_from mode content + kept_length piece ≤ 9223372036854775807 }
     ensures { result ≡ told_by mode content piece }
 {
     match piece {
-        Kept::Put(n) => Performed::To(joined(mode, content, n)),
-        Kept::Full => refused(Cause::ScratchFull),
-        Kept::NotUtf8 => refused(Cause::NotUtf8),
-        Kept::BadReference => refused(Cause::BadReference),
-        Kept::UnknownName => refused(Cause::UnknownEntity),
+        Ok(n) => Ok(joined(mode, content, n)),
+        Err(Unkept::Full) => refused(Cause::ScratchFull),
+        Err(Unkept::NotUtf8) => refused(Cause::NotUtf8),
+        Err(Unkept::BadReference) => refused(Cause::BadReference),
+        Err(Unkept::UnknownName) => refused(Cause::UnknownEntity),
     }
 }
 
 // A piece of a child's text that has no room behind the open description: the text goes over that, to scratch's front.
-fn gather_over(kind: u32, bytes: &[u8], content: Content, scratch: &mut [u8]) -> Performed
+fn gather_over(
+    kind: u32,
+    bytes: &[u8],
+    content: Content,
+    scratch: &mut [u8],
+) -> Result<Content, Fault>
     requires { content.child + content.gathered ≤ length scratch.old }
     ensures { GathersOver kind bytes.now content scratch.old scratch.new result }
 {
@@ -143,7 +133,7 @@ pub fn gather(
     bytes: &[u8],
     content: Content,
     scratch: &mut [u8],
-) -> Performed
+) -> Result<Content, Fault>
     requires description_in_bounds { content.description ≤ length scratch.old }
     requires gathered_in_bounds { content.child + content.gathered ≤ length scratch.old }
     ensures { Gathers mode kind bytes.now content scratch.old scratch.new result }

@@ -3,16 +3,27 @@ use Prim.Native.Nat.{ℕ, suc, ◌+◌, ◌≤◌}
 use mathlib.Core.Bool.{Bool, true, false}
 use mathlib.Core.Path.{◌≡◌, refl, sym, ap}
 use native.Mathlib.Omega.{arith}
-use Rattle.read_state.specs.inside.Coded.{level_of, output_of, level_in_of, mode_of}
+use Rattle.read_state.specs.inside.Coded.{level_of, output_of, level_in_of, mode_of, closing}
 use Rattle.read_state.specs.declared.Control.{Control as CodedControl}
 use Rattle.read_state.proofs.Turning.{level_in}
 use Rattle.read_state.specs.Control.{Act, pass, open_report, open_suite, open_case, open_status, close_suite, close_case, close_status, open_text, close_text, open_list, read_property, stop, missing, broken}
-use Rattle.read_place.specs.Marks.{Marks, more, marks_after, onward}
+use Rattle.read_place.specs.Marks.{Marks, marks, more, marks_after, onward}
 use Rattle.read_place.specs.inside.Coded.{go_to, Low}
 
 -- the level of the mode is that of the control
 pub level-of : (c : CodedControl) → level_of c.level ≡ level_in_of (mode_of c)
 level-of c = sym (level_in c.mode (level_of c.level) (output_of c.output))
+
+pub report_opens : (e : Bool) (n : ℕ) (m : Marks) {r : Marks} → r ≡ marks m.event 0 0 0 0 0 0 0 0 0 → r ≡ marks_after (open_report e) n m
+unfolding marks_after
+report_opens e n m q = q
+
+pub status_closes : (n : ℕ) (m : Marks) → m ≡ marks_after close_status n m
+unfolding marks_after
+status_closes n m = refl
+
+pub closes : (c : CodedControl) (n : ℕ) (m : Marks) {r : Marks} → r ≡ marks_after (closing (level_of c.level)) n m → r ≡ marks_after (closing (level_in_of (mode_of c))) n m
+closes c n m e = rw (← level-of c) e
 
 -- ---- the event's number
 -- an act leaves the event's number, which the step alone raises

@@ -52,49 +52,49 @@ fn more(empty: bool, n: u32) -> u32
     if empty { n + 1 } else { n }
 }
 
+#[tactic(auto, unfolding(crate::specs::Marks::marks_after))]
 fn at_suite(marks: Marks, empty: bool, n: usize) -> Marks
     requires { Low 65536 (marks_of marks) }
     ensures { marks_of result ≡ standing.marks_after (plan.open_suite empty) n (marks_of marks) }
 {
     Marks {
-        event: marks.event,
         suite_index: more(empty, marks.suite_index),
         suite_start: marks.event as u32,
-        case_index: 0,
-        case_start: 0,
-        status_kind: 0,
-        property_index: 0,
         suite_at: n,
-        case_at: 0,
-        status_at: 0,
+        ..no_marks(marks.event)
     }
 }
 
+#[tactic(auto, unfolding(crate::specs::Marks::marks_after))]
 fn at_case(marks: Marks, empty: bool, n: usize) -> Marks
     requires { Low 65536 (marks_of marks) }
     ensures { marks_of result ≡ standing.marks_after (plan.open_case empty) n (marks_of marks) }
 {
-    let mut m = marks;
-    m.case_index = more(empty, marks.case_index);
-    m.case_start = marks.event as u32;
-    m.status_kind = 0;
-    m.property_index = 0;
-    m.case_at = n;
-    m.status_at = 0;
-    m
+    Marks {
+        case_index: more(empty, marks.case_index),
+        case_start: marks.event as u32,
+        status_kind: 0,
+        property_index: 0,
+        case_at: n,
+        status_at: 0,
+        ..marks
+    }
 }
 
+#[tactic(auto, unfolding(crate::specs::Marks::marks_after))]
 fn at_status(marks: Marks, kind: u32, n: usize) -> Marks
     ensures { (empty : Bool) → marks_of result ≡ standing.marks_after (plan.open_status kind empty) n (marks_of marks) }
 {
-    let mut m = marks;
-    m.status_kind = kind;
-    m.property_index = 0;
-    m.status_at = n;
-    m
+    Marks {
+        status_kind: kind,
+        property_index: 0,
+        status_at: n,
+        ..marks
+    }
 }
 
 // The marks behind an opening; n records stood before it.
+#[tactic(auto, using(crate::proofs::Lasting::report_opens, read_state::proofs::Turning::opening_other))]
 fn opened(marks: Marks, kind: u32, empty: bool, n: usize) -> Marks
     requires { Low 65536 (marks_of marks) }
     ensures { marks_of result ≡ standing.marks_after (opening kind empty) n (marks_of marks) }
@@ -107,38 +107,42 @@ fn opened(marks: Marks, kind: u32, empty: bool, n: usize) -> Marks
     }
 }
 
+#[tactic(auto, unfolding(crate::specs::Marks::marks_after))]
 fn behind_suite(marks: Marks) -> Marks
     requires { Low 65536 (marks_of marks) }
     ensures { (n : ℕ) → marks_of result ≡ standing.marks_after plan.close_suite n (marks_of marks) }
 {
-    let mut m = marks;
-    m.suite_index = marks.suite_index + 1;
-    m.status_kind = 0;
-    m.property_index = 0;
-    m.status_at = 0;
-    m
+    Marks {
+        suite_index: marks.suite_index + 1,
+        status_kind: 0,
+        property_index: 0,
+        status_at: 0,
+        ..marks
+    }
 }
 
+#[tactic(auto, unfolding(crate::specs::Marks::marks_after))]
 fn behind_case(marks: Marks) -> Marks
     requires { Low 65536 (marks_of marks) }
     ensures { (n : ℕ) → marks_of result ≡ standing.marks_after plan.close_case n (marks_of marks) }
 {
-    let mut m = marks;
-    m.case_index = marks.case_index + 1;
-    m.status_kind = 0;
-    m.property_index = 0;
-    m.status_at = 0;
-    m
+    Marks {
+        case_index: marks.case_index + 1,
+        status_kind: 0,
+        property_index: 0,
+        status_at: 0,
+        ..marks
+    }
 }
 
 // The marks behind the element of a level that is closed.
+#[tactic(auto, using(crate::proofs::Lasting::status_closes))]
 fn closed(marks: Marks, level: Level) -> Marks
     requires { Low 65536 (marks_of marks) }
     ensures { (n : ℕ) → marks_of result ≡ standing.marks_after (closing (level_of level)) n (marks_of marks) }
 {
     match level {
-        Level::Top => behind_suite(marks),
-        Level::Suite => behind_suite(marks),
+        Level::Top | Level::Suite => behind_suite(marks),
         Level::Case => behind_case(marks),
         Level::Status => marks,
     }
@@ -147,37 +151,36 @@ fn closed(marks: Marks, level: Level) -> Marks
 fn at_property(marks: Marks, index: u32) -> Marks
     ensures { marks_of result ≡ counting index (marks_of marks) }
 {
-    let mut m = marks;
-    m.property_index = index;
-    m
+    Marks {
+        property_index: index,
+        ..marks
+    }
 }
 
 // The marks behind an action, with the indices of rule F4; n records stood before it.
+#[tactic(auto, using(crate::proofs::Lasting::closes), unfolding(crate::specs::Marks::marks_after, read_state::specs::Control::or_skip))]
 pub fn marked(act: Act, control: Control, n: usize, marks: Marks) -> Marks
     requires { Low 65536 (marks_of marks) }
     ensures { (name : List ℕ) → marks_of result ≡ standing.marks_after (act_of control name act) n (marks_of marks) }
 {
-    let level = control.level;
     match act {
         Act::Open(kind, empty) => opened(marks, kind, empty, n),
-        Act::Close => closed(marks, level),
+        Act::Close => closed(marks, control.level),
         Act::OpenList(_) => at_property(marks, 0),
         Act::ReadProperty(_) => at_property(marks, marks.property_index + 1),
-        Act::Pass => marks,
-        Act::Skip => marks,
-        Act::OpenText(_) => marks,
-        Act::CloseText(_) => marks,
-        Act::CloseList => marks,
-        Act::Stop => marks,
-        Act::Missing => marks,
-        Act::Broken(_) => marks,
+        Act::Pass
+        | Act::Skip
+        | Act::OpenText(_)
+        | Act::CloseText(_)
+        | Act::CloseList
+        | Act::Stop
+        | Act::Missing
+        | Act::Broken(_) => marks,
     }
 }
 
 pub fn onward(marks: Marks, event: usize) -> Marks
     ensures { marks_of result ≡ go_to event (marks_of marks) }
 {
-    let mut m = marks;
-    m.event = event;
-    m
+    Marks { event, ..marks }
 }

@@ -24,18 +24,7 @@ fn stored_key<'a>(own: &[u32], text: &'a [u8], i: usize) -> &'a [u8]
     bytes_of(text, wide(word_of(own, at + 2)), wide(word_of(own, at + 3)))
 }
 
-// Whether `stored` is the text, of n bytes, that would be stored for `key`: lengths are compared before bytes.
-fn is_stored(stored: &[u8], key: &[u8], n: usize) -> bool
-    requires { n ≡ length (value_text key.now) }
-    ensures { result ≡ same_bytes stored.now (value_text key.now) }
-{
-    if stored.len() != n {
-        return false;
-    }
-    is_cleaned(stored, key)
-}
-
-// Whether the extras have a number i, with this key.
+// Whether the extras have a number i, with this key: lengths are compared before bytes.
 pub fn is_at(own: &[u32], text: &[u8], extras: usize, i: usize, key: &[u8]) -> bool
     requires { extras ≤ 65536 }
     ensures i_lt_extras { result ≡ true → i < extras }
@@ -44,8 +33,8 @@ pub fn is_at(own: &[u32], text: &[u8], extras: usize, i: usize, key: &[u8]) -> b
     if extras <= i {
         return false;
     }
-    let n = cleaned_length(key);
-    is_stored(stored_key(own, text, i), key, n)
+    let stored = stored_key(own, text, i);
+    stored.len() == cleaned_length(key) && is_cleaned(stored, key)
 }
 
 // The word of the attribute that leads the group of the one at word `at`: `at` itself, or the one that its word tells.

@@ -12,11 +12,8 @@ fn is_own(key: &[u8]) -> bool
     ensures { result ≡ unaltered key.now }
 {
     let mut odd = false;
-    let mut i = 0;
-    while i < key.len() {
-        let b = key[i];
-        odd = odd | ((b == 0x26) | is_dropped(b));
-        i += 1;
+    for b in key {
+        odd = odd | ((*b == 0x26) | is_dropped(*b));
     }
     !odd
 }
@@ -28,12 +25,10 @@ pub fn plain_to(attributes: &[u32], source: &[u8], first: usize, end: usize) -> 
     requires end_in_bounds { end * 5 ≤ length attributes.now }
     ensures { Plain attributes.now source.now first result }
 {
-    let mut j = first;
-    while j < end {
+    for j in first..end {
         if !is_own(key_at(attributes, source, j)) {
             return j;
         }
-        j += 1;
     }
-    j
+    end
 }

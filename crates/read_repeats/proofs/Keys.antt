@@ -3,8 +3,7 @@ use Prim.Native.Nat.{ℕ, ◌+◌, ◌-◌, ◌*◌, ◌≤◌, ◌<◌}
 use mathlib.Core.Path.{◌≡◌, refl, sym, ap, ◌∙◌}
 use mathlib.Core.Bool.{Bool, true, false, not, ◌&&◌, ◌||◌}
 use mathlib.Core.List.{List}
-use native.Mathlib.Omega.{arith}
-use lib.ListN.{length, get_or, take, drop, length-drop}
+use lib.ListN.{length, get_or, take, drop}
 use Rattle.read_element.specs.of_names.Names.{same_bytes}
 use Rattle.read_element.specs.of_table.Event.{Attribute, part, key_at, attributes_from}
 use Rattle.read_element.proofs.of_table.Words.{part_at}
@@ -44,9 +43,6 @@ module _ {attributes source : List ℕ} {first j : ℕ} {key : List ℕ} {i : �
 
   pub seeking-done : j ≤ i → false ≡ among key (keys_of (attributes_from attributes source (j - first) first))
   seeking-done h = sym (s.same ∙ ap (λ (xs : List Attribute). among key (keys_of xs)) (attributes-end attributes source j i h))
-
-pub lent-size : (attributes : List ℕ) (i j : ℕ) → i < j → j * 5 ≤ length attributes → 5 ≤ length (take (length attributes - i * 5) (drop (i * 5) attributes))
-lent-size attributes i j h l = let e = ap length (rest_part attributes (i * 5)) ∙ length-drop (i * 5) attributes in omega arith
 
 -- bytes of the words that were read
 pub part-told : (source : List ℕ) {a b w v : ℕ} {l : List ℕ} → l ≡ part source a b → a ≡ w → b ≡ v → part source w v ≡ l

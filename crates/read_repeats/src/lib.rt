@@ -26,13 +26,11 @@ fn is_among(attributes: &[u32], source: &[u8], first: usize, j: usize, key: &[u8
     requires { j * 5 ≤ length attributes.now }
     ensures { result ≡ among key.now (keys_of (attributes_from attributes.now source.now (j - first) first)) }
 {
-    let mut i = first;
-    while i < j {
+    for i in first..j {
         let at = i * 5;
         if has_key(&attributes[at..], source, key) {
             return true;
         }
-        i += 1;
     }
     false
 }

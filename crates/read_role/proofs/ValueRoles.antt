@@ -33,8 +33,7 @@ use Rattle.read_values.specs.of_read_element.inside.Held.{unmoved, moved, puttin
 use Rattle.read_values.specs.of_read_element.inside.Refines.{went, stopped}
 use Rattle.read_values.specs.inside.Answers.{took_answer}
 use Rattle.read_role.specs.inside.Roles.{RoleFits, took_given}
-use Rattle.read_values.specs.declared.Took.{Took}
-use Rattle.read_values.specs.declared.Took.TheVariants.{To, Not}
+use Rattle.std.specs.Prelude.{Result, Ok, Err}
 use Rattle.read_extra_record.proofs.Storing.{Local, pair-local, keyed-more}
 use Rattle.read_extra_record.proofs.Extras.{meets-need, meets-refused, text-grown, text-room, text-none}
 use Rattle.read_extra_record.proofs.NewExtras.{marked-local, text-local}
@@ -69,13 +68,13 @@ module _ (f : List ℕ → List ℕ) where
 
 -- a value's answer with the number of extras
 module _ (extras : ℕ) where
-  took-gives : (took : Took) {n : ℕ} → took_answer took ≡ gives n → took_given extras took ≡ gives (extras, n)
-  took-gives (To k) {n} e = let z : k ≡ n = cc in ap (λ (j : ℕ). gives (extras, j)) z
-  took-gives (Not why) e = let z : ◌≡◌ {A = ℕ} 0 1 = cc in absurd (omega arith)
+  took-gives : (took : Result ℕ Cause) {n : ℕ} → took_answer took ≡ gives n → took_given extras took ≡ gives (extras, n)
+  took-gives (Ok k) {n} e = let z : k ≡ n = cc in ap (λ (j : ℕ). gives (extras, j)) z
+  took-gives (Err why) e = let z : ◌≡◌ {A = ℕ} 0 1 = cc in absurd (omega arith)
 
-  took-refuses : (took : Took) {n : Cause} → took_answer took ≡ refuses n → took_given extras took ≡ refuses n
-  took-refuses (To k) e = let z : ◌≡◌ {A = ℕ} 0 1 = cc in absurd (omega arith)
-  took-refuses (Not why) {n} e = cc
+  took-refuses : (took : Result ℕ Cause) {n : Cause} → took_answer took ≡ refuses n → took_given extras took ≡ refuses n
+  took-refuses (Ok k) e = let z : ◌≡◌ {A = ℕ} 0 1 = cc in absurd (omega arith)
+  took-refuses (Err why) {n} e = cc
 
 -- a form by its two tests
 abbrev formed : Bool → Bool → Answer (Unit {0})
@@ -102,7 +101,7 @@ module _ {own text : List ℕ} {extras fill : ℕ} {g : Given} (hd : Held own te
         filled = let f = hd.filled in omega arith;
       }
 
-  text-by : {own' text' : List ℕ} (took : Took) (t u f : Bool) → leb (length v) (length text - fill) ≡ f
+  text-by : {own' text' : List ℕ} (took : Result ℕ Cause) (t u f : Bool) → leb (length v) (length text - fill) ≡ f
       → took_answer took ≡ moved fill (cond t (cond u (cond f (gives (length v)) (refuses cause.TextFull)) (refuses cause.BadReference)) (refuses cause.NotUtf8))
       → own' ≡ putting (put_text o k fill) (cond t (cond u (cond f (gives (length v)) (refuses cause.TextFull)) (refuses cause.BadReference)) (refuses cause.NotUtf8)) own
       → text' ≡ take fill text ++ cond (t && u) (laid (drop fill text) v) (drop fill text)
@@ -120,7 +119,7 @@ module _ {own text : List ℕ} {extras fill : ℕ} {g : Given} (hd : Held own te
 
 -- each role's value
 module _ {own text : List ℕ} {extras fill : ℕ} {g : Given} (hd : Held own text extras fill g) (rooms : Rooms) (p : Place) (used kind key : ℕ)
-    (x : Attribute) {value : List ℕ} (ev : x.value ≡ value) {r : Role} (fits : RoleFits r) (took : Took) {own' : List ℕ} where
+    (x : Attribute) {value : List ℕ} (ev : x.value ≡ value) {r : Role} (fits : RoleFits r) (took : Result ℕ Cause) {own' : List ℕ} where
   pub text-role : {text' : List ℕ} (o k : ℕ) → Roomy rooms used (length own) (length text) → r ≡ role.Text o k
       → took_answer took ≡ moved fill (value_of (length text - fill) value) → own' ≡ putting (put_text o k fill) (value_of (length text - fill) value) own
       → text' ≡ take fill text ++ value_laid (drop fill text) value → Meets (within p key) own' text' (by_role rooms p used kind key r x g) (took_given extras took)

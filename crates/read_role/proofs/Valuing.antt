@@ -14,8 +14,8 @@ use Rattle.read_values.specs.of_read_element.inside.Held.{unmoved, putting, Held
 use Rattle.read_values.specs.of_read_element.inside.Refines.{went, stopped}
 use Rattle.read_values.specs.inside.Answers.{took_answer}
 use Rattle.read_role.specs.inside.Roles.{took_given}
-use Rattle.read_values.specs.declared.Took.{Took}
-use Rattle.read_values.specs.declared.Took.TheVariants.{To, Not}
+use Rattle.std.specs.Prelude.{Result, Ok, Err}
+use Rattle.read_values.specs.of_refusal.declared.Cause.{Cause}
 use Rattle.read_extra_record.proofs.Storing.{Local}
 
 -- the record changed
@@ -33,12 +33,12 @@ module _ {own text : List ℕ} {extras fill : ℕ} {g : Given} (hd : Held own te
   }
 
   pub value-meets : {A : Type 0} (f : A → List ℕ → List ℕ) → ((a : A) → Local (f a)) → ((a : A) (r : List ℕ) → length (f a r) ≡ length r)
-      → (p : Place) (m : Answer A) (took : Took) {own' : List ℕ} → took_answer took ≡ unmoved fill m → own' ≡ putting f m own
+      → (p : Place) (m : Answer A) (took : Result ℕ Cause) {own' : List ℕ} → took_answer took ≡ unmoved fill m → own' ≡ putting f m own
       → Meets p own' text (there p m >>= λ a. accepted (with_main g (f a g.main))) (took_given extras took)
   unfolding there ◌>>=◌
-  value-meets f loc len p (gives a) (To n) e o =
+  value-meets f loc len p (gives a) (Ok n) e o =
       let z : n ≡ fill = cc in
       rw (o, z) (went (main-changed (f a) (loc a) (len a)))
-  value-meets f loc len p (gives a) (Not why) e o = let z : ◌≡◌ {A = ℕ} 0 1 = cc in absurd (omega arith)
-  value-meets f loc len p (refuses n) (To k) e o = let z : ◌≡◌ {A = ℕ} 0 1 = cc in absurd (omega arith)
-  value-meets f loc len p (refuses n) (Not why) e o = let z : why ≡ n = cc in rw z stopped
+  value-meets f loc len p (gives a) (Err why) e o = let z : ◌≡◌ {A = ℕ} 0 1 = cc in absurd (omega arith)
+  value-meets f loc len p (refuses n) (Ok k) e o = let z : ◌≡◌ {A = ℕ} 0 1 = cc in absurd (omega arith)
+  value-meets f loc len p (refuses n) (Err why) e o = let z : why ≡ n = cc in rw z stopped

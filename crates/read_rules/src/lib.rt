@@ -20,6 +20,7 @@ pub use read_children::{the_names, the_refusal, the_table, the_tree_record, the_
 use read_children::{child, is_status, list_of, step_status};
 
 // By rules R3 to R5.
+#[tactic(auto, using(crate::proofs::Planning::top_opens))]
 fn open_top(seen: bool, tag: usize, empty: bool) -> Act
     ensures { (name : List ℕ) → act_in (plan.at plan.top) name result ≡ rules.at_top seen (cond empty Empty Start) tag }
 {
@@ -33,6 +34,7 @@ fn open_top(seen: bool, tag: usize, empty: bool) -> Act
 }
 
 // By rules R6 and R7; an End `testsuites` without a report is refused (rule R9).
+#[tactic(auto, using(crate::proofs::Planning::kind_end), unfolding(crate::specs::Rules::at_top))]
 fn step_top(seen: bool, kind: u32, tag: usize) -> Act
     ensures { (name : List ℕ) → act_in (plan.at plan.top) name result ≡ rules.at_top seen (tag_kind kind) tag }
 {
@@ -48,6 +50,7 @@ fn step_top(seen: bool, kind: u32, tag: usize) -> Act
     }
 }
 
+#[tactic(auto, using(crate::proofs::Planning::suite_opens))]
 fn open_suite(tag: usize, empty: bool) -> Act
     ensures { (name : List ℕ) → tag_of name ≡ tag → act_in (plan.at plan.suite) name result ≡ rules.at_suite (cond empty Empty Start) name }
 {
@@ -59,6 +62,7 @@ fn open_suite(tag: usize, empty: bool) -> Act
 }
 
 // By rules R10 and R13; any End but the element's own is passed over (rule R12).
+#[tactic(auto, using(crate::proofs::Planning::kind_end), unfolding(crate::specs::Rules::at_suite))]
 fn step_suite(kind: u32, tag: usize) -> Act
     ensures { (name : List ℕ) → tag_of name ≡ tag → act_in (plan.at plan.suite) name result ≡ rules.at_suite (tag_kind kind) name }
 {
@@ -75,6 +79,7 @@ fn step_suite(kind: u32, tag: usize) -> Act
     }
 }
 
+#[tactic(auto, using(crate::proofs::Planning::case_opens, crate::proofs::Planning::status_most, crate::proofs::Planning::opening_status))]
 fn open_case(tag: usize, empty: bool) -> Act
     ensures { (name : List ℕ) → tag_of name ≡ tag → act_in (plan.at plan.case) name result ≡ rules.at_case (cond empty Empty Start) name }
 {
@@ -88,6 +93,7 @@ fn open_case(tag: usize, empty: bool) -> Act
 }
 
 // By rules R10, R12 and R13, as in a suite.
+#[tactic(auto, using(crate::proofs::Planning::kind_end), unfolding(crate::specs::Rules::at_case))]
 fn step_case(kind: u32, tag: usize) -> Act
     ensures { (name : List ℕ) → tag_of name ≡ tag → act_in (plan.at plan.case) name result ≡ rules.at_case (tag_kind kind) name }
 {
@@ -116,6 +122,7 @@ fn tag_of_output(output: Output) -> usize
 }
 
 // Tags are passed over, and their depth isn't counted (rule R14).
+#[tactic(auto, using(crate::proofs::Planning::text_closes))]
 pub fn step_text(output: Output, kind: u32, tag: usize) -> Act
     ensures { (l : plan.Level) (name : List ℕ) → act_in (plan.gathering l (output_of output)) name result ≡ rules.in_text l (output_of output) (tag_kind kind) tag }
 {
@@ -126,6 +133,7 @@ pub fn step_text(output: Output, kind: u32, tag: usize) -> Act
 }
 
 // A `property` counts in either spelling (rule R16).
+#[tactic(auto, using(crate::proofs::Planning::list_opens))]
 fn open_property(tag: usize, empty: bool) -> Act
     ensures { (l : plan.Level) (name : List ℕ) → tag_of name ≡ tag → act_in (plan.listing l) name result ≡ rules.in_list_of l (cond empty Empty Start) name }
 {
@@ -136,6 +144,7 @@ fn open_property(tag: usize, empty: bool) -> Act
 }
 
 // An Empty `properties` ends nothing (rule R15).
+#[tactic(auto, using(crate::proofs::Planning::kind_end), unfolding(crate::specs::Rules::in_list_of))]
 pub fn step_list(kind: u32, tag: usize) -> Act
     ensures { (l : plan.Level) (name : List ℕ) → tag_of name ≡ tag → act_in (plan.listing l) name result ≡ rules.in_list_of l (tag_kind kind) name }
 {
@@ -152,11 +161,11 @@ pub fn step_list(kind: u32, tag: usize) -> Act
     }
 }
 
+#[tactic(auto, unfolding(crate::specs::Rules::plan_at))]
 fn step_inside(control: Control, kind: u32, tag: usize) -> Act
     ensures { (name : List ℕ) → tag_of name ≡ tag → act_in (plan.at (level_of control.level)) name result ≡ rules.plan_at (plan.at (level_of control.level)) control.seen (tag_kind kind) name }
 {
-    let level = control.level;
-    match level {
+    match control.level {
         Level::Top => step_top(control.seen, kind, tag),
         Level::Suite => step_suite(kind, tag),
         Level::Case => step_case(kind, tag),
@@ -165,42 +174,25 @@ fn step_inside(control: Control, kind: u32, tag: usize) -> Act
 }
 
 // A Start, Empty or End with the code of its name.
+#[tactic(auto, unfolding(crate::specs::Rules::plan_at))]
 pub fn plan_tag(control: Control, kind: u32, tag: usize) -> Act
     ensures { (name : List ℕ) → tag_of name ≡ tag → act_of control name result ≡ rules.plan_at (mode_of control) control.seen (tag_kind kind) name }
 {
-    let mode = control.mode;
-    let output = control.output;
-    match mode {
+    match control.mode {
         Mode::At => step_inside(control, kind, tag),
-        Mode::Text => step_text(output, kind, tag),
+        Mode::Text => step_text(control.output, kind, tag),
         Mode::List => step_list(kind, tag),
-    }
-}
-
-fn is_report(level: Level) -> bool
-    ensures { result ≡ is_top (plan.at (level_of level)) }
-{
-    match level {
-        Level::Top => true,
-        Level::Suite => false,
-        Level::Case => false,
-        Level::Status => false,
     }
 }
 
 fn is_top(control: Control) -> bool
     ensures { result ≡ is_top (mode_of control) }
 {
-    let mode = control.mode;
-    let level = control.level;
-    match mode {
-        Mode::At => is_report(level),
-        Mode::Text => false,
-        Mode::List => false,
-    }
+    matches!(control.mode, Mode::At) && matches!(control.level, Level::Top)
 }
 
 // At report level by rules R8 and R9, in an element by rule R18.
+#[tactic(auto, using(crate::proofs::Planning::eof_plans))]
 pub fn plan_eof(control: Control) -> Act
     ensures { act_of control [] result ≡ rules.plan_eof (mode_of control) control.seen control.closed }
 {

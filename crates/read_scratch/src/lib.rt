@@ -25,20 +25,17 @@ pub fn piece_from(mode: Mode, content: Content) -> usize
 pub fn may_move(mode: Mode, content: Content) -> bool
     ensures { result ≡ may_move mode content }
 {
-    match mode {
-        Mode::At => false,
-        Mode::Text => 1 <= content.child,
-        Mode::List => false,
-    }
+    matches!(mode, Mode::Text) & (1 <= content.child)
 }
 
 // The text of a child stands at the front from here on.
 pub fn fronted(content: Content) -> Content
     ensures { result ≡ fronted_in content }
 {
-    let mut c = content;
-    c.child = 0;
-    c
+    Content {
+        child: 0,
+        ..content
+    }
 }
 
 // Whether the text of a child was put over the open description.
@@ -53,7 +50,8 @@ pub fn first_of(first: usize, content: Content, event: usize) -> usize
     ensures { result ≡ cond (eqb content.description 0) event first }
 {
     if content.description == 0 {
-        return event;
+        event
+    } else {
+        first
     }
-    first
 }

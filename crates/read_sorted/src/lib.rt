@@ -34,8 +34,7 @@ fn first_repeat(attributes: &[u32], source: &[u8], end: usize, bytes: &[u8]) -> 
 {
     let n = bytes.len() / 2;
     let mut found = end;
-    let mut p = 1;
-    while p < n {
+    for p in 1..n {
         found = lesser(
             attributes,
             source,
@@ -43,7 +42,6 @@ fn first_repeat(attributes: &[u32], source: &[u8], end: usize, bytes: &[u8]) -> 
             number_at(bytes, p),
             found,
         );
-        p += 1;
     }
     found
 }

@@ -30,10 +30,10 @@ pub controls : {r : Control} {l k : Level} {s c : Bool} {t u : Tally} → r ≡ 
 controls {r} {l} {k} {s} {c} {t} {u} e f g = e ∙ ap (λ (x : Level). control (at x) s c t) f ∙ ap (λ (x : Tally). control (at k) s c x) g
 
 -- a property leaves the list open; a Start's content is skipped whole
-pub property-turned : (e : Bool) (name : List ℕ) (c : CodedControl) → control_of c ≡ turned (ReadProperty e) name c
+pub property_turned : (e : Bool) (name : List ℕ) (c : CodedControl) → control_of c ≡ turned (ReadProperty e) name c
 unfolding turn
-property-turned true name c = refl
-property-turned false name c = refl
+property_turned true name c = refl
+property_turned false name c = refl
 
 more : {n : ℕ} {t : Tally} → Few n t → Few (suc n) t
 more f = few-more f (omega arith)
@@ -69,5 +69,5 @@ few-turned {n} a name c f = by_cases (is_step a)
     by_cases false = more f
 
 -- the kinds of records but those of reports, suites and cases
-pub opening-other : (k : ℕ) (e : Bool) → (k ≡ 1 → ⊥) → (k ≡ 2 → ⊥) → (k ≡ 3 → ⊥) → opening k e ≡ open_status k e
-opening-other k e a b c = rw (ne_eqb k 1 a, ne_eqb k 2 b, ne_eqb k 3 c) refl
+pub opening_other : (k : ℕ) (e : Bool) → (k ≡ 1 → ⊥) → (k ≡ 2 → ⊥) → (k ≡ 3 → ⊥) → opening k e ≡ open_status k e
+opening_other k e a b c = rw (ne_eqb k 1 a, ne_eqb k 2 b, ne_eqb k 3 c) refl

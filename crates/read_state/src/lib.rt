@@ -74,13 +74,13 @@ fn inside(control: Control, level: Level, tally: Tally) -> Control
         mode: Mode::At,
         level,
         output: Output::Out,
-        seen: control.seen,
-        closed: control.closed,
         tally,
+        ..control
     }
 }
 
 // Behind an Empty one the table counts as closed (rule R4).
+#[tactic(auto, using(crate::proofs::Turning::controls), unfolding(crate::specs::Control::turn))]
 fn reported(control: Control, empty: bool) -> Control
     ensures { control_of result ≡ plan.turn (plan.open_report empty) (control_of control) }
 {
@@ -101,6 +101,7 @@ fn either(empty: bool, outer: Level, inner: Level) -> Level
 }
 
 // The control inside an element that is opened.
+#[tactic(auto, using(crate::proofs::Turning::controls, crate::proofs::Turning::opening_other), unfolding(crate::specs::Control::turn))]
 fn opened(control: Control, k: u32, empty: bool) -> Control
     requires { Few 4294967294 control.tally }
     ensures { control_of result ≡ plan.turn (opening k empty) (control_of control) }
@@ -117,57 +118,47 @@ fn opened(control: Control, k: u32, empty: bool) -> Control
             either(empty, Level::Suite, Level::Case),
             no_status(),
         ),
-        _ => {
-            let tally = control.tally;
-            inside(
-                control,
-                either(empty, Level::Case, Level::Status),
-                tallied(tally, k),
-            )
-        }
+        _ => inside(
+            control,
+            either(empty, Level::Case, Level::Status),
+            tallied(control.tally, k),
+        ),
     }
 }
 
 // The control behind an element that is closed.
+#[tactic(auto, using(crate::proofs::Turning::controls), unfolding(crate::specs::Control::turn))]
 fn closed(control: Control) -> Control
     ensures { control_of result ≡ plan.turn (closing (level_of control.level)) (control_of control) }
 {
-    let level = control.level;
-    let tally = control.tally;
-    match level {
-        Level::Top => inside(control, Level::Top, no_status()),
-        Level::Suite => inside(control, Level::Top, no_status()),
+    match control.level {
+        Level::Top | Level::Suite => inside(control, Level::Top, no_status()),
         Level::Case => inside(control, Level::Suite, no_status()),
-        Level::Status => inside(control, Level::Case, tally),
+        Level::Status => inside(control, Level::Case, control.tally),
     }
 }
 
 fn going(control: Control, mode: Mode, output: Output) -> Control
     ensures { control_of result ≡ plan.control (mode_at mode (level_of control.level) (output_of output)) control.seen control.closed control.tally }
 {
-    let level = control.level;
-    let tally = control.tally;
     Control {
         mode,
-        level,
         output,
-        seen: control.seen,
-        closed: control.closed,
-        tally,
+        ..control
     }
 }
 
 // The control in a properties list, or behind an Empty one.
+#[tactic(auto, unfolding(crate::specs::Control::turn))]
 fn listed(control: Control, empty: bool) -> Control
     ensures { control_of result ≡ plan.turn (plan.open_list (level_of control.level) empty) (control_of control) }
 {
-    if empty {
-        return going(control, Mode::At, Output::Out);
-    }
-    going(control, Mode::List, Output::Out)
+    let mode = if empty { Mode::At } else { Mode::List };
+    going(control, mode, Output::Out)
 }
 
 // The control that follows. A property's content is skipped whole, and the list goes on behind it.
+#[tactic(auto, using(crate::proofs::Turning::level_in, crate::proofs::Turning::property_turned, crate::proofs::Turning::closes), unfolding(crate::specs::Control::turn))]
 pub fn turn(act: Act, control: Control) -> Control
     requires { Few 4294967294 control.tally }
     ensures { (name : List ℕ) → control_of result ≡ turned act name control }
@@ -176,14 +167,9 @@ pub fn turn(act: Act, control: Control) -> Control
         Act::Open(k, empty) => opened(control, k, empty),
         Act::Close => closed(control),
         Act::OpenText(output) => going(control, Mode::Text, output),
-        Act::CloseText(_) => going(control, Mode::At, Output::Out),
+        Act::CloseText(_) | Act::CloseList => going(control, Mode::At, Output::Out),
         Act::OpenList(empty) => listed(control, empty),
-        Act::CloseList => going(control, Mode::At, Output::Out),
-        Act::Pass => control,
-        Act::Skip => control,
-        Act::ReadProperty(_) => control,
-        Act::Stop => control,
-        Act::Missing => control,
-        Act::Broken(_) => control,
+        Act::Pass | Act::Skip | Act::ReadProperty(_) | Act::Stop | Act::Missing | Act::Broken(_) =>
+            control,
     }
 }

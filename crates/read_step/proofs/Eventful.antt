@@ -1,4 +1,5 @@
 -- One event of the table, or its end: what the code does there is what the run does. Assumes nothing.
+use Rattle.std.specs.Prelude.{Some, None, Ok, Err}
 use Prim.Native.Nat.{ℕ, ◌+◌, ◌-◌, ◌≤◌, ◌<◌}
 use mathlib.Core.Path.{◌≡◌, refl, sym, ap, subst, ◌∙◌}
 use mathlib.Core.List.{List, [], ◌++◌}
@@ -27,11 +28,9 @@ use Rattle.read_again.proofs.of_read_machine.Skipping.{moved, act-passes, act-st
 use Rattle.read_again.specs.of_table_events.inside.Pieces.{is_piece}
 use Rattle.read_again.proofs.Since.{since-steps}
 use Rattle.read_step.specs.inside.Planned.{planned, name_in}
-use Rattle.read_step.specs.inside.Standing.{machine_of, run_on_of, in_skip, run_skip, Stands, refusal_at, Acted, Ended, Stepped}
+use Rattle.read_step.specs.inside.Standing.{Step, machine_of, run_on_of, in_skip, run_skip, Stands, refusal_at, Acted, Ended, Stepped}
 use Rattle.read_step.specs.inside.Promises.{StepsSkip}
 use Rattle.read_step.specs.declared.State.{State}
-use Rattle.read_step.specs.declared.Step.{Step}
-use Rattle.read_step.specs.declared.Step.TheVariants as way
 use Rattle.read_step.proofs.Running.{run-goes, run-goes_on, run-refuses, run_end}
 use Rattle.read_step.proofs.ByKind.{piece-event, begins, no-eof, tag-name, tag-plan, skip-inside, eof-ends, planned-fits}
 use Rattle.read_step.proofs.Tables.{event, event-acts, first-end, end-end}
@@ -67,7 +66,7 @@ module _ (rooms : Rooms) (events attributes source : List ℕ) (good : table_of 
   -- ---- one event inside the table
   steps : (words text scratch : List ℕ) (o : Outcome Machine) → leb (count_of events) i ≡ false → step rooms (event_at events attributes source i) s ≡ o
       → (r : Step) → Acted attributes source words text scratch st o r → Stepped rooms events attributes source words text scratch st s rest r
-  steps words text scratch o e q (way.Go t) a =
+  steps words text scratch o e q (Ok (Some t)) a =
       let h : i < count_of events = leb-false (count_of events) i e in
       let n : t.marks.event ≡ i + 1 = a.next in
       record {
@@ -78,8 +77,8 @@ module _ (rooms : Rooms) (events attributes source : List ℕ) (good : table_of 
         later = omega arith;
         within = omega arith;
       }
-  steps words text scratch o e q way.Stop a = absurd a
-  steps words text scratch o e q (way.Halt x) a =
+  steps words text scratch o e q (Ok None) a = absurd a
+  steps words text scratch o e q (Err x) a =
       record { placed = a.placed; same = run-refuses rooms events attributes source s i refl (leb-false (count_of events) i e) (refusal_at st x a.placed.name) (q ∙ a.same) }
 
   -- ---- pieces
@@ -140,13 +139,13 @@ module _ (rooms : Rooms) (events attributes source : List ℕ) (good : table_of 
       where
         ends : leb (count_of events) i ≡ true → (r : Step) → Acted attributes source words text scratch st (act rooms a first (attributes_from attributes source (end - first) first) s) r
             → Stepped rooms events attributes source words text scratch st s rest r
-        ends e (way.Go t) x =
+        ends e (Ok (Some t)) x =
             absurd (eof-ends rooms first (attributes_from attributes source (end - first) first) s (machine_of t x.content)
             st.control.mode (level_of st.control.level) (output_of st.control.output) st.control.seen st.control.closed
             (λ q. n (plan-end e ∙ q))
             (ap (λ (y : Act). act rooms y first (attributes_from attributes source (end - first) first) s) (sym (plan-end e)) ∙ x.same))
-        ends e way.Stop x = absurd x
-        ends e (way.Halt h) x = record { placed = x.placed; same = act-end e first end fq eq ∙ x.same }
+        ends e (Ok None) x = absurd x
+        ends e (Err h) x = record { placed = x.placed; same = act-end e first end fq eq ∙ x.same }
 
         go : (b : Bool) → leb (count_of events) i ≡ b → Stepped rooms events attributes source words text scratch st s rest r
         go true e = ends e r d

@@ -1,3 +1,4 @@
+pub mod Others
 pub mod Running
 pub mod Acting
 pub mod ByKind

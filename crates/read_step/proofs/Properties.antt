@@ -1,4 +1,5 @@
 -- A Start `property` is read as an Empty one, and then its content is skipped. Assumes nothing.
+use Rattle.std.specs.Prelude.{Some, None, Ok, Err}
 use Prim.Native.Nat.{ℕ, ◌+◌, ◌<◌}
 use mathlib.Core.Path.{◌≡◌, refl, sym, ap, subst, ◌∙◌}
 use mathlib.Core.Bool.{Bool, true, false, cond}
@@ -23,10 +24,8 @@ use Rattle.read_actions.specs.of_read_content.declared.Content.{Content as Coded
 use Rattle.read_actions.specs.of_read_content.inside.Holds.{Lists, is_list}
 use Rattle.read_again.specs.of_read_machine.Machine.{Machine, act, step}
 use Rattle.read_again.proofs.of_read_machine.Skipping.{moved, property-acts}
-use Rattle.read_step.specs.inside.Standing.{machine_of, run_on_of, run_skip, refusal_at, Refuses, Moved, Acted, Stepped}
+use Rattle.read_step.specs.inside.Standing.{Step, machine_of, run_on_of, run_skip, refusal_at, Refuses, Moved, Acted, Stepped}
 use Rattle.read_step.specs.inside.Promises.{PassesContent}
-use Rattle.read_step.specs.declared.Step.{Step}
-use Rattle.read_step.specs.declared.Step.TheVariants as way
 use Rattle.read_step.specs.declared.State.{State}
 use Rattle.read_again.proofs.Since.{since-steps}
 use Rattle.read_step.proofs.Running.{run-goes, run-refuses}
@@ -139,7 +138,7 @@ module _ (rooms : Rooms) (events attributes source : List ℕ) (st : State) (c :
     pub property-passes : (words text scratch : List ℕ) (read r : Step) (o : Outcome Machine) → is_list (mode_of st.control) ≡ true → o ≡ act rooms (read_property l true name) j xs s
         → Acted attributes source words text scratch st o read → PassesContent read i events source r
         → Stepped rooms events attributes source words text scratch st s (run_on_of rooms events attributes source s) r
-    property-passes words text scratch (way.Go u) r o list q a f =
+    property-passes words text scratch (Ok (Some u)) r o list q a f =
         let m : Moved attributes source words text scratch i o u = a in
         let n = m.next in
         let e = sym q ∙ m.same in
@@ -147,8 +146,8 @@ module _ (rooms : Rooms) (events attributes source : List ℕ) (st : State) (c :
         (f rooms attributes words text scratch m.content st s (omega arith) (omega arith) (property-path list u m.content e)
         (λ first x. since-steps events attributes source s first h rooms (moved (skipping (mode_of u.control) name 0) (i + 1) (machine_of u m.content))
         (property-steps list u m.content e m.next) refl x) m.stands)
-    property-passes words text scratch way.Stop r o list q a e = absurd a
-    property-passes words text scratch (way.Halt x) r o list q a e =
+    property-passes words text scratch (Ok None) r o list q a e = absurd a
+    property-passes words text scratch (Err x) r o list q a e =
         let f : Refuses st x o = a in
         subst (λ (y : Step). Stepped rooms events attributes source words text scratch st s (run_on_of rooms events attributes source s) y) (sym e)
         (record { placed = f.placed; same = property-halts (refusal_at st x f.placed.name) (sym q ∙ f.same) })

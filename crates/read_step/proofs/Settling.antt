@@ -1,4 +1,5 @@
 -- The code's act at an End that closes an element is the definition's. Assumes nothing.
+use Rattle.std.specs.Prelude.{Some, None, Ok, Err}
 use Prim.Native.Nat.{ℕ, ◌+◌, ◌≤◌, ◌<◌}
 use mathlib.Core.Path.{◌≡◌, refl, sym, ap, subst, ◌∙◌}
 use mathlib.Core.Bool.{Bool, true, false, cond, not, ◌&&◌}
@@ -25,11 +26,9 @@ use Rattle.read_actions.specs.of_read_state.declared.Act.TheVariants.{Pass, Skip
 use Rattle.read_actions.specs.of_read_state.declared.Control.{Control as CodedControl}
 use Rattle.read_again.specs.of_table_events.inside.Pieces.{is_piece}
 use Rattle.read_step.specs.inside.Planned.{is_close, closes, planned}
-use Rattle.read_step.specs.inside.Standing.{machine_of, Stands, Acted}
+use Rattle.read_step.specs.inside.Standing.{Step, machine_of, Stands, Acted}
 use Rattle.read_step.specs.inside.Promises.{Again}
 use Rattle.read_step.specs.declared.State.{State}
-use Rattle.read_step.specs.declared.Step.{Step}
-use Rattle.read_step.specs.declared.Step.TheVariants as way
 use Rattle.read_actions.specs.of_refusal.Refusal.{Outcome}
 use Rattle.read_actions.specs.of_read_element.inside.Refines.{Table}
 use Rattle.read_actions.specs.of_read_place.Marks.{Marks}
@@ -211,9 +210,9 @@ again-stands events source attributes first s k₀ k words text before after h e
 -- a step from there is one from here
 pub acted-here : (attributes source words text scratch : List ℕ) (st : State) (k : CodedContent) (o : Outcome Machine) (r : Step)
     → Acted attributes source words text scratch (record { control = st.control; marks = st.marks; content = k }) o r → Acted attributes source words text scratch st o r
-acted-here attributes source words text scratch st k o (way.Go t) x = x
-acted-here attributes source words text scratch st k o way.Stop x = x
-acted-here attributes source words text scratch st k o (way.Halt h) x =
+acted-here attributes source words text scratch st k o (Ok (Some t)) x = x
+acted-here attributes source words text scratch st k o (Ok None) x = x
+acted-here attributes source words text scratch st k o (Err h) x =
     record { placed = record { name = x.placed.name; room = x.placed.room; event = x.placed.event }; same = x.same }
 
 pub not-lost : (a : CodedAct) (k : CodedContent) {b l : Bool} → b ≡ is_close a → l ≡ not (eqb k.child k.description) → (b && l) ≡ false → a ≡ Close → k.child ≡ k.description

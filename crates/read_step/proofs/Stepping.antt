@@ -1,4 +1,5 @@
 -- One step of the code is one step of the machine. Assumes nothing.
+use Rattle.std.specs.Prelude.{Ok, Err}
 use Prim.Native.Nat.{ℕ, ◌+◌, ◌≤◌}
 use mathlib.Core.Path.{◌≡◌, refl, sym, ap, subst, ◌∙◌}
 use mathlib.Core.List.{List, []}
@@ -27,10 +28,8 @@ use Rattle.read_actions.proofs.of_read_place.Lasting.{event-kept, goes-onward, l
 use Rattle.read_again.proofs.of_read_path.Lengths.{mode-short, path-short}
 use Rattle.read_actions.specs.of_read_content.Content.{Content, gather, perform}
 use Rattle.read_actions.specs.of_read_element.inside.Refines.{went, stopped}
-use Rattle.read_actions.specs.of_read_content.inside.Holds.{Holds, Lists, Comes}
+use Rattle.read_actions.specs.of_read_content.inside.Holds.{Performed, Holds, Lists, Comes}
 use Rattle.read_actions.specs.of_read_content.declared.Content.{Content as CodedContent}
-use Rattle.read_actions.specs.of_read_content.declared.Performed.{Performed}
-use Rattle.read_actions.specs.of_read_content.declared.Performed.TheVariants.{To, Not}
 use Rattle.read_again.specs.of_read_machine.Machine.{Machine, act, step}
 use Rattle.read_step.specs.inside.Standing.{machine_of, Stands, Refuses, Moved, after}
 use Rattle.read_step.specs.declared.State.{State}
@@ -40,13 +39,13 @@ use Rattle.read_actions.proofs.of_read_content.Listing.{lists_at}
 -- ---- what an answer says of the outcome
 module _ {Q : CodedContent → Content → Type 0} {p : Place} {words text scratch attributes source : List ℕ} where
   pub comes-to : {o : Outcome Content} {r : Performed} (k : CodedContent) → Comes Q p words text scratch attributes source o r
-      → r ≡ To k → (c : Content) × (o ≡ accepted c) × Holds words text scratch attributes source k c × Q k c
+      → r ≡ Ok k → (c : Content) × (o ≡ accepted c) × Holds words text scratch attributes source k c × Q k c
   comes-to k (went {s = s} {c = d} (h, q)) e =
       let z : d ≡ k = cc in
       (s, refl, subst (λ (x : CodedContent). Holds words text scratch attributes source x s) z h, subst (λ (x : CodedContent). Q x s) z q)
   comes-to k stopped e = let z : ◌≡◌ {A = ℕ} 0 1 = cc in absurd (omega arith)
 
-  pub comes-not : {o : Outcome Content} {r : Performed} (f : Fault) → Comes Q p words text scratch attributes source o r → r ≡ Not f → o ≡ refused (fault_at p f)
+  pub comes-not : {o : Outcome Content} {r : Performed} (f : Fault) → Comes Q p words text scratch attributes source o r → r ≡ Err f → o ≡ refused (fault_at p f)
   comes-not f (went h) e = let z : ◌≡◌ {A = ℕ} 0 1 = cc in absurd (omega arith)
   comes-not f (stopped {f = g}) e = let z : g ≡ f = cc in ap (λ (x : Fault). refused (fault_at p x)) z
 
@@ -125,13 +124,13 @@ here st = record { path = mode_path (mode_of st.control) (marks_of st.marks); ev
 -- a piece that is gathered
 module _ (attributes source words text scratch scratch₀ : List ℕ) (rooms : Rooms) (k : PieceKind) (bytes : List ℕ) (st : State) (c : Content) (r : Performed) (g : gathers (mode_of st.control)
     ≡ true) (comes : Comes (Lists (mode_of st.control) (marks_of st.marks)) (here st) words text scratch attributes source (gather rooms (here st) (mode_of st.control) k bytes c) r) where
-  pub piece_goes : (m' : CodedMarks) (k' : CodedContent) → r ≡ To k' → marks_of m' ≡ go_to (st.marks.event + 1) (marks_of st.marks) → Stands attributes source words text scratch₀ st.content
+  pub piece_goes : (m' : CodedMarks) (k' : CodedContent) → r ≡ Ok k' → marks_of m' ≡ go_to (st.marks.event + 1) (marks_of st.marks) → Stands attributes source words text scratch₀ st.content
       (machine_of st c) → Moved attributes source words text scratch st.marks.event (step rooms (Piece k bytes) (machine_of st c)) (record { control = st.control; marks = m'; content = k' })
   piece_goes m' k' e q t =
       let x = comes-to k' comes e in
       piece-moved attributes source words text scratch words text scratch₀ st m' k' c x.0 q t x.2 x.3 (piece-joined rooms k bytes (machine_of st c) x.0 g x.1)
 
-  pub piece_halts : (why : Cause) (f : Fault) → r ≡ Not f → st.marks.event ≤ 65536
+  pub piece_halts : (why : Cause) (f : Fault) → r ≡ Err f → st.marks.event ≤ 65536
       → Refuses st (record { act = Broken why; event = st.marks.event; fault = f }) (step rooms (Piece k bytes) (machine_of st c))
   piece_halts why f e h =
       halts-here st (step rooms (Piece k bytes) (machine_of st c)) why f st.marks.event h (piece-refused rooms k bytes (machine_of st c) (fault_at (here st) f) g (comes-not f comes e))

@@ -8,7 +8,7 @@ use lib.ListN.{length}
 use lib.Dec.{leb, eqb}
 use Rattle.read_actions.specs.of_refusal.Refusal.{accepted}
 use Rattle.read_actions.specs.of_table.Table.{word, count_of, check_of, table_of}
-use Rattle.read_actions.specs.of_table.declared.Checked.TheVariants.{Good}
+use Rattle.std.specs.Prelude.{Ok}
 use Rattle.read_actions.specs.of_table.Event.{Attribute, kind_at, bytes_at, attributes_from, event_at}
 use Rattle.read_actions.proofs.of_table.Resolving.{attributes-none}
 use Rattle.read_actions.proofs.of_table.ValidTables.{ValidSizes, ValidEvent, good-sizes, good-event, same_check}
@@ -24,8 +24,8 @@ use Rattle.read_step.proofs.Acting.{act-none}
 use Rattle.read_step.proofs.ByKind.{other-steps}
 
 module _ (events attributes source : List ℕ) (good : table_of events attributes source ≡ accepted tt) where
-  checked : check_of events attributes source ≡ Good
-  checked = same_check (check_of events attributes source) Good good
+  checked : check_of events attributes source ≡ Ok tt
+  checked = same_check (check_of events attributes source) (Ok tt) good
 
   -- the sizes of a good table are in range: the bounds that the code's sums need
   pub sizes : ValidSizes (length events) (length attributes) (length source)

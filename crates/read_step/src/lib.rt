@@ -20,7 +20,7 @@ ghost use Rattle.read_again.specs.of_table_events.inside.Ranges.{first_at, end_a
 use read_actions::perform;
 use read_actions::the_names::tag_of;
 use read_actions::the_read_attribute::Range;
-use read_actions::the_read_content::{Content, Performed, no_content};
+use read_actions::the_read_content::{Content, no_content};
 use read_actions::the_read_fault::Fault;
 use read_actions::the_read_place::{Marks, marked, no_marks, onward};
 use read_actions::the_read_rules::{plan_eof, plan_tag};
@@ -32,9 +32,7 @@ pub use read_actions::{the_read_fault, the_table};
 use read_again::restored;
 use read_again::the_read_pieces::{gather, is_gathering};
 use read_again::the_read_scratch::is_lost;
-use read_again::the_table_events::{
-    Skipped, bytes_at, end_at, first_at, is_piece, kind_at, skip_from,
-};
+use read_again::the_table_events::{bytes_at, end_at, first_at, is_piece, kind_at, skip_from};
 pub use read_again::{the_read_path, the_read_scratch};
 
 #[derive(Clone, Copy)]
@@ -50,13 +48,6 @@ pub struct Halt {
     pub act: Act,
     pub event: usize,
     pub fault: Fault,
-}
-
-#[derive(Clone, Copy)]
-pub enum Step {
-    Go(State),
-    Stop,
-    Halt(Halt),
 }
 
 pub fn begin() -> State
@@ -76,62 +67,29 @@ pub fn begin() -> State
     }
 }
 
+#[tactic(auto, using(crate::proofs::Others::other_skip))]
 fn is_skip(act: Act) -> bool
     ensures { result ≡ is_skip act }
 {
-    match act {
-        Act::Skip => true,
-        Act::Pass => false,
-        Act::Open(_, _) => false,
-        Act::Close => false,
-        Act::OpenText(_) => false,
-        Act::CloseText(_) => false,
-        Act::OpenList(_) => false,
-        Act::CloseList => false,
-        Act::ReadProperty(_) => false,
-        Act::Stop => false,
-        Act::Missing => false,
-        Act::Broken(_) => false,
-    }
+    matches!(act, Act::Skip)
 }
 
 // At End `testsuites` (rule R6), or at Eof behind a closed report.
+#[tactic(auto, using(crate::proofs::Others::other_stop))]
 fn is_stop(act: Act) -> bool
     ensures { result ≡ is_stop act }
 {
-    match act {
-        Act::Stop => true,
-        Act::Pass => false,
-        Act::Skip => false,
-        Act::Open(_, _) => false,
-        Act::Close => false,
-        Act::OpenText(_) => false,
-        Act::CloseText(_) => false,
-        Act::OpenList(_) => false,
-        Act::CloseList => false,
-        Act::ReadProperty(_) => false,
-        Act::Missing => false,
-        Act::Broken(_) => false,
-    }
+    matches!(act, Act::Stop)
 }
 
 // A Start `property`: its content is skipped.
+#[tactic(auto, using(crate::proofs::Others::other_content))]
 fn has_content(act: Act) -> bool
     ensures { result ≡ has_content act }
 {
     match act {
         Act::ReadProperty(empty) => !empty,
-        Act::Stop => false,
-        Act::Pass => false,
-        Act::Skip => false,
-        Act::Open(_, _) => false,
-        Act::Close => false,
-        Act::OpenText(_) => false,
-        Act::CloseText(_) => false,
-        Act::OpenList(_) => false,
-        Act::CloseList => false,
-        Act::Missing => false,
-        Act::Broken(_) => false,
+        _ => false,
     }
 }
 
@@ -148,10 +106,10 @@ fn plan(control: Control, kind: u32, name: &[u8]) -> Act
 }
 
 // A refusal where reading stands, at this event and no attribute (rule F6).
-fn halt_at(event: usize, cause: Cause) -> Step
+fn halt_at(event: usize, cause: Cause) -> Result<Option<State>, Halt>
     ensures { result ≡ halt_at event cause }
 {
-    Step::Halt(Halt {
+    Err(Halt {
         act: Act::Broken(cause),
         event,
         fault: Fault {
@@ -163,58 +121,43 @@ fn halt_at(event: usize, cause: Cause) -> Step
 }
 
 // A piece of text, which is read where text is gathered (rule R20).
-fn step_piece(st: State, kind: u32, bytes: &[u8], scratch: &mut [u8]) -> Step
+fn step_piece(st: State, kind: u32, bytes: &[u8], scratch: &mut [u8]) -> Result<Option<State>, Halt>
     requires { Bounded st (length scratch.old) }
     ensures { StepsPiece st kind bytes.now scratch.old scratch.new result }
 {
-    let control = st.control;
-    let marks = st.marks;
-    let content = st.content;
-    let mode = control.mode;
-    let i = marks.event;
-    let marks = onward(marks, i + 1);
-    if !is_gathering(control) {
-        return Step::Go(State {
-            control,
-            marks,
-            content,
-        });
+    let i = st.marks.event;
+    let marks = onward(st.marks, i + 1);
+    if !is_gathering(st.control) {
+        return Ok(Some(State { marks, ..st }));
     }
-    let gathered = gather(mode, kind, bytes, content, scratch);
+    let gathered = gather(st.control.mode, kind, bytes, st.content, scratch);
     match gathered {
-        Performed::To(content) => Step::Go(State {
-            control,
+        Ok(content) => Ok(Some(State {
             marks,
             content,
+            ..st
+        })),
+        Err(fault) => Err(Halt {
+            act: Act::Broken(fault.cause),
+            event: i,
+            fault,
         }),
-        Performed::Not(fault) => {
-            let cause = fault.cause;
-            Step::Halt(Halt {
-                act: Act::Broken(cause),
-                event: i,
-                fault,
-            })
-        }
     }
 }
 
 // The element that event `start` begins, passed over (rule R11).
-fn step_skip(st: State, start: usize, events: &[u32], source: &[u8]) -> Step
+fn step_skip(st: State, start: usize, events: &[u32], source: &[u8]) -> Result<Option<State>, Halt>
     requires start_bound { start < count_of events.now }
     requires events_bound { count_of events.now ≤ 65536 }
     ensures { StepsSkip st start events.now source.now result }
 {
-    let control = st.control;
-    let marks = st.marks;
-    let content = st.content;
     let skipped = skip_from(events, source, start);
     match skipped {
-        Skipped::Next(i) => Step::Go(State {
-            control,
-            marks: onward(marks, i),
-            content,
-        }),
-        Skipped::Refused(cause, at) => halt_at(at, cause),
+        Ok(i) => Ok(Some(State {
+            marks: onward(st.marks, i),
+            ..st
+        })),
+        Err((cause, at)) => halt_at(at, cause),
     }
 }
 
@@ -226,13 +169,10 @@ fn behind(act: Act, st: State, content: Content) -> State
     ensures by_index { (name : List ℕ) (c : deed.Content) → machine_of result c ≡ after (act_of st.control name act) st.content.used (machine_of st c) }
     ensures content_value { result.content ≡ content }
 {
-    let control = st.control;
-    let marks = st.marks;
-    let before = st.content;
-    let i = marks.event;
+    let marks = marked(act, st.control, st.content.used, st.marks);
     State {
-        control: turn(act, control),
-        marks: onward(marked(act, control, before.used, marks), i + 1),
+        control: turn(act, st.control),
+        marks: onward(marks, st.marks.event + 1),
         content,
     }
 }
@@ -247,7 +187,7 @@ fn step_act(
     records: &mut [u32],
     text: &mut [u8],
     scratch: &[u8],
-) -> Step
+) -> Result<Option<State>, Halt>
     requires control_value { apt act (mode_of st.control) ≡ true }
     requires act_value { is_step act ≡ true }
     requires spans { Spans (length attributes.now) range.first range.end }
@@ -256,36 +196,21 @@ fn step_act(
     ensures { StepsAct act st range (tagged attributes.now source.now)
         (areas records.old text.old) (areas records.new text.new) scratch.now result }
 {
-    let control = st.control;
-    let marks = st.marks;
-    let content = st.content;
-    let event = marks.event;
+    let event = st.marks.event;
     let performed = perform(
-        act, range, control, marks, content, attributes, source, records, text, scratch,
+        act, range, st.control, st.marks, st.content, attributes, source, records, text, scratch,
     );
     match performed {
-        Performed::To(next) => Step::Go(behind(act, st, next)),
-        Performed::Not(fault) => Step::Halt(Halt { act, event, fault }),
+        Ok(next) => Ok(Some(behind(act, st, next))),
+        Err(fault) => Err(Halt { act, event, fault }),
     }
 }
 
+#[tactic(auto, using(crate::proofs::Others::other_close))]
 fn is_close(act: Act) -> bool
     ensures { result ≡ is_close act }
 {
-    match act {
-        Act::Close => true,
-        Act::Stop => false,
-        Act::Pass => false,
-        Act::Skip => false,
-        Act::Open(_, _) => false,
-        Act::OpenText(_) => false,
-        Act::CloseText(_) => false,
-        Act::OpenList(_) => false,
-        Act::CloseList => false,
-        Act::ReadProperty(_) => false,
-        Act::Missing => false,
-        Act::Broken(_) => false,
-    }
+    matches!(act, Act::Close)
 }
 
 // The content with its description in scratch, where an act closes the element: a child's text may have been put over it.
@@ -320,7 +245,7 @@ fn step_ready(
     records: &mut [u32],
     text: &mut [u8],
     scratch: &mut [u8],
-) -> Step
+) -> Result<Option<State>, Halt>
     requires control_value { apt act (mode_of st.control) ≡ true }
     requires act_value { is_step act ≡ true }
     requires known { Known events.now }
@@ -331,14 +256,8 @@ fn step_ready(
     ensures { StepsReady act st first range (given events.now attributes.now source.now)
         (lent records.old text.old scratch.old) (lent records.new text.new scratch.new) result }
 {
-    let control = st.control;
-    let marks = st.marks;
     let content = settled(act, st.content, first, events, source, scratch);
-    let ready = State {
-        control,
-        marks,
-        content,
-    };
+    let ready = State { content, ..st };
     step_act(
         act, ready, range, attributes, source, records, text, scratch,
     )
@@ -355,15 +274,19 @@ fn plain(act: Act) -> Act
 }
 
 // Behind a Start `property` that was read so: its content is skipped.
-fn pass_content(read: Step, start: usize, events: &[u32], source: &[u8]) -> Step
+fn pass_content(
+    read: Result<Option<State>, Halt>,
+    start: usize,
+    events: &[u32],
+    source: &[u8],
+) -> Result<Option<State>, Halt>
     requires start_bound { start < count_of events.now }
     requires events_bound { count_of events.now ≤ 65536 }
     ensures { PassesContent read start events.now source.now result }
 {
-    match read {
-        Step::Go(next) => step_skip(next, start, events, source),
-        Step::Stop => Step::Stop,
-        Step::Halt(halt) => Step::Halt(halt),
+    match read? {
+        Some(next) => step_skip(next, start, events, source),
+        None => Ok(None),
     }
 }
 
@@ -378,7 +301,7 @@ fn range_at(events: &[u32], i: usize) -> Range
     }
 }
 
-// One event, with what is skipped behind it; `first` is the event of the open description's first piece.
+// One event, with what is skipped behind it: the state behind it, none at the end; `first` is the event of the open description's first piece.
 pub fn step_event(
     st: State,
     first: usize,
@@ -388,7 +311,7 @@ pub fn step_event(
     records: &mut [u32],
     text: &mut [u8],
     scratch: &mut [u8],
-) -> Step
+) -> Result<Option<State>, Halt>
     requires source_value { table_of events.now attributes.now source.now ≡ why.accepted tt }
     requires event_bound { st.marks.event ≤ count_of events.now }
     requires first_bound { first ≤ count_of events.now }
@@ -397,8 +320,7 @@ pub fn step_event(
     ensures { StepsEvent st first (given events.now attributes.now source.now)
         (lent records.old text.old scratch.old) (lent records.new text.new scratch.new) result }
 {
-    let marks = st.marks;
-    let i = marks.event;
+    let i = st.marks.event;
     let kind = kind_at(events, i);
     let bytes = bytes_at(events, source, i);
     if is_piece(kind) {
@@ -409,7 +331,7 @@ pub fn step_event(
         return step_skip(st, i, events, source);
     }
     if is_stop(act) {
-        return Step::Stop;
+        return Ok(None);
     }
     let range = range_at(events, i);
     let read = step_ready(

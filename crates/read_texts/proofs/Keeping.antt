@@ -9,10 +9,9 @@ use lib.ListN.{length, take, drop, length-append, length-drop, take-append-drop}
 use lib.Seq.{take_at, drop_at}
 use borrow.Author.Tests.{le-leb, lt-leb}
 use borrow.Rule.Slice.PartMut.{put_mid}
+use Rattle.std.specs.Prelude.{Ok, Option, Some, None}
 use Rattle.read_content.specs.of_area.Answer.{Answer, gives}
 use Rattle.read_content.specs.of_area.Area.{zeros, stored_answer, placing, laid}
-use Rattle.read_content.specs.of_area.declared.Stored.{Stored}
-use Rattle.read_content.specs.of_area.declared.Stored.TheVariants.{Put, Full}
 use Rattle.read_content.proofs.of_area.Laying.{laid-zeros, put-fits, full-over}
 use Rattle.read_content.proofs.of_area.Parts.{rest_part, rest_back}
 use Rattle.read_content.specs.of_utf8.Characters.{joined}
@@ -27,11 +26,9 @@ use Rattle.read_content.specs.of_read_state.Control.{Level, top, suite, case, st
 use Rattle.read_content.specs.of_read_place.Marks.{Marks}
 use Rattle.read_content.specs.Content.{Content, record_of_it, word_of, bit_of, takes, kept, with_texts, cleaned, keeping, is_empty, describing, outputting}
 use Rattle.read_content.specs.of_read_element.inside.Refines.{went}
-use Rattle.read_content.specs.inside.Holds.{in_record, Holds, Sized, Opened, Lists, Comes, Performs}
+use Rattle.read_content.specs.inside.Holds.{Performed, in_record, Holds, Sized, Opened, Lists, Comes, Performs}
 use Rattle.read_texts.specs.inside.Stored.{stored_in, stored_end, kept_words, kept_to}
 use Rattle.read_content.specs.declared.Content.{Content as CodedContent}
-use Rattle.read_content.specs.declared.Performed.{Performed}
-use Rattle.read_content.specs.declared.Performed.TheVariants.{To}
 use Rattle.read_content.proofs.Records.{kept-local, kept-size, kept-kind, joined-changed, changed-size, changed-whole, changed-kind}
 use Rattle.read_content.proofs.Listing.{dead-kinds, opened-kinds}
 use Rattle.read_content.proofs.Refusing.{halts}
@@ -56,9 +53,9 @@ module _ (l : List ℕ) (fill : ℕ) (g clean : List ℕ) (e : clean ≡ trimmed
       ∙ ap (λ (x : List ℕ). take fill l ++ x) (h ∙ ap (λ (x : List ℕ). laid x (filtered clean)) (rest_part l fill) ∙ ap (λ (x : List ℕ). laid (drop fill l) (filtered x)) e)
 
 -- where the texts end then
-pub end_fits : (stored : Stored) (n fill : ℕ) (v : List ℕ) → fill ≤ n → stored_answer cause.TextFull stored ≡ placing cause.TextFull (n - fill) v → stored_end fill stored ≤ n
-end_fits (Put m) n fill v h e = let p = put-fits cause.TextFull (n - fill) v m e in let q = p.0 in let r = p.1 in omega arith
-end_fits Full n fill v h e = h
+pub end_fits : (stored : Option ℕ) (n fill : ℕ) (v : List ℕ) → fill ≤ n → stored_answer cause.TextFull stored ≡ placing cause.TextFull (n - fill) v → stored_end fill stored ≤ n
+end_fits (Some m) n fill v h e = let p = put-fits cause.TextFull (n - fill) v m e in let q = p.0 in let r = p.1 in omega arith
+end_fits None n fill v h e = h
 
 -- ---- the record
 module _ (i o k start n : ℕ) (w : List ℕ) where
@@ -186,14 +183,14 @@ module _ {words text scratch attributes source : List ℕ} {c : CodedContent} {s
           description = s.description;
           gathered = s.gathered;
         }) ≡ d
-        → (stored : Stored) → stored_answer cause.TextFull stored ≡ placing cause.TextFull (length text - c.fill) (cleaned v) → words' ≡ kept_words stored taken i o k c.fill words
+        → (stored : Option ℕ) → stored_answer cause.TextFull stored ≡ placing cause.TextFull (length text - c.fill) (cleaned v) → words' ≡ kept_words stored taken i o k c.fill words
         → text' ≡ take c.fill text ++ laid (drop c.fill text) (cleaned v) → ((n : ℕ) → Q (stored_in n dn bn c) (grown d))
         → Comes Q p words' text' scratch attributes source (keeping rooms p taken i o k v s >>= λ x. accepted (with_texts x (f x) [])) (kept_to stored dn bn c)
-    kept-comes Q d dn bn {words'} {text'} wi be sc dl fd (Put n) e w t q =
-        subst (λ (x : Outcome Content). Comes Q p words' text' scratch attributes source x (To (stored_in n dn bn c)))
+    kept-comes Q d dn bn {words'} {text'} wi be sc dl fd (Some n) e w t q =
+        subst (λ (x : Outcome Content). Comes Q p words' text' scratch attributes source x (Ok (stored_in n dn bn c)))
         (sym (made (fitted e) ∙ ap (λ (x : List ℕ). accepted (grown x)) fd))
         (went (kept-holds e d dn bn wi be sc dl w t, q n))
-    kept-comes Q d dn bn wi be sc dl fd Full e w t q = halts p TextFull pa (short (full-over cause.TextFull (length text - c.fill) (cleaned v) e)) refl
+    kept-comes Q d dn bn wi be sc dl fd None e w t q = halts p TextFull pa (short (full-over cause.TextFull (length text - c.fill) (cleaned v) e)) refl
 
 -- ---- the two texts
 empty-true : (l : List ℕ) → length l ≡ 0 → is_empty l ≡ true
@@ -225,7 +222,7 @@ module _ {words text scratch attributes source : List ℕ} {c : CodedContent} {s
     {rooms : Rooms} (sz : Sized rooms (length words) (length text) (length scratch)) (p : Place) (pa : p.attribute ≡ nowhere) (m : Marks) where
   -- a description that trimming leaves empty is missing (rule X11)
   pub none-described : {clean : List ℕ} → c.child ≡ c.description → Lists (at status) m c s
-      → clean ≡ trimmed (take c.description scratch) → length clean ≡ 0 → {r : Performed} → r ≡ kept_to (Put 0) 0 0 c
+      → clean ≡ trimmed (take c.description scratch) → length clean ≡ 0 → {r : Performed} → r ≡ kept_to (Some 0) 0 0 c
       → Performs (at case) m p words text scratch attributes source (describing rooms p m s) r
   unfolding describing
   none-described {clean} lo li e z {r} q =
@@ -254,7 +251,7 @@ module _ {words text scratch attributes source : List ℕ} {c : CodedContent} {s
 
   pub some-described : {clean words' text' : List ℕ} (i : ℕ) → m.status_at_of ≡ i → c.child ≡ c.description
       → Lists (at status) m c s → clean ≡ trimmed (take c.description scratch) → (length clean ≡ 0 → ⊥)
-      → (stored : Stored) → stored_answer cause.TextFull stored ≡ placing cause.TextFull (length text - c.fill) (cleaned (take c.description scratch))
+      → (stored : Option ℕ) → stored_answer cause.TextFull stored ≡ placing cause.TextFull (length text - c.fill) (cleaned (take c.description scratch))
       → words' ≡ kept_words stored true i 20 6 c.fill words
       → text' ≡ take c.fill text ++ laid (drop c.fill text) (cleaned (take c.description scratch)) → {r : Performed} → r ≡ kept_to stored 0 0 c
       → Performs (at case) m p words' text' scratch attributes source (describing rooms p m s) r
@@ -272,7 +269,7 @@ module _ {words text scratch attributes source : List ℕ} {c : CodedContent} {s
   -- an output is kept, an empty one too (rule X12)
   pub output-kept : {words' text' : List ℕ} (l : Level) (o : Output) {taken : Bool} {i w k : ℕ} {g : List ℕ} → Opened l m c s → taken ≡ takes l m → i ≡ record_of_it l m → w ≡ word_of o → k ≡ bit_of o
       → g ≡ take (c.child + c.gathered - c.child) (drop c.child scratch)
-      → (stored : Stored) → stored_answer cause.TextFull stored ≡ placing cause.TextFull (length text - c.fill) (cleaned g) → words' ≡ kept_words stored taken i w k c.fill words
+      → (stored : Option ℕ) → stored_answer cause.TextFull stored ≡ placing cause.TextFull (length text - c.fill) (cleaned g) → words' ≡ kept_words stored taken i w k c.fill words
       → text' ≡ take c.fill text ++ laid (drop c.fill text) (cleaned g) → {r : Performed} → r ≡ kept_to stored c.description c.child c
       → Performs (at l) m p words' text' scratch attributes source (outputting rooms p l o m s) r
   unfolding outputting

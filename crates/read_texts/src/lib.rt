@@ -12,7 +12,7 @@ ghost use Rattle.read_content.specs.of_read_element.inside.Refines.{areas};
 ghost use Rattle.read_content.specs.of_refusal.declared.Cause.TheVariants as cause;
 
 pub use read_content as the_read_content;
-use read_content::the_area::Stored;
+use read_content::the_read_fault::Fault;
 use read_content::the_read_place::Marks;
 use read_content::the_read_state::{Level, Output};
 use read_content::the_refusal::Cause;
@@ -24,7 +24,7 @@ pub use read_content::{
     the_names, the_read_attribute, the_read_fault, the_read_place, the_read_rules, the_read_state,
     the_refusal, the_table, the_tree_status,
 };
-use read_content::{Content, Performed, is_taken, refused};
+use read_content::{Content, is_taken, refused};
 
 fn word_of_output(output: Output) -> usize
     ensures { result ≡ word_of (output_of output) }
@@ -67,7 +67,7 @@ fn keep_text(
     fill: usize,
     records: &mut [u32],
     text: &mut [u8],
-) -> Stored
+) -> Option<usize>
     requires i_in_bounds { i * 32 ≤ length records.old }
     requires fill_in_bounds { fill ≤ length text.old }
     requires text_len_bound { length text.old ≤ 16777216 }
@@ -76,34 +76,33 @@ fn keep_text(
     ensures records_after { records.new ≡ kept_words result taken i o k fill records.old }
 {
     let clean = trim(gathered);
-    let stored = store(&mut text[fill..], clean);
-    match stored {
-        Stored::Put(n) => {
-            if taken {
-                let start = i * 32;
-                put_text(&mut records[start..], o, k, fill as u32, n as u32);
-            }
-            Stored::Put(n)
-        }
-        Stored::Full => Stored::Full,
+    let n = store(&mut text[fill..], clean)?;
+    if taken {
+        let start = i * 32;
+        put_text(&mut records[start..], o, k, fill as u32, n as u32);
     }
+    Some(n)
 }
 
-fn kept_text(stored: Stored, content: Content, description: usize, child: usize) -> Performed
+fn kept_text(
+    stored: Option<usize>,
+    content: Content,
+    description: usize,
+    child: usize,
+) -> Result<Content, Fault>
     requires { stored_end content.fill stored ≤ 16777216 }
     ensures { result ≡ kept_to stored description child content }
 {
-    match stored {
-        Stored::Put(n) => {
-            let mut c = content;
-            c.fill = c.fill + n;
-            c.description = description;
-            c.child = child;
-            c.gathered = 0;
-            Performed::To(c)
-        }
-        Stored::Full => refused(Cause::TextFull),
-    }
+    let Some(n) = stored else {
+        return refused(Cause::TextFull);
+    };
+    Ok(Content {
+        fill: content.fill + n,
+        description,
+        child,
+        gathered: 0,
+        ..content
+    })
 }
 
 // The open description, which no child's text was put over. One that trimming leaves empty is missing (rule X11), and nothing is
@@ -114,7 +113,7 @@ pub fn close_status(
     records: &mut [u32],
     text: &mut [u8],
     scratch: &[u8],
-) -> Performed
+) -> Result<Content, Fault>
     requires i_in_bounds { i * 32 ≤ length records.old }
     requires fill_in_bounds { content.fill ≤ length text.old }
     requires text_len_bound { length text.old ≤ 16777216 }
@@ -122,11 +121,9 @@ pub fn close_status(
     ensures { ClosesStatus i content
         (areas records.old text.old) (areas records.new text.new) scratch.now result }
 {
-    let n = content.description;
-    let fill = content.fill;
-    let description = &scratch[..n];
+    let description = &scratch[..content.description];
     if trim(description).len() == 0 {
-        return kept_text(Stored::Put(0), content, 0, 0);
+        return kept_text(Some(0), content, 0, 0);
     }
     let stored = keep_text(
         true,
@@ -134,7 +131,7 @@ pub fn close_status(
         word::DESCRIPTION,
         bit::DESCRIPTION,
         description,
-        fill,
+        content.fill,
         records,
         text,
     );
@@ -150,7 +147,7 @@ pub fn close_text(
     records: &mut [u32],
     text: &mut [u8],
     scratch: &[u8],
-) -> Performed
+) -> Result<Content, Fault>
     requires marks_in_bounds { record_of_it (level_of level) (marks_of marks) * 32 ≤ length records.old }
     requires fill_in_bounds { content.fill ≤ length text.old }
     requires text_len_bound { length text.old ≤ 16777216 }
@@ -160,17 +157,15 @@ pub fn close_text(
 {
     let from = content.child;
     let to = from + content.gathered;
-    let description = content.description;
-    let fill = content.fill;
     let stored = keep_text(
         is_taken(level, marks),
         record_of(level, marks),
         word_of_output(output),
         bit_of_output(output),
         &scratch[from..to],
-        fill,
+        content.fill,
         records,
         text,
     );
-    kept_text(stored, content, description, from)
+    kept_text(stored, content, content.description, from)
 }

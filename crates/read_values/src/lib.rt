@@ -13,26 +13,20 @@ ghost use Rattle.read_element.specs.Attributes.{keep};
 ghost use Rattle.read_element.specs.inside.Held.{unmoved, moved, putting};
 ghost use Rattle.read_values.specs.inside.Answers.{took_answer};
 
-use read_element::the_integer::{Integer, integer_of};
+use read_element::the_integer::integer_of;
 pub use read_element::the_read_keys;
-use read_element::the_text::kept::Kept;
+use read_element::the_text::kept::Unkept;
 use read_element::the_text::value::store_value;
-use read_element::the_time::read::{Time, read_time};
+use read_element::the_time::read::read_time;
+pub use tree_values::the_refusal;
 use tree_values::the_refusal::Cause;
-use tree_values::the_timestamp::{Timestamp, timestamp_of};
+use tree_values::the_timestamp::timestamp_of;
 use tree_values::the_tree_put::{put_count, put_text};
 use tree_values::the_tree_record::put_bit;
-use tree_values::the_uuids::{Uuid, uuid_of};
+use tree_values::the_uuids::uuid_of;
 use tree_values::{put_moment, put_time, put_uuid};
 
-// Where the texts end now, or why the value is refused.
-#[derive(Clone, Copy)]
-pub enum Took {
-    To(usize),
-    Not(Cause),
-}
-
-// By rules X1 and M4.
+// Each function answers where the texts end now, or why the value is refused. By rules X1 and M4.
 pub fn read_text(
     value: &[u8],
     o: usize,
@@ -40,100 +34,86 @@ pub fn read_text(
     fill: usize,
     words: &mut [u32],
     text: &mut [u8],
-) -> Took
+) -> Result<usize, Cause>
     requires fill_in_bounds { fill ≤ length text.old }
     requires text_len_bound { length text.old ≤ 16777216 }
     ensures result_value { took_answer result ≡ moved fill (value_of (length text.old - fill) value.now) }
     ensures words_after { words.new ≡ putting (put_text o k fill) (value_of (length text.old - fill) value.now) words.old }
     ensures text_after { text.new ≡ take fill text.old ++ value_laid (drop fill text.old) value.now }
 {
-    let kept = store_value(&mut text[fill..], value);
-    match kept {
-        Kept::Put(n) => {
+    match store_value(&mut text[fill..], value) {
+        Ok(n) => {
             put_text(words, o, k, fill as u32, n as u32);
-            Took::To(fill + n)
+            Ok(fill + n)
         }
-        Kept::Full => Took::Not(Cause::TextFull),
-        Kept::NotUtf8 => Took::Not(Cause::NotUtf8),
-        Kept::BadReference => Took::Not(Cause::BadReference),
-        Kept::UnknownName => Took::Not(Cause::UnknownEntity),
+        Err(Unkept::Full) => Err(Cause::TextFull),
+        Err(Unkept::NotUtf8) => Err(Cause::NotUtf8),
+        Err(Unkept::BadReference) => Err(Cause::BadReference),
+        Err(Unkept::UnknownName) => Err(Cause::UnknownEntity),
     }
 }
 
-pub fn read_count(value: &[u8], o: usize, fill: usize, words: &mut [u32]) -> Took
+pub fn read_count(value: &[u8], o: usize, fill: usize, words: &mut [u32]) -> Result<usize, Cause>
     ensures result_value { took_answer result ≡ unmoved fill (integer_of value.now) }
     ensures words_after { words.new ≡ putting (put_count_of o) (integer_of value.now) words.old }
 {
-    let read = integer_of(value);
-    match read {
-        Integer::Is(n) => {
-            put_count(words, o, n);
-            Took::To(fill)
-        }
-        Integer::NotUtf8 => Took::Not(Cause::NotUtf8),
-        Integer::Bad => Took::Not(Cause::BadInteger),
-    }
+    let n = integer_of(value)?;
+    put_count(words, o, n);
+    Ok(fill)
 }
 
-pub fn read_number(value: &[u8], o: usize, k: u32, fill: usize, words: &mut [u32]) -> Took
+pub fn read_number(
+    value: &[u8],
+    o: usize,
+    k: u32,
+    fill: usize,
+    words: &mut [u32],
+) -> Result<usize, Cause>
     ensures result_value { took_answer result ≡ unmoved fill (integer_of value.now) }
     ensures words_after { words.new ≡ putting (λ n x. marked k (put_count_of o n x)) (integer_of value.now) words.old }
 {
-    let read = read_count(value, o, fill, words);
-    match read {
-        Took::To(to) => {
-            put_bit(words, k);
-            Took::To(to)
-        }
-        Took::Not(cause) => Took::Not(cause),
-    }
+    let to = read_count(value, o, fill, words)?;
+    put_bit(words, k);
+    Ok(to)
 }
 
-pub fn read_uuid(value: &[u8], fill: usize, words: &mut [u32]) -> Took
+pub fn read_uuid(value: &[u8], fill: usize, words: &mut [u32]) -> Result<usize, Cause>
     ensures result_value { took_answer result ≡ unmoved fill (uuid_of value.now) }
     ensures words_after { words.new ≡ putting put_uuid (uuid_of value.now) words.old }
 {
-    let read = uuid_of(value);
-    match read {
-        Uuid::Is(w) => {
-            put_uuid(words, w);
-            Took::To(fill)
-        }
-        Uuid::NotUtf8 => Took::Not(Cause::NotUtf8),
-        Uuid::Bad => Took::Not(Cause::BadUuid),
-    }
+    let w = uuid_of(value)?;
+    put_uuid(words, w);
+    Ok(fill)
 }
 
-pub fn read_timestamp(value: &[u8], kept: bool, fill: usize, words: &mut [u32]) -> Took
+pub fn read_timestamp(
+    value: &[u8],
+    kept: bool,
+    fill: usize,
+    words: &mut [u32],
+) -> Result<usize, Cause>
     ensures result_value { took_answer result ≡ unmoved fill (timestamp_of value.now) }
     ensures words_after { words.new ≡ putting (λ m x. keep kept (put_moment m x) x) (timestamp_of value.now) words.old }
 {
-    let read = timestamp_of(value);
-    match read {
-        Timestamp::Is(m) => {
-            if kept {
-                put_moment(words, m);
-            }
-            Took::To(fill)
-        }
-        Timestamp::NotUtf8 => Took::Not(Cause::NotUtf8),
-        Timestamp::Bad => Took::Not(Cause::BadTimestamp),
+    let m = timestamp_of(value)?;
+    if kept {
+        put_moment(words, m);
     }
+    Ok(fill)
 }
 
-pub fn read_duration(value: &[u8], kept: bool, fill: usize, words: &mut [u32]) -> Took
+pub fn read_duration(
+    value: &[u8],
+    kept: bool,
+    fill: usize,
+    words: &mut [u32],
+) -> Result<usize, Cause>
     ensures result_value { took_answer result ≡ unmoved fill (time_of value.now) }
     ensures words_after { words.new ≡ putting (λ t x. keep kept (put_time t x) x) (time_of value.now) words.old }
 {
-    let read = read_time(value);
-    match read {
-        Time::Is(seconds, nanos) => {
-            if kept {
-                put_time(words, seconds, nanos);
-            }
-            Took::To(fill)
-        }
-        Time::NotUtf8 => Took::Not(Cause::NotUtf8),
-        Time::Bad => Took::Not(Cause::BadTime),
+    let (seconds, nanos) = read_time(value)?;
+    if kept {
+        put_time(words, seconds, nanos);
     }
+    Ok(fill)
 }

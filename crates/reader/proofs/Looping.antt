@@ -1,4 +1,5 @@
 -- The loop over events, and what it leaves. Assumes nothing.
+use Rattle.std.specs.Prelude.{Some, None, Ok, Err}
 use Prim.Native.Nat.{ℕ, ◌-◌, ◌≤◌, ◌<◌}
 use mathlib.Core.Path.{◌≡◌, refl, sym, ap, subst, ◌∙◌}
 use mathlib.Core.List.{List, [], ◌∷◌}
@@ -16,12 +17,10 @@ use Rattle.read_step.specs.of_read_content.Content.{Content, is_empty}
 use Rattle.read_step.specs.of_read_content.inside.Holds.{Sized}
 use Rattle.read_step.specs.of_read_machine.Machine.{Machine, run, begin}
 use Rattle.read_step.specs.of_read_again.inside.Since.{Since, first_of}
-use Rattle.read_step.specs.inside.Standing.{machine_of, run_on_of, Stands, Lent, Refuses, Went, Ended, Stepped, beginning, nothing}
+use Rattle.read_step.specs.inside.Standing.{Step, machine_of, run_on_of, Stands, Lent, Refuses, Went, Ended, Stepped, beginning, nothing}
 use Rattle.read_step.specs.inside.Promises.{given, lent, StandingSince}
 use Rattle.read_step.specs.declared.State.{State}
 use Rattle.read_step.specs.declared.Halt.{Halt}
-use Rattle.read_step.specs.declared.Step.{Step}
-use Rattle.read_step.specs.declared.Step.TheVariants as way
 use Rattle.read_step.proofs.Running.{run-start}
 use Rattle.read_step.proofs.Beginning.{begin-stands}
 use Rattle.reader.proofs.Areas.{lent-sized}
@@ -110,10 +109,10 @@ module _ {events attributes source words₀ text₀ scratch₀ words text scratc
 
   module _ (words' text' scratch' : List ℕ) (r : Step)
       (stepped : Stepped rooms events attributes source words' text' scratch' st here (run_on_of rooms events attributes source here) r) where
-    pub loop-went : (t : State) → r ≡ way.Go t → Went rooms events attributes source words' text' scratch' st.marks.event here (run_on_of rooms events attributes source here) t
+    pub loop-went : (t : State) → r ≡ Ok (Some t) → Went rooms events attributes source words' text' scratch' st.marks.event here (run_on_of rooms events attributes source here) t
     loop-went t e = subst (Stepped rooms events attributes source words' text' scratch' st here (run_on_of rooms events attributes source here)) e stepped
 
-    pub loop-goes : (t : State) → r ≡ way.Go t → length words' ≡ length words → length text' ≡ length text
+    pub loop-goes : (t : State) → r ≡ Ok (Some t) → length words' ≡ length words → length text' ≡ length text
         → length scratch' ≡ length scratch → Looping events attributes source words₀ text₀ scratch₀ words' text' scratch' t first
     loop-goes t e a b d =
         let w = loop-went t e in
@@ -129,16 +128,16 @@ module _ {events attributes source words₀ text₀ scratch₀ words text scratc
           of-scratch = d ∙ loop.of-scratch;
         }
 
-    pub loop-less : (t : State) → r ≡ way.Go t → count_of events - t.marks.event < count_of events - st.marks.event
+    pub loop-less : (t : State) → r ≡ Ok (Some t) → count_of events - t.marks.event < count_of events - st.marks.event
     loop-less t e = let w = loop-went t e in let a = w.later in let b = w.within in omega arith
 
-    pub loop-ends : r ≡ way.Stop → Ended words' text' (run rooms (resolve events attributes source) begin)
+    pub loop-ends : r ≡ Ok None → Ended words' text' (run rooms (resolve events attributes source) begin)
     loop-ends e =
         let w : Ended words' text' (run_on_of rooms events attributes source here) =
         subst (Stepped rooms events attributes source words' text' scratch' st here (run_on_of rooms events attributes source here)) e stepped in
         record { machine = w.machine; same = loop.same ∙ w.same; room = w.room; left = w.left; records = w.records; texts = w.texts }
 
-    pub loop_halts : (h : Halt) → r ≡ way.Halt h → Refuses st h (run rooms (resolve events attributes source) begin)
+    pub loop_halts : (h : Halt) → r ≡ Err h → Refuses st h (run rooms (resolve events attributes source) begin)
     loop_halts h e =
         let w : Refuses st h (run_on_of rooms events attributes source here) =
         subst (Stepped rooms events attributes source words' text' scratch' st here (run_on_of rooms events attributes source here)) e stepped in

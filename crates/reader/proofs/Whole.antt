@@ -1,4 +1,5 @@
 -- The whole call: the table, the run within the areas, and what is left in them. Assumes nothing.
+use Rattle.std.specs.Prelude.{Ok, Err}
 use Prim.Native.Nat.{ℕ, ◌+◌, ◌-◌, ◌*◌, ◌/◌, ◌≤◌, min}
 use mathlib.Core.Path.{◌≡◌, sym, ap, subst, ◌∙◌}
 use mathlib.Core.List.{List, [], ◌++◌}
@@ -28,9 +29,7 @@ use Rattle.read_step.specs.declared.State.{State}
 use Rattle.read_step.specs.declared.Halt.{Halt}
 use Rattle.reader.specs.declared.Reading.{Reading}
 use Rattle.reader.specs.Answer.{answer_of, Leaves}
-use Rattle.reader.specs.inside.Ran.{Ran}
-use Rattle.reader.specs.declared.Run.{Run}
-use Rattle.reader.specs.declared.Run.TheVariants as ran
+use Rattle.reader.specs.inside.Ran.{Run, Ran}
 use Rattle.reader.proofs.Areas.{rooms-cut, lent_cut, part-back, laid-behind}
 
 -- ---- the path of a refusal
@@ -50,16 +49,16 @@ bad-there event attribute p e = ap (refusing BadTable event attribute) e
 
 -- ---- the way out of the run
 module _ (words text : List ℕ) (o : Outcome Machine) (r : Run) (e : Ran words text o r) where
-  pub ran-done : r ≡ ran.Done → Ended words text o
+  pub ran-done : r ≡ Ok tt → Ended words text o
   ran-done q = subst (Ran words text o) q e
 
-  pub ran-halted : (st : State) (h : Halt) → r ≡ ran.Halted st h → Refuses st h o
+  pub ran-halted : (st : State) (h : Halt) → r ≡ Err (st, h) → Refuses st h o
   ran-halted st h q = subst (Ran words text o) q e
 
 -- ---- the parts of longer areas
 pub ran-whole : (words text : List ℕ) → words ≡ zeros (length words) → text ≡ zeros (length text) → (k n : ℕ) → k ≤ length words → n ≤ length text
     → (words' text' : List ℕ) (o : Outcome Machine) (r : Run) → Ran words' text' o r → Ran (words' ++ drop k words) (text' ++ drop n text) o r
-ran-whole words text w t k n a b words' text' o ran.Done e =
+ran-whole words text w t k n a b words' text' o (Ok t₀) e =
     record {
       machine = e.machine;
       same = e.same;
@@ -68,7 +67,7 @@ ran-whole words text w t k n a b words' text' o ran.Done e =
       records = part-back words w k a (joined e.machine.content.records) words' e.room e.records;
       texts = part-back text t n b e.machine.content.texts text' e.left e.texts;
     }
-ran-whole words text w t k n a b words' text' o (ran.Halted st h) e = e
+ran-whole words text w t k n a b words' text' o (Err x) e = e
 
 -- of longer areas only so much is used (rule M1)
 module _ (words text scratch : List ℕ) (k n m : ℕ) (kq : k ≡ min (length words / 32) 65536) (nq : n ≡ min (length text) 16777216) (mq : m ≡ min (length scratch) 16777216) where

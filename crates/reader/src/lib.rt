@@ -21,20 +21,14 @@ use clearing::{clear_all, clear_tree};
 use read_step::the_read_fault::within;
 use read_step::the_read_path::path_of;
 use read_step::the_read_scratch::first_of;
-use read_step::the_table::{Checked, check_table};
-use read_step::{Halt, State, Step, begin, step_event};
+use read_step::the_table::check_table;
+use read_step::{Halt, State, begin, step_event};
 
 // The answer. Of an accepted table the refusal is that of `no_refusal`.
 #[derive(Clone, Copy)]
 pub struct Reading {
     pub verdict: Verdict,
     pub refusal: Refusal,
-}
-
-#[derive(Clone, Copy)]
-enum Run {
-    Done,
-    Halted(State, Halt),
 }
 
 // Event by event, up to the first refusal (rule F2).
@@ -45,7 +39,7 @@ fn run_events(
     records: &mut [u32],
     text: &mut [u8],
     scratch: &mut [u8],
-) -> Run
+) -> Result<(), (State, Halt)>
     requires source_value { table_of events.now attributes.now source.now ≡ why.accepted tt }
     requires lent { Lent (length records.old) (length text.old) (length scratch.old) }
     requires records_value { records.old ≡ zeros (length records.old) }
@@ -55,16 +49,18 @@ fn run_events(
 {
     let mut st = begin();
     let mut first = 0;
+    // loop: each turn reads an event and what is skipped behind it.
     loop {
-        let marks = st.marks;
-        first = first_of(first, st.content, marks.event);
+        first = first_of(first, st.content, st.marks.event);
         let next = step_event(
             st, first, events, attributes, source, records, text, scratch,
         );
         match next {
-            Step::Go(s) => st = s,
-            Step::Stop => break Run::Done,
-            Step::Halt(h) => break Run::Halted(st, h),
+            Ok(behind) => match behind {
+                Some(s) => st = s,
+                None => break Ok(()),
+            },
+            Err(h) => break Err((st, h)),
         }
     }
 }
@@ -97,13 +93,9 @@ fn halted(st: State, h: Halt) -> Reading
     requires { Placed st h }
     ensures { ((placed : Placed st h) → result ≡ answer_of (why.refused (refusal_at st h placed.name))) }
 {
-    let control = st.control;
-    let marks = st.marks;
-    let act = h.act;
     let fault = h.fault;
-    let cause = fault.cause;
-    let path = within(path_of(act, control, marks), fault.key);
-    refusing(cause, path, h.event as u32, fault.attribute)
+    let path = within(path_of(h.act, st.control, st.marks), fault.key);
+    refusing(fault.cause, path, h.event as u32, fault.attribute)
 }
 
 // Of longer areas only so much is used (rule M1).
@@ -114,7 +106,7 @@ fn run_within(
     records: &mut [u32],
     text: &mut [u8],
     scratch: &mut [u8],
-) -> Run
+) -> Result<(), (State, Halt)>
     requires source_value { table_of events.now attributes.now source.now ≡ why.accepted tt }
     requires records_value { records.old ≡ zeros (length records.old) }
     requires text_value { text.old ≡ zeros (length text.old) }
@@ -151,11 +143,11 @@ fn read_good(
 {
     let ran = run_within(events, attributes, source, records, text, scratch);
     match ran {
-        Run::Done => {
+        Ok(()) => {
             clear(scratch);
             accepting()
         }
-        Run::Halted(st, h) => {
+        Err((st, h)) => {
             clear_all(records, text, scratch);
             halted(st, h)
         }
@@ -184,8 +176,8 @@ pub fn read(
     clear_tree(records, text);
     let checked = check_table(events, attributes, source);
     match checked {
-        Checked::Good => read_good(events, attributes, source, records, text, scratch),
-        Checked::Bad(event, attribute) => {
+        Ok(()) => read_good(events, attributes, source, records, text, scratch),
+        Err((event, attribute)) => {
             clear(scratch);
             refusing(Cause::BadTable, Path::new(), event, attribute)
         }

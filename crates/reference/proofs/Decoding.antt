@@ -12,8 +12,7 @@ use Rattle.names.proofs.of_area.Lists.{drop-next}
 use Rattle.digits.specs.of_utf8.Characters.{encode}
 use Rattle.digits.proofs.of_utf8.Encoding.{encode-most}
 use Rattle.reference.specs.Reference.{is_named, char_of, ref_at, is_ref, code_of, bytes_of, refs_ok, decoded, no_ampersand}
-use Rattle.reference.specs.declared.Ref.{Ref}
-use Rattle.reference.specs.declared.Ref.TheVariants.{Is, Not}
+use Rattle.std.specs.Prelude.{Option, Some, None}
 use Rattle.reference.proofs.Behind.{ref-found, ref-fits, ref-name}
 
 -- bytes that are passed over
@@ -54,7 +53,7 @@ module _ (s : List ℕ) (i : ℕ) where
       decoded-step = rw (drop-next s i h, eq-eqb (get_or s i 0) 0x26 a) refl
 
       -- an & that begins no reference
-      module _ (r : ref_at (drop (i + 1) s) ≡ Not) where
+      module _ (r : ref_at (drop (i + 1) s) ≡ None) where
         pub refs-bad : refs_ok (drop i s) 0 ≡ false
         refs-bad = refs-step ∙ rw r refl
 
@@ -62,14 +61,14 @@ module _ (s : List ℕ) (i : ℕ) where
         decoded-bad = decoded-step ∙ rw r refl
 
       -- a reference
-      module _ (c w : ℕ) (r : ref_at (drop (i + 1) s) ≡ Is c w) where
+      module _ (c w : ℕ) (r : ref_at (drop (i + 1) s) ≡ Some (c, w)) where
         pub refs-good : refs_ok (drop i s) 0 ≡ refs_ok (drop (i + 1 + w) s) 0
         refs-good = refs-step ∙ rw r (refs-drop (drop (i + 1) s) w ∙ ap (λ (l : List ℕ). refs_ok l 0) (drop-drop w (i + 1) s))
 
         pub decoded-good : decoded (drop i s) 0 ≡ encode c ++ decoded (drop (i + 1 + w) s) 0
         decoded-good = decoded-step ∙ rw r (ap (λ (l : List ℕ). encode c ++ l) (decoded-drop (drop (i + 1) s) w ∙ ap (λ (l : List ℕ). decoded l 0) (drop-drop w (i + 1) s)))
 
-    pub good-fits : (c w : ℕ) → ref_at (drop (i + 1) s) ≡ Is c w → i + 1 + w ≤ length s
+    pub good-fits : (c w : ℕ) → ref_at (drop (i + 1) s) ≡ Some (c, w) → i + 1 + w ≤ length s
     good-fits c w r =
         omega (arith, (ref-found (drop (i + 1) s) c w r).fits, length-drop (i + 1) s)
 
@@ -105,9 +104,9 @@ encode-length : (s : List ℕ) → length (encode (code_of (ref_at s))) ≤ suc 
 unfolding encode
 encode-length s = go (ref_at s) refl
   where
-    go : (r : Ref) → ref_at s ≡ r → length (encode (code_of r)) ≤ suc (bytes_of r)
-    go (Is c w) q = omega (arith, encode-most c, (ref-found s c w q).least)
-    go Not q = lit≤ tt
+    go : (r : Option (ℕ × ℕ)) → ref_at s ≡ r → length (encode (code_of r)) ≤ suc (bytes_of r)
+    go (Some (c, w)) q = omega (arith, encode-most c, (ref-found s c w q).least)
+    go None q = lit≤ tt
 
 decoded-within : (s : List ℕ) (k : ℕ) → length (decoded s k) ≤ length (drop k s)
 decoded-within [] zero = omega arith

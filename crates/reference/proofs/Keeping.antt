@@ -15,8 +15,7 @@ use Rattle.digits.proofs.of_utf8.Runs.{ok-zero, low-least}
 use Rattle.digits.proofs.of_utf8.Rules.{ascii-on, ascii_append}
 use Rattle.digits.proofs.of_utf8.Encoding.{utf8_encode}
 use Rattle.reference.specs.Reference.{semicolon, ref_at, code_of, bytes_of, decoded}
-use Rattle.reference.specs.declared.Ref.{Ref}
-use Rattle.reference.specs.declared.Ref.TheVariants.{Is, Not}
+use Rattle.std.specs.Prelude.{Option, Some, None}
 use Rattle.reference.proofs.Letters.{named-ascii}
 use Rattle.reference.proofs.Behind.{ref-cut}
 
@@ -24,14 +23,14 @@ use Rattle.reference.proofs.Behind.{ref-cut}
 ref-on : (s : List ℕ) → utf8 s ≡ utf8 (drop (bytes_of (ref_at s)) s)
 ref-on s = go (ref_at s) refl
   where
-    go : (r : Ref) → ref_at s ≡ r → utf8 s ≡ utf8 (drop (bytes_of r) s)
-    go (Is c w) q =
+    go : (r : Option (ℕ × ℕ)) → ref_at s ≡ r → utf8 s ≡ utf8 (drop (bytes_of r) s)
+    go (Some (c, w)) q =
         let k = ref-cut s c w q in
         let e = semicolon s in
         let z : get_or s e 0 < 0x80 = omega (arith, at_first 0x3B s k.fits) in
         ap utf8 (split_at s e 0 k.fits) ∙ ascii_append (take e s) (get_or s e 0 ∷ drop (suc e) s) (named-ascii (take e s) k.named)
         ∙ ascii-on (get_or s e 0) (drop (suc e) s) z ∙ ap (λ (n : ℕ). utf8 (drop n s)) (sym k.bytes)
-    go Not q = refl
+    go None q = refl
 
 ok-decoded : (s : List ℕ) (k n lo hi : ℕ) → 0x27 ≤ lo → ok (drop k s) n lo hi ≡ true → ok (decoded s k) n lo hi ≡ true
 ok-decoded [] zero n lo hi h e = e

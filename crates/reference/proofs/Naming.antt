@@ -10,7 +10,7 @@ use lib.Dec.{eqb}
 use lib.ListN.{length, drop, get_or}
 use Rattle.names.specs.of_area.Answer.{Answer, gives, refuses}
 use Rattle.digits.specs.Digits.{is_number, number_in}
-use Rattle.digits.specs.declared.Number.TheVariants.{Is, Not}
+use Rattle.std.specs.Prelude.{Some, None}
 use Rattle.digits.proofs.Numbers.{is-number, not-number, number-empty}
 use Rattle.names.specs.Names.{code_in, cut}
 use Rattle.names.proofs.NameLaws.{code-most}
@@ -99,10 +99,10 @@ module _ (name : List ℕ) where
       go (b ∷ []) h = number-empty 10 0x10FFFF [] (omega arith)
       go (b ∷ d ∷ l) h = absurd (omega arith)
 
-  pub char-not : Not ≡ number_in (base name) 0x10FFFF (digits_in name) → refuses cause.BadReference ≡ cond (is_char_ref name) (gives (number name)) (refuses cause.BadReference)
+  pub char-not : None ≡ number_in (base name) 0x10FFFF (digits_in name) → refuses cause.BadReference ≡ cond (is_char_ref name) (gives (number name)) (refuses cause.BadReference)
   char-not e = none (is_char_ref name) (no_number (not-number (base name) 0x10FFFF (digits_in name) e))
 
-  module _ (v : ℕ) (e : Is v ≡ number_in (base name) 0x10FFFF (digits_in name)) where
+  module _ (v : ℕ) (e : Some v ≡ number_in (base name) 0x10FFFF (digits_in name)) where
     is : (is_number (base name) 0x10FFFF (digits_in name) ≡ true) × (v ≡ number name)
     unfolding number
     is = is-number (base name) 0x10FFFF (digits_in name) v e

@@ -1,18 +1,12 @@
 -- References (XML 1.0, fifth edition, sections 2.2, 4.1 and 4.6), what a value with references stands for, and what refuses a Ref
 -- event's name (rules X3 to X7). Definitions only.
-use Rattle.std.specs.Prelude.{ℕ, zero, suc, ◌-◌, List, [], ◌∷◌, ◌++◌, Bool, true, false, cond, ◌&&◌, ◌||◌, not, length, take, drop, get_or, ltb, leb, eqb}
+use Rattle.std.specs.Prelude.{ℕ, zero, suc, ◌-◌, List, [], ◌∷◌, ◌++◌, Bool, true, false, cond, ◌&&◌, ◌||◌, not, length, take, drop, get_or, ltb, leb, eqb, Option, Some, None}
 use Rattle.names.specs.of_area.Answer.{Answer, gives, refuses}
 use Rattle.names.specs.of_area.Area.{first_at}
 use Rattle.digits.specs.of_utf8.Characters.{encode}
 use Rattle.digits.specs.Digits.{value, is_number}
 use Rattle.names.specs.Bytes.{bytes}
 use Rattle.names.specs.Names.{code_in}
-use Rattle.reference.specs.declared.Entity.{Entity}
-use Rattle.reference.specs.declared.Entity.TheVariants as of-entity
-use Rattle.reference.specs.declared.Named.{Named}
-use Rattle.reference.specs.declared.Named.TheVariants as of-name
-use Rattle.reference.specs.declared.Ref.{Ref}
-use Rattle.reference.specs.declared.Ref.TheVariants.{Is, Not}
 use Rattle.names.specs.of_refusal.declared.Cause.{Cause}
 use Rattle.names.specs.of_refusal.declared.Cause.TheVariants as cause
 
@@ -35,9 +29,9 @@ is_entity name = ltb 0 (code_in entities name)
 unfoldable pub entity_char : List ℕ → ℕ
 entity_char name = get_or entity_chars (code_in entities name - 1) 0
 
-abbrev pub entity_answer : Entity → Answer ℕ
-entity_answer (of-entity.Is c) = gives c
-entity_answer of-entity.Unknown = refuses cause.UnknownEntity
+abbrev pub entity_answer : Option ℕ → Answer ℕ
+entity_answer (Some c) = gives c
+entity_answer None = refuses cause.UnknownEntity
 
 -- one of the five names (rule X3)
 abbrev pub entity_of : List ℕ → Answer ℕ
@@ -69,9 +63,9 @@ is_named name = is_entity name || is_char_ref name
 abbrev pub char_of : List ℕ → ℕ
 char_of name = cond (is_entity name) (entity_char name) (number name)
 
-abbrev pub named_answer : Named → Answer ℕ
-named_answer (of-name.Is c) = gives c
-named_answer of-name.Not = refuses cause.BadReference
+abbrev pub named_answer : Option ℕ → Answer ℕ
+named_answer (Some c) = gives c
+named_answer None = refuses cause.BadReference
 
 -- one of the five names, or the number of a Char (rules X3 and X4), else 10
 abbrev pub named : List ℕ → Answer ℕ
@@ -86,20 +80,20 @@ abbrev pub semicolon : List ℕ → ℕ
 semicolon s = first_at 0x3B s
 
 -- the reference behind an ampersand: its character, and how many bytes it takes there, with its semicolon (rule X3)
-unfoldable pub ref_at : List ℕ → Ref
-ref_at s = cond (ltb (semicolon s) (length s) && is_named (take (semicolon s) s)) (Is (char_of (take (semicolon s) s)) (suc (semicolon s))) Not
+unfoldable pub ref_at : List ℕ → Option (ℕ × ℕ)
+ref_at s = cond (ltb (semicolon s) (length s) && is_named (take (semicolon s) s)) (Some (char_of (take (semicolon s) s), suc (semicolon s))) None
 
-abbrev pub is_ref : Ref → Bool
-is_ref (Is c w) = true
-is_ref Not = false
+abbrev pub is_ref : Option (ℕ × ℕ) → Bool
+is_ref (Some (c, w)) = true
+is_ref None = false
 
-abbrev pub code_of : Ref → ℕ
-code_of (Is c w) = c
-code_of Not = 0
+abbrev pub code_of : Option (ℕ × ℕ) → ℕ
+code_of (Some (c, w)) = c
+code_of None = 0
 
-abbrev pub bytes_of : Ref → ℕ
-bytes_of (Is c w) = w
-bytes_of Not = 0
+abbrev pub bytes_of : Option (ℕ × ℕ) → ℕ
+bytes_of (Some (c, w)) = w
+bytes_of None = 0
 
 -- every ampersand of s without its first k bytes begins a reference (rule X5)
 abbrev pub refs_ok : List ℕ → ℕ → Bool

@@ -7,31 +7,10 @@ ghost use Rattle.digits.specs.Digits.{number_in};
 ghost use Rattle.reference.specs.Reference.{xml_char, entity_answer, entity_of, base, digits_in, number, is_char_ref, named_answer, named, ref_at, refs_ok};
 ghost use Rattle.names.specs.of_refusal.declared.Cause.TheVariants as cause;
 
-use digits::Number;
 pub use names as the_names;
 
-// The character of one of the five names.
-#[derive(Clone, Copy)]
-pub enum Entity {
-    Is(u8),
-    Unknown,
-}
-
-// The character that the name of a reference stands for.
-#[derive(Clone, Copy)]
-pub enum Named {
-    Is(u32),
-    Not,
-}
-
-// A character, and how many bytes behind the ampersand refer to it, with the semicolon.
-#[derive(Clone, Copy)]
-pub enum Ref {
-    Is(u32, usize),
-    Not,
-}
-
 // By rule X4.
+#[tactic(auto, unfolding(crate::specs::Reference::xml_char))]
 fn is_xml_char(c: u64) -> bool
     ensures { result ≡ xml_char c }
 {
@@ -43,20 +22,20 @@ fn is_xml_char(c: u64) -> bool
         | ((0x10000 <= c) & (c <= 0x10ffff))
 }
 
-// One of the five names (rule X3).
-fn entity_of(name: &[u8]) -> Entity
+// The character of one of the five names (rule X3).
+fn entity_of(name: &[u8]) -> Option<u8>
     ensures { entity_answer result ≡ entity_of name.now }
 {
     let chars: [u8; 5] = [0x26, 0x3c, 0x3e, 0x27, 0x22];
     let k = names::code_in(b"ampltgtaposquot", b"\x03\x02\x02\x04\x04", name);
     if k == 0 {
-        return Entity::Unknown;
+        return None;
     }
-    Entity::Is(chars[k - 1])
+    Some(chars[k - 1])
 }
 
 // The number of a character reference.
-fn number_of(name: &[u8]) -> Number
+fn number_of(name: &[u8]) -> Option<u64>
     requires { 2 ≤ length name.now }
     ensures { result ≡ number_in (base name.now) 0x10FFFF (digits_in name.now) }
 {
@@ -67,55 +46,43 @@ fn number_of(name: &[u8]) -> Number
 }
 
 // By rule X4.
-fn char_ref_of(name: &[u8]) -> Named
+fn char_ref_of(name: &[u8]) -> Option<u32>
     ensures { named_answer result ≡ cond (is_char_ref name.now) (gives (number name.now)) (refuses cause.BadReference) }
 {
     if name.len() < 2 {
-        return Named::Not;
+        return None;
     }
     if name[0] != 0x23 {
-        return Named::Not;
+        return None;
     }
-    let n = number_of(name);
-    let Number::Is(v) = n else {
-        return Named::Not;
-    };
+    let v = number_of(name)?;
     if is_xml_char(v) {
-        return Named::Is(v as u32);
+        return Some(v as u32);
     }
-    Named::Not
+    None
 }
 
-fn wide(x: u8) -> u32
-    ensures { result ≡ x }
-{
-    x as u32
-}
-
-// A name between & and ; in a value, or of a Ref event.
-pub fn named_by(name: &[u8]) -> Named
+// The character that a name between & and ; in a value, or of a Ref event, stands for.
+pub fn named_by(name: &[u8]) -> Option<u32>
     ensures { named_answer result ≡ named name.now }
 {
-    let e = entity_of(name);
-    match e {
-        Entity::Is(c) => Named::Is(wide(c)),
-        Entity::Unknown => char_ref_of(name),
+    match entity_of(name) {
+        Some(c) => Some(c as u32),
+        None => char_ref_of(name),
     }
 }
 
-// The reference that s, which stands behind an ampersand, begins with (rule X3).
-pub fn ref_at(s: &[u8]) -> Ref
+// The reference that s, which stands behind an ampersand, begins with (rule X3): its character, and how many bytes it takes there, with
+// its semicolon.
+pub fn ref_at(s: &[u8]) -> Option<(u32, usize)>
     ensures { result ≡ ref_at s.now }
 {
     let e = names::the_area::first_at(s, 0x3b);
     if s.len() <= e {
-        return Ref::Not;
+        return None;
     }
-    let n = named_by(&s[..e]);
-    let Named::Is(c) = n else {
-        return Ref::Not;
-    };
-    Ref::Is(c, e + 1)
+    let c = named_by(&s[..e])?;
+    Some((c, e + 1))
 }
 
 // Whether every ampersand of s begins a reference (rule X5). A reference is passed over whole, and the first ampersand that begins
@@ -123,13 +90,13 @@ pub fn ref_at(s: &[u8]) -> Ref
 pub fn refs_ok(s: &[u8]) -> bool
     ensures { result ≡ refs_ok s.now 0 }
 {
+    // while: a turn passes a whole reference.
     let mut i = 0;
     while i < s.len() {
         let b = s[i];
         i += 1;
         if b == 0x26 {
-            let r = ref_at(&s[i..]);
-            let Ref::Is(_, w) = r else {
+            let Some((_, w)) = ref_at(&s[i..]) else {
                 return false;
             };
             i += w;

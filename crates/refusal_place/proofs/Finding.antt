@@ -1,6 +1,6 @@
 -- The byte of a refusal, in the words of the code. Assumes nothing.
 use Prim.Native.Nat.{ℕ, suc, ◌+◌, ◌*◌, ◌-◌, ◌≤◌, ◌<◌}
-use mathlib.Core.Path.{◌≡◌, refl, sym, ap, ◌∙◌}
+use mathlib.Core.Path.{◌≡◌, sym, ap, ◌∙◌}
 use mathlib.Core.List.{List}
 use mathlib.Core.Bool.{Bool, true, false, cond, not, ◌&&◌}
 use native.Mathlib.Omega.{arith}
@@ -8,25 +8,7 @@ use borrow.Author.Tests.{le-leb, lt-leb, eq-eqb, ne_eqb}
 use lib.Dec.{leb, eqb}
 use lib.ListN.{get_or}
 use Rattle.table.specs.Table.{word, count_of}
-use Rattle.refusal_place.specs.Place.{entry_byte, attribute_byte, event_byte, root_from, root_byte, byte_of}
-
--- ---- an entry
-module _ (t : List ℕ) (i outside l empty k : ℕ) where
-  pub entry_past : count_of t ≤ i → outside ≡ entry_byte t i outside l empty k
-  entry_past h = sym (ap (λ (b : Bool). cond b outside (cond (eqb (word t i l) 0) empty (word t i k))) (le-leb (count_of t) i h))
-
-  module _ (h : i < count_of t) (w : ℕ) (e : w ≡ word t i l) where
-    by_length : (b : Bool) → eqb w 0 ≡ b → entry_byte t i outside l empty k ≡ cond b empty (word t i k)
-    by_length b q =
-        ap (λ (c : Bool). cond c outside (cond (eqb (word t i l) 0) empty (word t i k))) (lt-leb (count_of t) i h)
-        ∙ ap (λ (n : ℕ). cond (eqb n 0) empty (word t i k)) (sym e)
-        ∙ ap (λ (c : Bool). cond c empty (word t i k)) q
-
-    pub entry-empty : w ≡ 0 → (n : ℕ) → n ≡ empty → n ≡ entry_byte t i outside l empty k
-    entry-empty z n q = q ∙ sym (by_length true (eq-eqb w 0 z))
-
-    pub entry-full : (w ≡ 0 → ⊥) → (n : ℕ) → n ≡ word t i k → n ≡ entry_byte t i outside l empty k
-    entry-full z n q = q ∙ sym (by_length false (ne_eqb w 0 z))
+use Rattle.refusal_place.specs.Place.{attribute_byte, event_byte, root_from, root_byte, byte_of}
 
 -- ---- the root element
 -- no Start and no Empty stands before event i

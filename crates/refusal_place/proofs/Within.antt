@@ -5,19 +5,19 @@ use mathlib.Core.List.{List}
 use mathlib.Core.Bool.{Bool, true, false, cond, not, ◌&&◌}
 use mathlib.Core.Logic.{◌⊎◌, inl, inr}
 use native.Mathlib.Omega.{arith}
-use borrow.Author.Tests.{leb-true, leb-false, eqb-true, eqb-false}
+use borrow.Author.Tests.{leb-true, leb-false, eqb-false}
 use lib.Dec.{leb, eqb}
 use lib.ListN.{length}
 use Rattle.table.specs.Table.{word, count_of, check_of}
-use Rattle.table.specs.declared.Checked.TheVariants.{Good}
-use Rattle.table.proofs.ValidTables.{ValidAttribute, ValidEvent, good-event}
+use Rattle.std.specs.Prelude.{Ok}
+use Rattle.table.proofs.ValidTables.{good-event}
 use Rattle.refusal_place.specs.Place.{attribute_byte, event_byte, root_from, root_byte, byte_of, Named, InSource}
 
 -- none, or not behind n bytes
 abbrev Upto : ℕ → ℕ → Type 0
 Upto n b = (b ≡ 4294967295) ⊎ (b ≤ n)
 
-module _ (events attributes source : List ℕ) (good : check_of events attributes source ≡ Good) where
+module _ (events attributes source : List ℕ) (good : check_of events attributes source ≡ Ok tt) where
   start-in : (i : ℕ) → i < count_of events → word events i 1 ≤ length source
   start-in i h = let z = (good-event events attributes source good i h).bytes in omega arith
 

@@ -1,9 +1,8 @@
 -- The byte of a table's source where a refusal arose (rule F14). Definitions only.
-use Rattle.std.specs.Prelude.{ℕ, zero, suc, ◌+◌, ◌≤◌, ◌<◌, ◌≡◌, List, Bool, cond, not, ◌&&◌, ◌⊎◌, leb, eqb, length}
+use Rattle.std.specs.Prelude.{ℕ, zero, suc, ◌+◌, ◌≤◌, ◌<◌, ◌≡◌, List, Bool, cond, not, ◌&&◌, ◌⊎◌, leb, eqb, length, Ok}
 use Rattle.table.specs.of_refusal.Refusal.{nowhere}
 use Rattle.table.specs.Kinds as kind
 use Rattle.table.specs.Table.{word, count_of, check_of}
-use Rattle.table.specs.declared.Checked.TheVariants.{Good}
 
 -- word k of entry i; where word l of it is 0, or there is no such entry, what stands for it
 abbrev pub entry_byte : List ℕ → ℕ → ℕ → ℕ → ℕ → ℕ → ℕ
@@ -39,5 +38,5 @@ Named events event attribute =
 
 -- in a table that refusal 11 lets pass the byte is one of the source, or its end
 pub record InSource : Type 0 where
-  pub byte : (missing : Bool) (event attribute : ℕ) (events attributes source : List ℕ) → check_of events attributes source ≡ Good → Named events event attribute →
+  pub byte : (missing : Bool) (event attribute : ℕ) (events attributes source : List ℕ) → check_of events attributes source ≡ Ok tt → Named events event attribute →
       (byte_of missing event attribute events attributes (length source) ≡ nowhere) ⊎ (byte_of missing event attribute events attributes (length source) ≤ length source)

@@ -4,14 +4,13 @@ use mathlib.Core.Path.{◌≡◌, refl, sym, ap, ◌∙◌}
 use mathlib.Core.List.{List}
 use mathlib.Core.Bool.{Bool, true, false}
 use lib.Dec.{eqb, ltb}
+use Rattle.std.specs.Prelude.{Option, Some, None}
 use Rattle.writer.specs.of_refusal.Refusal.{refused, late, no_refusal}
 use Rattle.writer.specs.of_refusal.declared.Cause.TheVariants as cause
 use Rattle.writer.specs.of_refusal.declared.Refusal.{Refusal}
 use Rattle.writer.specs.of_refusal.declared.Verdict.TheVariants.{Accepted}
 use Rattle.writer.specs.of_area.Answer.{Answer, gives, refuses}
 use Rattle.writer.specs.of_area.Area.{zeros}
-use Rattle.writer.specs.of_area.declared.Stored.{Stored}
-use Rattle.writer.specs.of_area.declared.Stored.TheVariants.{Put, Full}
 use Rattle.writer.specs.of_table.Event.{Event}
 use Rattle.writer.specs.of_write_report.Written.{written}
 use Rattle.writer.specs.of_write_table.Laid.{items_of, fits}
@@ -81,7 +80,7 @@ module _ (o : Order) (e a b : ℕ) where
           all-put = p.same ∙ ap (λ (k : Kept). put_all k (items_of es)) start
 
           -- the table was put
-          pub whole-put : {f : Refusal} (n : ℕ) → f ≡ no_refusal → s.mark ≡ Put n
+          pub whole-put : {f : Refusal} (n : ℕ) → f ≡ no_refusal → s.mark ≡ Some n
               → Whole (record { verdict = Accepted; events = s.events; attributes = s.attributes; bytes = n; refusal = f }) s.event_area s.attribute_area s.byte_area
           unfolding ordered_table
           whole-put {f} n r q = go (eqb s.form 0) refl
@@ -92,8 +91,8 @@ module _ (o : Order) (e a b : ℕ) where
               text : Spelling
               text = record { form = s.form; level = s.level; bytes = n; byte_area = s.byte_area }
 
-              held_by : held s ≡ held_by_of (Put n) s
-              held_by = ap (λ (m : Stored). held_by_of m s) q
+              held_by : held s ≡ held_by_of (Some n) s
+              held_by = ap (λ (m : Option ℕ). held_by_of m s) q
 
               whole : (h : Held) → held s ≡ some h
                   → Whole (record { verdict = Accepted; events = h.events; attributes = h.attributes; bytes = h.bytes; refusal = f }) h.event_area h.attribute_area h.byte_area
@@ -107,9 +106,9 @@ module _ (o : Order) (e a b : ℕ) where
               go false y = absurd (never-xml (fresh e a b) (items_of es) text (sym all-put ∙ held_by ∙ rw y refl))
 
           -- 16
-          pub short-put : {r : Writing} {ev' at' by' : List ℕ} → s.mark ≡ Full → r ≡ writing_from (refused (late cause.OutputFull)) → ev' ≡ zeros e → at' ≡ zeros a → by' ≡ zeros b
+          pub short-put : {r : Writing} {ev' at' by' : List ℕ} → s.mark ≡ None → r ≡ writing_from (refused (late cause.OutputFull)) → ev' ≡ zeros e → at' ≡ zeros a → by' ≡ zeros b
               → Whole r ev' at' by'
           unfolding ordered_table
           short-put q t u v w =
-              let n : held s ≡ none = ap (λ (m : Stored). held_by_of m s) q in
+              let n : held s ≡ none = ap (λ (m : Option ℕ). held_by_of m s) q in
               whole_from t (short (none-fits es e a b (sym all-put ∙ n))) u v w

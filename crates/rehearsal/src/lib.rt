@@ -16,7 +16,6 @@ ghost use Rattle.writer.specs.of_refusal.declared.Cause.TheVariants as cause;
 use order_suite::put_order;
 use order_suite::the_order_report::{Order, exceeds_cases};
 pub use writer as the_writer;
-use writer::the_area::Stored;
 use writer::the_clearing::clear_table;
 use writer::the_refusal::{Cause, Verdict, no_refusal};
 use writer::the_write_form::form;
@@ -37,7 +36,7 @@ fn put_rehearsal(events: &mut [u32], attributes: &mut [u32], bytes: &mut [u8], o
         attributes: 0,
         form: form::TABLE,
         level: 0,
-        bytes: Stored::Put(0),
+        bytes: Some(0),
     };
     put_order(events, attributes, bytes, start, o)
 }
@@ -92,7 +91,7 @@ pub fn rehearse(
     }
     let k = put_rehearsal(events, attributes, bytes, o);
     let mark = k.bytes;
-    let Stored::Put(n) = mark else {
+    let Some(n) = mark else {
         return refuse_full(events, attributes, bytes);
     };
     let m = k.events as usize;

@@ -14,10 +14,8 @@ pub fn release_sheet(records: &[Counts]) -> Released
 {
     let n = taken(records.len());
     let mut t = begin();
-    let mut i = 0;
-    while i < n {
-        t = add(t, records[i]);
-        i = i + 1;
+    for c in &records[..n] {
+        t = add(t, *c);
     }
     finish(records.len(), t)
 }

@@ -2,7 +2,7 @@
 use Prim.Native.Nat.{ℕ, ◌-◌}
 use mathlib.Core.Path.{◌≡◌, refl}
 use mathlib.Core.Bool.{true, false}
-use mathlib.Core.List.{List, [], ◌∷◌}
+use mathlib.Core.List.{[], ◌∷◌}
 use lib.ListN.{replicate}
 use Rattle.tree_counts.specs.of_refusal.Refusal.{Outcome, accepted, refused, late, empty_path}
 use Rattle.tree_counts.specs.of_refusal.declared.Cause.TheVariants as cause

@@ -7,10 +7,8 @@ use native.Mathlib.Nat.{not-suc-le-zero, le_of_suc-le-suc}
 use native.Mathlib.Omega.{arith}
 use lib.Dec.{leb}
 use lib.ListN.{length, get_or, take}
-use Rattle.tree_counts.specs.of_refusal.Refusal.{Outcome, accepted, refused, late, no_refusal, refusal_from}
-use Rattle.tree_counts.specs.of_refusal.declared.Cause.{Cause}
+use Rattle.tree_counts.specs.of_refusal.Refusal.{Outcome, accepted, refused, late}
 use Rattle.tree_counts.specs.of_refusal.declared.Cause.TheVariants as cause
-use Rattle.tree_counts.specs.of_refusal.declared.Refusal.{Refusal}
 use Rattle.tree_counts.specs.of_refusal.declared.Verdict.{Verdict}
 use Rattle.tree_counts.specs.of_refusal.declared.Verdict.TheVariants.{Accepted, Refused}
 use Rattle.tree_counts.specs.Counts.{are_counts, disabled_of, added, with_suite, counted_from}
@@ -18,10 +16,9 @@ use Rattle.tree_counts.specs.declared.Counts.{Counts}
 use Rattle.tree_counts.specs.declared.Counted.{Counted}
 use Rattle.tree_counts.proofs.Adding.{Within, within as is_Within, within-counts, adding, refusing}
 use Rattle.tree_counts.proofs.Order.{disabled-added}
-use Rattle.sheet_sums.specs.Sheet.{no_counts, sum_of, passed_of, sheet_of, release_sheet, released_from}
+use Rattle.sheet_sums.specs.Sheet.{no_counts, sum_of, sheet_of, release_sheet}
 use Rattle.sheet_sums.specs.declared.Sheet.{Sheet}
-use Rattle.sheet_sums.specs.declared.Total.{Total}
-use Rattle.sheet_sums.specs.declared.Released.{Released}
+use Rattle.std.specs.Prelude.{Option, Some, None}
 use Rattle.sheet_sums.specs.inside.Running.{taken_of, begun, step_of, totalled, onward, within, finished}
 
 -- ---- a step of the code
@@ -29,53 +26,29 @@ abbrev is_ok : Verdict → ℕ
 is_ok Accepted = 1
 is_ok Refused = 0
 
-steps_on : (s : Counts) (a : Outcome Counts) (d : Counted) → d ≡ counted_from s a → d.verdict ≡ Accepted → ◌≡◌ {A = Total} (record { fits = true; sums = d.counts }) (step_of s a)
-steps_on s (accepted n) d e v = ap (λ (x : Counted). record { fits = true; sums = x.counts }) e
+steps_on : (s : Counts) (a : Outcome Counts) (d : Counted) → d ≡ counted_from s a → d.verdict ≡ Accepted → Some d.counts ≡ step_of a
+steps_on s (accepted n) d e v = ap (λ (x : Counted). Some x.counts) e
 steps_on s (refused r) d e v = absurd (omega (arith, ap is_ok (sym (ap (λ (x : Counted). x.verdict) e) ∙ v)))
 
-steps-out : (s : Counts) (a : Outcome Counts) (d : Counted) → d ≡ counted_from s a → d.verdict ≡ Refused → ◌≡◌ {A = Total} (record { fits = false; sums = d.counts }) (step_of s a)
-steps-out s (refused r) d e v = ap (λ (x : Counted). record { fits = false; sums = x.counts }) e
+steps-out : (s : Counts) (a : Outcome Counts) (d : Counted) → d ≡ counted_from s a → d.verdict ≡ Refused → ◌≡◌ {A = Option Counts} None (step_of a)
+steps-out s (refused r) d e v = refl
 steps-out s (accepted n) d e v = absurd (omega (arith, ap is_ok (sym (ap (λ (x : Counted). x.verdict) e) ∙ v)))
 
-pub added-on : (t : Total) (c : Counts) (d : Counted) → t.fits ≡ true → d ≡ counted_from t.sums (with_suite t.sums c) → d.verdict ≡ Accepted
-    → ◌≡◌ {A = Total} (record { fits = true; sums = d.counts }) (totalled t c)
+module _ (t : Option Counts) (s c : Counts) (d : Counted) (f : t ≡ Some s) (e : d ≡ counted_from s (with_suite s c)) where
+  pub added-on : d.verdict ≡ Accepted → Some d.counts ≡ totalled t c
+  unfolding totalled
+  added-on v = rw f (steps_on s (with_suite s c) d e v)
+
+  pub added_out : d.verdict ≡ Refused → None ≡ totalled t c
+  unfolding totalled
+  added_out v = rw f (steps-out s (with_suite s c) d e v)
+
+pub added_none : (t : Option Counts) (c : Counts) → t ≡ None → None ≡ totalled t c
 unfolding totalled
-added-on t c d f e v = steps_on t.sums (with_suite t.sums c) d e v ∙ ap (λ (b : Bool). cond b (step_of t.sums (with_suite t.sums c)) t) (sym f)
-
-pub added_out : (t : Total) (c : Counts) (d : Counted) → t.fits ≡ true → d ≡ counted_from t.sums (with_suite t.sums c) → d.verdict ≡ Refused
-    → ◌≡◌ {A = Total} (record { fits = false; sums = d.counts }) (totalled t c)
-unfolding totalled
-added_out t c d f e v = steps-out t.sums (with_suite t.sums c) d e v ∙ ap (λ (b : Bool). cond b (step_of t.sums (with_suite t.sums c)) t) (sym f)
-
-pub added_none : (t : Total) (c : Counts) → t.fits ≡ false → t ≡ totalled t c
-unfolding totalled
-added_none t c f = ap (λ (b : Bool). cond b (step_of t.sums (with_suite t.sums c)) t) (sym f)
-
--- ---- the answers
-pub gives : (n : ℕ) (t : Total) (p : ℕ) (z : Refusal) → leb n 4096 ≡ true → t.fits ≡ true → p ≡ passed_of t.sums → z ≡ no_refusal
-    → ◌≡◌ {A = Released} (record { verdict = Accepted; sheet = record { sums = t.sums; passed = p }; refusal = z }) (released_from (finished n t))
-gives n t p z l f e h =
-    ap (λ (x : ℕ). record { verdict = Accepted; sheet = record { sums = t.sums; passed = x }; refusal = z }) e
-    ∙ ap (λ (x : Refusal). record { verdict = Accepted; sheet = sheet_of t.sums; refusal = x }) h
-    ∙ ap (λ (b : Bool). released_from (cond b (accepted (sheet_of t.sums)) (refused (late cause.CountLimit)))) (sym f)
-    ∙ ap (λ (b : Bool). released_from (cond b (within t) (refused (late cause.TooManyReports)))) (sym l)
-
-pub gives-17 : (n : ℕ) (t : Total) → leb n 4096 ≡ true → t.fits ≡ false → released_from (refused (late cause.CountLimit)) ≡ released_from (finished n t)
-gives-17 n t l f =
-    ap (λ (b : Bool). released_from (cond b (accepted (sheet_of t.sums)) (refused (late cause.CountLimit)))) (sym f)
-    ∙ ap (λ (b : Bool). released_from (cond b (within t) (refused (late cause.TooManyReports)))) (sym l)
-
-pub gives-11 : (n : ℕ) (t : Total) → leb n 4096 ≡ false → released_from (refused (late cause.TooManyReports)) ≡ released_from (finished n t)
-gives-11 n t l = ap (λ (b : Bool). released_from (cond b (within t) (refused (late cause.TooManyReports)))) (sym l)
-
-pub gives_none : (t : Total) (k : Cause) (z : Refusal) → t ≡ begun → z ≡ refusal_from (late k)
-    → ◌≡◌ {A = Released} (record { verdict = Refused; sheet = record { sums = t.sums; passed = 0 }; refusal = z }) (released_from (refused (late k)))
-gives_none t k z e h =
-    ap (λ (x : Total). record { verdict = Refused; sheet = record { sums = x.sums; passed = 0 }; refusal = z }) e
-    ∙ ap (λ (x : Refusal). record { verdict = Refused; sheet = record { sums = no_counts; passed = 0 }; refusal = x }) h
+added_none t c f = rw f refl
 
 -- ---- one report more
-pub one_more : (t : Total) (cs : List Counts) (i : ℕ) → i < length cs → onward t (take (suc i) cs) ≡ totalled (onward t (take i cs)) (get_or cs i no_counts)
+pub one_more : (t : Option Counts) (cs : List Counts) (i : ℕ) → i < length cs → onward t (take (suc i) cs) ≡ totalled (onward t (take i cs)) (get_or cs i no_counts)
 one_more t [] i l = absurd (not-suc-le-zero l)
 one_more t (c ∷ cs) zero l = refl
 one_more t (c ∷ cs) (suc i) l = one_more (totalled t c) cs i (le_of_suc-le-suc l)
@@ -112,10 +85,10 @@ less-from : (s : Counts) (cs : List Counts) → Kept s → Within (sum_from s cs
 less-from s [] k w = w
 less-from s (c ∷ cs) k w = less s c k (less-from (added s c) cs (added-kept s c) w)
 
-stuck : (s : Counts) (cs : List Counts) → onward (record { fits = false; sums = s }) cs ≡ record { fits = false; sums = s }
+stuck : (cs : List Counts) → onward None cs ≡ None
 unfolding totalled
-stuck s [] = refl
-stuck s (c ∷ cs) = stuck s cs
+stuck [] = refl
+stuck (c ∷ cs) = stuck cs
 
 abbrev pub limited : Counts → Outcome Sheet
 limited s = cond (are_counts s) (accepted (sheet_of s)) (refused (late cause.CountLimit))
@@ -125,13 +98,13 @@ past s true e f = absurd (f (is_Within s e))
 past s false e f = ap (λ (b : Bool). cond b (accepted (sheet_of s)) (refused (late cause.CountLimit))) (sym e)
 
 -- one step from sums that fit
-first_on : (s c : Counts) → are_counts (added s c) ≡ true → totalled (record { fits = true; sums = s }) c ≡ record { fits = true; sums = added s c }
+first_on : (s c : Counts) → are_counts (added s c) ≡ true → totalled (Some s) c ≡ Some (added s c)
 unfolding totalled
-first_on s c e = ap (step_of s) (adding s c e)
+first_on s c e = ap step_of (adding s c e)
 
-first_out : (s c : Counts) → are_counts (added s c) ≡ false → totalled (record { fits = true; sums = s }) c ≡ record { fits = false; sums = s }
+first_out : (s c : Counts) → are_counts (added s c) ≡ false → totalled (Some s) c ≡ None
 unfolding totalled
-first_out s c e = ap (step_of s) (refusing s c e)
+first_out s c e = ap step_of (refusing s c e)
 
 abbrev of_bool : Bool → ℕ
 of_bool true = 1
@@ -140,15 +113,15 @@ of_bool false = 0
 not_within : (s : Counts) → are_counts s ≡ false → Within s → ⊥
 not_within s e w = absurd (omega (arith, ap of_bool (sym (within-counts s w) ∙ e)))
 
-summed : (s : Counts) (cs : List Counts) → Kept s → Within s → within (onward (record { fits = true; sums = s }) cs) ≡ limited (sum_from s cs)
-summed s [] k w = ap (λ (b : Bool). cond b (accepted (sheet_of s)) (refused (late cause.CountLimit))) (sym (within-counts s w))
+summed : (s : Counts) (cs : List Counts) → Kept s → Within s → within (onward (Some s) cs) ≡ limited (sum_from s cs)
+summed s [] k w = rw (within-counts s w) refl
 summed s (c ∷ cs) k w = go (are_counts (added s c)) refl (summed (added s c) cs (added-kept s c))
   where
-    go : (b : Bool) → are_counts (added s c) ≡ b → (Within (added s c) → within (onward (record { fits = true; sums = added s c }) cs) ≡ limited (sum_from (added s c) cs))
-        → within (onward (totalled (record { fits = true; sums = s }) c) cs) ≡ limited (sum_from (added s c) cs)
-    go true e ih = ap (λ (t : Total). within (onward t cs)) (first_on s c e) ∙ ih (is_Within (added s c) e)
+    go : (b : Bool) → are_counts (added s c) ≡ b → (Within (added s c) → within (onward (Some (added s c)) cs) ≡ limited (sum_from (added s c) cs))
+        → within (onward (totalled (Some s) c) cs) ≡ limited (sum_from (added s c) cs)
+    go true e ih = ap (λ (t : Option Counts). within (onward t cs)) (first_on s c e) ∙ ih (is_Within (added s c) e)
     go false e ih =
-        ap (λ (t : Total). within (onward t cs)) (first_out s c e) ∙ ap within (stuck s cs)
+        ap (λ (t : Option Counts). within (onward t cs)) (first_out s c e) ∙ ap within (stuck cs)
         ∙ past (sum_from (added s c) cs) (are_counts (sum_from (added s c) cs)) refl (λ v. not_within (added s c) e (less-from (added s c) cs (added-kept s c) v))
 
 -- ---- the sums from nothing on are the sums

@@ -3,7 +3,7 @@
 
 ghost use Rattle.std.specs.Prelude.{◌≡◌};
 ghost use Rattle.tree_counts.specs.of_refusal.Refusal.{refused, late};
-ghost use Rattle.sheet_sums.specs.Sheet.{passed_of, released_from};
+ghost use Rattle.sheet_sums.specs.Sheet.{no_counts, passed_of, released_from};
 ghost use Rattle.sheet_sums.specs.inside.Running.{taken_of, begun, totalled, finished};
 
 pub use tree_counts as the_tree_counts;
@@ -29,13 +29,6 @@ pub struct Released {
     pub refusal: Refusal,
 }
 
-// The sums so far, and whether each is still a count.
-#[derive(Clone, Copy)]
-pub struct Total {
-    pub fits: bool,
-    pub sums: Counts,
-}
-
 // How many of n counts are summed.
 pub fn taken(n: usize) -> usize
     ensures { result ≡ taken_of n }
@@ -46,90 +39,76 @@ pub fn taken(n: usize) -> usize
     0
 }
 
-pub fn begin() -> Total
+fn no_counts() -> Counts
+    ensures { result ≡ no_counts }
+{
+    Counts {
+        tests: 0,
+        failures: 0,
+        errors: 0,
+        skipped: 0,
+        disabled: 0,
+        presence: false,
+    }
+}
+
+// The sums so far; None once one is past the limit of a count.
+pub fn begin() -> Option<Counts>
     ensures { result ≡ begun }
 {
-    Total {
-        fits: true,
-        sums: Counts {
-            tests: 0,
-            failures: 0,
-            errors: 0,
-            skipped: 0,
-            disabled: 0,
-            presence: false,
-        },
-    }
+    Some(no_counts())
 }
 
-// One report more; past the limit the sums stay (rule C5).
-pub fn add(t: Total, c: Counts) -> Total
+// One report more (rule C5).
+pub fn add(t: Option<Counts>, c: Counts) -> Option<Counts>
     ensures { result ≡ totalled t c }
 {
-    if t.fits {
-        let sums = t.sums;
-        let counted = sums.add_test_suite(c);
-        let verdict = counted.verdict;
-        let more = counted.counts;
-        return match verdict {
-            Verdict::Accepted => Total {
-                fits: true,
-                sums: more,
-            },
-            Verdict::Refused => Total {
-                fits: false,
-                sums: more,
-            },
-        };
+    let counted = t?.add_test_suite(c);
+    match counted.verdict {
+        Verdict::Accepted => Some(counted.counts),
+        Verdict::Refused => None,
     }
-    t
 }
 
-// By rule C6. Each difference is taken by itself: the three sums together may pass the limit of a count.
+// By rule C6. Each is taken away by itself: the three sums together may pass the limit of a count.
 fn passed(c: Counts) -> u64
     ensures { result ≡ passed_of c }
 {
-    if c.failures <= c.tests {
-        let rest = c.tests - c.failures;
-        if c.errors <= rest {
-            let less = rest - c.errors;
-            if c.skipped <= less {
-                return less - c.skipped;
-            }
-        }
-    }
-    0
+    c.tests
+        .saturating_sub(c.failures)
+        .saturating_sub(c.errors)
+        .saturating_sub(c.skipped)
 }
 
 fn refuse(cause: Cause) -> Released
     ensures { result ≡ released_from (refused (late cause)) }
 {
-    let none = begin();
-    let sums = none.sums;
     Released {
         verdict: Verdict::Refused,
-        sheet: Sheet { sums, passed: 0 },
+        sheet: Sheet {
+            sums: no_counts(),
+            passed: 0,
+        },
         refusal: refuse_late(cause),
     }
 }
 
 // The sheet of n counts with these sums: 11 comes before 17 (rule C9).
-pub fn finish(n: usize, t: Total) -> Released
+pub fn finish(n: usize, t: Option<Counts>) -> Released
     ensures { result ≡ released_from (finished n t) }
 {
-    let sums = t.sums;
-    if n <= MOST_REPORTS {
-        if t.fits {
-            return Released {
-                verdict: Verdict::Accepted,
-                sheet: Sheet {
-                    sums,
-                    passed: passed(sums),
-                },
-                refusal: no_refusal(),
-            };
-        }
-        return refuse(Cause::CountLimit);
+    if MOST_REPORTS < n {
+        return refuse(Cause::TooManyReports);
     }
-    refuse(Cause::TooManyReports)
+    let Some(sums) = t else {
+        return refuse(Cause::CountLimit);
+    };
+    Released {
+        verdict: Verdict::Accepted,
+        sheet: Sheet {
+            sums,
+            passed: passed(sums),
+        },
+        refusal: no_refusal(),
+    }
 }

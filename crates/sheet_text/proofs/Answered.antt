@@ -5,6 +5,7 @@ use mathlib.Core.Bool.{Bool, true, false, cond}
 use mathlib.Core.List.{List, ◌∷◌, ◌++◌, append_assoc}
 use lib.Dec.{leb}
 use lib.ListN.{length, length-replicate}
+use Rattle.std.specs.Prelude.{Some, None}
 use Rattle.list_text.specs.of_refusal.Refusal.{Outcome, accepted, refused, late, no_refusal}
 use Rattle.list_text.specs.of_refusal.declared.Refusal.{Refusal}
 use Rattle.list_text.specs.of_refusal.declared.Verdict.{Verdict}
@@ -12,7 +13,6 @@ use Rattle.list_text.specs.of_refusal.declared.Verdict.TheVariants.{Accepted, Re
 use Rattle.list_text.specs.of_refusal.declared.Cause.TheVariants as cause
 use Rattle.list_text.specs.of_area.Answer.{Answer, gives, refuses}
 use Rattle.list_text.specs.of_area.Area.{zeros, placing, laid}
-use Rattle.list_text.specs.of_area.declared.Stored.TheVariants.{Put, Full}
 use Rattle.list_text.specs.of_names.Bytes.{bytes}
 use Rattle.list_text.specs.of_digits.Digits.{decimal}
 use Rattle.list_text.specs.Listing.{outcome_of, output_for}
@@ -54,14 +54,14 @@ module _ (n : ℕ) (r : Released) where
   abbrev f : List ℕ
   f = sheet_text r.sheet
 
-  module _ {out : List ℕ} {t : Filled} (z : out ≡ zeros n) (p : Puts (filled (Put 0) out) f t) where
+  module _ {out : List ℕ} {t : Filled} (z : out ≡ zeros n) (p : Puts (filled (Some 0) out) f t) where
     left_behind : t ≡ (placing cause.OutputFull n f, laid (zeros n) f)
     left_behind =
         p.same ∙ ap (λ (x : List ℕ). behind (gives 0, x) f) z ∙ from_start (zeros n) f
         ∙ ap (λ (m : ℕ). (placing cause.OutputFull m f, laid (zeros n) f)) (length-replicate {A = ℕ} n 0)
 
   -- it was put
-  pub whole-sheet : {out out' : List ℕ} {m : ℕ} {q : Refusal} → r.verdict ≡ Accepted → q ≡ no_refusal → out ≡ zeros n → Puts (filled (Put 0) out) f (filled (Put m) out')
+  pub whole-sheet : {out out' : List ℕ} {m : ℕ} {q : Refusal} → r.verdict ≡ Accepted → q ≡ no_refusal → out ≡ zeros n → Puts (filled (Some 0) out) f (filled (Some m) out')
       → (◌≡◌ {A = Printed} (record { verdict = Accepted; length = m; refusal = q }) (printed_from (printing (outcome_in r) n))) × (out' ≡ sheet_area (outcome_in r) n)
   unfolding printing sheet_area
   whole-sheet {m = m} {q = q} v e z p =
@@ -74,7 +74,7 @@ module _ (n : ℕ) (r : Released) where
 
   -- it didn't fit
   pub short-sheet : {out out' out'' : List ℕ} {x : Printed} → r.verdict ≡ Accepted → x ≡ printed_from (refused (late cause.OutputFull)) → out ≡ zeros n
-      → Puts (filled (Put 0) out) f (filled Full out') → out'' ≡ zeros n → (x ≡ printed_from (printing (outcome_in r) n)) × (out'' ≡ sheet_area (outcome_in r) n)
+      → Puts (filled (Some 0) out) f (filled None out') → out'' ≡ zeros n → (x ≡ printed_from (printing (outcome_in r) n)) × (out'' ≡ sheet_area (outcome_in r) n)
   unfolding printing sheet_area
   short-sheet v e z p y =
       let l = left_behind z p in

@@ -1,15 +1,13 @@
 // The release sheet as text: a bracket form a line, put into an area that the caller lends.
 #![tactic(auto)]
 
-ghost use Rattle.std.specs.Prelude.{◌≡◌, length};
+ghost use Rattle.std.specs.Prelude.{◌≡◌, length, Some};
 ghost use Rattle.list_text.specs.of_refusal.Refusal.{refused, late};
-ghost use Rattle.list_text.specs.of_area.declared.Stored.TheVariants.{Put};
 ghost use Rattle.list_text.specs.of_names.Bytes.{bytes};
 ghost use Rattle.list_text.specs.of_digits.Digits.{decimal};
 ghost use Rattle.list_text.specs.inside.Behind.{filled, Puts};
 ghost use Rattle.sheet_text.specs.Printed.{line, or_missing, share, sheet_text, outcome_in, printing, sheet_area, printed_from};
 
-use list_text::the_area::Stored;
 pub use list_text::the_refusal;
 use list_text::the_refusal::{Cause, Refusal, Verdict, no_refusal, refuse_late};
 use list_text::{put, put_decimal};
@@ -25,7 +23,7 @@ pub struct Printed {
     pub refusal: Refusal,
 }
 
-fn put_line(out: &mut [u8], k: Stored, label: &[u8], n: u64) -> Stored
+fn put_line(out: &mut [u8], k: Option<usize>, label: &[u8], n: u64) -> Option<usize>
     ensures { Puts (filled k out.old) (line label.now (decimal n)) (filled result out.new) }
 {
     let named = put(out, k, label);
@@ -33,7 +31,7 @@ fn put_line(out: &mut [u8], k: Stored, label: &[u8], n: u64) -> Stored
     put(out, number, b")\n")
 }
 
-fn put_disabled(out: &mut [u8], k: Stored, presence: bool, n: u64) -> Stored
+fn put_disabled(out: &mut [u8], k: Option<usize>, presence: bool, n: u64) -> Option<usize>
     ensures { Puts (filled k out.old) (line (bytes "(disabled ") (or_missing presence n)) (filled result out.new) }
 {
     if presence {
@@ -42,7 +40,7 @@ fn put_disabled(out: &mut [u8], k: Stored, presence: bool, n: u64) -> Stored
     put(out, k, b"(disabled -)\n")
 }
 
-fn put_passed(out: &mut [u8], k: Stored, passed: u64, tests: u64) -> Stored
+fn put_passed(out: &mut [u8], k: Option<usize>, passed: u64, tests: u64) -> Option<usize>
     ensures { Puts (filled k out.old) (line (bytes "(passed ") (share passed tests)) (filled result out.new) }
 {
     let opened = put(out, k, b"(passed ");
@@ -51,11 +49,11 @@ fn put_passed(out: &mut [u8], k: Stored, passed: u64, tests: u64) -> Stored
 }
 
 // By rule C8.
-fn put_sheet(out: &mut [u8], sheet: Sheet) -> Stored
-    ensures { Puts (filled (Put 0) out.old) (sheet_text sheet) (filled result out.new) }
+fn put_sheet(out: &mut [u8], sheet: Sheet) -> Option<usize>
+    ensures { Puts (filled (Some 0) out.old) (sheet_text sheet) (filled result out.new) }
 {
     let sums = sheet.sums;
-    let tests = put_line(out, Stored::Put(0), b"(tests ", sums.tests);
+    let tests = put_line(out, Some(0), b"(tests ", sums.tests);
     let failures = put_line(out, tests, b"(failures ", sums.failures);
     let errors = put_line(out, failures, b"(errors ", sums.errors);
     let skipped = put_line(out, errors, b"(skipped ", sums.skipped);
@@ -87,7 +85,7 @@ pub fn print_sheet(released: Released, out: &mut [u8]) -> Printed
         return refuse(cause);
     };
     let put = put_sheet(out, sheet);
-    let Stored::Put(length) = put else {
+    let Some(length) = put else {
         list_text::the_area::clear(out);
         return refuse(Cause::OutputFull);
     };

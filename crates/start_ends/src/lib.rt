@@ -22,10 +22,8 @@ pub struct Start {
     pub at: Instant,
 }
 
-// Where none was found, first and last are zero.
 #[derive(Clone, Copy)]
 pub struct Ends {
-    pub found: bool,
     pub first: Start,
     pub last: Start,
 }
@@ -49,20 +47,15 @@ fn later(a: Start, b: Start) -> Start
     a
 }
 
-fn with_start(e: Ends, s: Start) -> Ends
+fn with_start(e: Option<Ends>, s: Start) -> Option<Ends>
     ensures { result ≡ ends.with_start e s }
 {
-    if e.found {
-        return Ends {
-            found: true,
+    match e {
+        Some(e) => Some(Ends {
             first: earlier(e.first, s),
             last: later(e.last, s),
-        };
-    }
-    Ends {
-        found: true,
-        first: s,
-        last: s,
+        }),
+        None => Some(Ends { first: s, last: s }),
     }
 }
 
@@ -83,7 +76,7 @@ fn is_case(k: u32) -> bool
 }
 
 // Cases alone count, and those without a timestamp don't; `days` is the table of days before years.
-pub fn with_record(e: Ends, r: &[u32], days: &[u32]) -> Ends
+pub fn with_record(e: Option<Ends>, r: &[u32], days: &[u32]) -> Option<Ends>
     ensures { result ≡ ends.with_record (ends.start_by days.now) e r.now }
 {
     if is_case(field(r, word::KIND)) {
@@ -109,19 +102,8 @@ pub fn no_moment() -> Moment
     }
 }
 
-pub fn no_ends() -> Ends
+pub fn no_ends() -> Option<Ends>
     ensures { result ≡ ends.no_ends }
 {
-    let s = Start {
-        moment: no_moment(),
-        at: Instant {
-            seconds: 0,
-            nanos: 0,
-        },
-    };
-    Ends {
-        found: false,
-        first: s,
-        last: s,
-    }
+    None
 }

@@ -1,5 +1,5 @@
 -- What going along the records finds is what the definition says of the report's moments. Assumes nothing.
-use Prim.Native.Nat.{ℕ, ◌+◌, ◌-◌, ◌*◌, ◌≤◌, ◌<◌}
+use Prim.Native.Nat.{ℕ, ◌+◌, ◌*◌, ◌≤◌, ◌<◌}
 use mathlib.Core.Path.{◌≡◌, refl, sym, ap, ◌∙◌}
 use mathlib.Core.List.{List, [], ◌∷◌}
 use mathlib.Core.Bool.{Bool, true, false, cond, ◌&&◌, and-eq-true_iff}
@@ -21,6 +21,7 @@ use Rattle.start_ends.proofs.of_tree_stamp.Layouts.{moment-own}
 use Rattle.start_ends.specs.of_span.inside.Span.{sooner}
 use Rattle.start_ends.proofs.of_span.Numbers.{as_number, as-seconds, as_nanos}
 use Rattle.start_ends.specs.declared.Ends.{Ends}
+use Rattle.std.specs.Prelude.{Option, Some}
 use Rattle.start_ends.specs.inside.Ends.{start_of, no_ends, with_start, with_record, ends_from}
 use Rattle.starts.specs.Starts.{nanos_to, is_earlier, is_later, first_by, earliest, latest, behind, between, starts_in}
 use Rattle.starts.specs.FirstLast.{All}
@@ -56,19 +57,19 @@ moment-good texts r g h =
     slot-in b x y e = rw e refl
 
 -- ---- along moments
-abbrev starts_fold : Ends → List Moment → Ends
+abbrev starts_fold : Option Ends → List Moment → Option Ends
 starts_fold e [] = e
 starts_fold e (m ∷ ms) = starts_fold (with_start e (start_of m)) ms
 
-with-moment : (e : Ends) (r : List ℕ) → is_case r ≡ true → has_bit bit.timestamp r ≡ true → with_record start_of e r ≡ with_start e (start_of (cut_moment r))
+with-moment : (e : Option Ends) (r : List ℕ) → is_case r ≡ true → has_bit bit.timestamp r ≡ true → with_record start_of e r ≡ with_start e (start_of (cut_moment r))
 unfolding with_record
 with-moment e r c h = rw (c, h) refl
 
-with-missing : (e : Ends) (r : List ℕ) → is_case r ≡ true → has_bit bit.timestamp r ≡ false → with_record start_of e r ≡ e
+with-missing : (e : Option Ends) (r : List ℕ) → is_case r ≡ true → has_bit bit.timestamp r ≡ false → with_record start_of e r ≡ e
 unfolding with_record
 with-missing e r c h = rw (c, h) refl
 
-with-other : (e : Ends) (r : List ℕ) → is_case r ≡ false → with_record start_of e r ≡ e
+with-other : (e : Option Ends) (r : List ℕ) → is_case r ≡ false → with_record start_of e r ≡ e
 unfolding with_record
 with-other e r c = rw c refl
 
@@ -76,20 +77,20 @@ module _ (texts : List ℕ) where
   range-of : (r : List ℕ) → good_record texts r ≡ true → is_case r ≡ true → has_bit bit.timestamp r ≡ true → in_range (moment_of r) ≡ true
   range-of r g c h = moment-good texts r (common-good texts r (case-good texts r (eqb-true (kind_of r) 3 c) g)) h
 
-  pub along : (e : Ends) (rs : List (List ℕ)) → all_good texts rs ≡ true → ends_from start_of e rs ≡ starts_fold e (moments_in rs)
+  pub along : (e : Option Ends) (rs : List (List ℕ)) → all_good texts rs ≡ true → ends_from start_of e rs ≡ starts_fold e (moments_in rs)
   along e [] g = ends-over start_of e
   along e (r ∷ rs) g =
       let p = (and-eq-true_iff (good_record texts r) (all_good texts rs)).0 g in
       ends_next start_of e r rs ∙ go (is_case r) refl (has_bit bit.timestamp r) refl p.0 (λ f. along f rs p.1)
     where
       go : (b : Bool) → is_case r ≡ b → (t : Bool) → has_bit bit.timestamp r ≡ t → good_record texts r ≡ true
-          → ((f : Ends) → ends_from start_of f rs ≡ starts_fold f (moments_in rs))
+          → ((f : Option Ends) → ends_from start_of f rs ≡ starts_fold f (moments_in rs))
           → ends_from start_of (with_record start_of e r) rs ≡ starts_fold e (cond b (behind (timestamp r) (moments_in rs)) (moments_in rs))
       go true c true h q k =
-          ap (λ (f : Ends). ends_from start_of f rs) (with-moment e r c h ∙ ap (λ (m : Moment). with_start e (start_of m)) (moment-own r (range-of r q c h)))
+          ap (λ (f : Option Ends). ends_from start_of f rs) (with-moment e r c h ∙ ap (λ (m : Moment). with_start e (start_of m)) (moment-own r (range-of r q c h)))
           ∙ k (with_start e (start_of (moment_of r))) ∙ rw h refl
-      go true c false h q k = ap (λ (f : Ends). ends_from start_of f rs) (with-missing e r c h) ∙ k e ∙ rw h refl
-      go false c t h q k = ap (λ (f : Ends). ends_from start_of f rs) (with-other e r c) ∙ k e
+      go true c false h q k = ap (λ (f : Option Ends). ends_from start_of f rs) (with-missing e r c h) ∙ k e ∙ rw h refl
+      go false c t h q k = ap (λ (f : Option Ends). ends_from start_of f rs) (with-other e r c) ∙ k e
 
   pub all_small : (rs : List (List ℕ)) → all_good texts rs ≡ true → All Small (moments_in rs)
   all_small [] g = tt
@@ -139,8 +140,8 @@ small-chosen : (b : Bool) (x y : Moment) → Small x → Small y → Small (cond
 small-chosen true x y p q = p
 small-chosen false x y p q = q
 
-abbrev ends_at : Moment → Moment → Ends
-ends_at a b = record { found = true; first = start_of a; last = start_of b }
+abbrev ends_at : Moment → Moment → Option Ends
+ends_at a b = Some (record { first = start_of a; last = start_of b })
 
 with-next : (a b x : Moment) → Small a → Small b → Small x → with_start (ends_at a b) (start_of x) ≡ ends_at (cond (ltb (nanos_to x) (nanos_to a)) x a) (cond (ltb (nanos_to b) (nanos_to x)) x b)
 unfolding with_start
@@ -154,7 +155,7 @@ with_first m = refl
 fold-ends : (a b : Moment) (ms : List Moment) → Small a → Small b → All Small ms → starts_fold (ends_at a b) ms ≡ ends_at (earliest a ms) (latest b ms)
 fold-ends a b [] p q r = refl
 fold-ends a b (x ∷ xs) p q r =
-    ap (λ (e : Ends). starts_fold e xs) (with-next a b x p q r.0)
+    ap (λ (e : Option Ends). starts_fold e xs) (with-next a b x p q r.0)
     ∙ fold-ends (cond (ltb (nanos_to x) (nanos_to a)) x a) (cond (ltb (nanos_to b) (nanos_to x)) x b) xs
     (small-chosen (ltb (nanos_to x) (nanos_to a)) x a r.0 p) (small-chosen (ltb (nanos_to b) (nanos_to x)) x b r.0 q) r.1
 
@@ -166,6 +167,6 @@ pub fold-starts : (ms : List Moment) → All Small ms → starts_by (starts_fold
 unfolding starts_in
 fold-starts [] r = refl
 fold-starts (m ∷ ms) r =
-    ap (λ (e : Ends). starts_by (starts_fold e ms)) (with_first m)
+    ap (λ (e : Option Ends). starts_by (starts_fold e ms)) (with_first m)
     ∙ ap starts_by (fold-ends m m ms r.0 r.0 r.1)
     ∙ extent-number (earliest m ms) (latest m ms) (small-first is_earlier m ms r.0 r.1) (small-first is_later m ms r.0 r.1) (in_order m ms)

@@ -17,6 +17,7 @@ use Rattle.list_sums.proofs.Used.{records-used}
 use Rattle.starts.specs.declared.Extent.{Extent}
 use Rattle.starts.specs.declared.Started.{Started}
 use Rattle.start_ends.specs.declared.Ends.{Ends}
+use Rattle.std.specs.Prelude.{Option}
 use Rattle.starts.specs.Starts.{starts_in, report_moments, starts_of}
 use Rattle.starts.specs.Answer.{started_from}
 use Rattle.start_ends.specs.inside.Ends.{start_of, no_ends, ends_from}
@@ -59,7 +60,7 @@ module _ (words text : List ℕ) where
   unfolding starts_of
   accepted-whole h p q = rw (h, p, q) refl
 
-  pub starts-whole : {limit : ℕ} {e : Ends} {s : Extent} {f : Refusal} → layout words text ≡ true → limit ≡ min (length words) most_words
+  pub starts-whole : {limit : ℕ} {e : Option Ends} {s : Extent} {f : Refusal} → layout words text ≡ true → limit ≡ min (length words) most_words
       → e ≡ ends_from start_of no_ends (records_in (take limit words)) → s ≡ starts_by e → f ≡ no_refusal
       → ◌≡◌ {A = Started} (record { verdict = Accepted; starts = s; refusal = f }) (started_from (starts_of words text))
   starts-whole {limit} h l e s f =

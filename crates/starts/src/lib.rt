@@ -22,7 +22,7 @@ use tree_layout::the_area::{least, limit};
 use tree_layout::the_refusal::{Cause, Refusal, Verdict, no_refusal, refuse_late};
 use tree_layout::the_timestamp::Moment;
 
-// Without a start all else is zero.
+// Without a start all else is zero: no Option, since it is a part of the answer that C takes.
 #[derive(Clone, Copy)]
 pub struct Extent {
     pub found: bool,
@@ -40,11 +40,12 @@ pub struct Started {
     pub refusal: Refusal,
 }
 
-fn ends_in(words: &[u32], days: &[u32]) -> Ends
+fn ends_in(words: &[u32], days: &[u32]) -> Option<Ends>
     ensures { result ≡ ends.ends_from (ends.start_by days.now) ends.no_ends (records_in words.now) }
 {
     let mut e = no_ends();
     let mut at = 0;
+    // while: ends where no record stands.
     while stands_here(&words[at..]) {
         let end = at + 32;
         e = with_record(e, &words[at..end], days);
@@ -54,7 +55,7 @@ fn ends_in(words: &[u32], days: &[u32]) -> Ends
 }
 
 // With the table of days in memory once.
-fn ends_of(words: &[u32]) -> Ends
+fn ends_of(words: &[u32]) -> Option<Ends>
     ensures { result ≡ ends.ends_from ends.start_of ends.no_ends (records_in words.now) }
 {
     ends_in(words, &DAYS_BEFORE)
@@ -86,13 +87,13 @@ fn between(a: Start, b: Start) -> Extent
     }
 }
 
-fn starts_of(e: Ends) -> Extent
+fn starts_of(e: Option<Ends>) -> Extent
     ensures { result ≡ starts_by e }
 {
-    if e.found {
-        return between(e.first, e.last);
+    match e {
+        Some(e) => between(e.first, e.last),
+        None => not_found(),
     }
-    not_found()
 }
 
 fn refuse() -> Started

@@ -11,9 +11,8 @@ use lib.ListN.{length, get_or, drop}
 use lib.Dec.{leb, eqb}
 use Rattle.table_parts.specs.of_refusal.Refusal.{nowhere, Refused}
 use Rattle.table_parts.specs.Parts.{within}
-use Rattle.table.specs.Table.{word, count_of, good_attribute, good_shape, good_sizes, bad_from, check_event, and_then, check_from, check_of, checked_answer}
-use Rattle.table.specs.declared.Checked.{Checked}
-use Rattle.table.specs.declared.Checked.TheVariants.{Good, Bad}
+use Rattle.table.specs.Table.{word, count_of, good_attribute, good_shape, good_sizes, bad_from, check_event, and_then, check_from, check_of, Checked, checked_answer}
+use Rattle.std.specs.Prelude.{Ok, Err}
 use Rattle.table.proofs.Words.{word_at}
 use Rattle.table.proofs.Scanning.{bad-none}
 use Rattle.table_parts.specs.of_refusal.declared.Cause.TheVariants as cause
@@ -100,19 +99,19 @@ attribute-valid attributes size j e =
     }
 
 module _ (events attributes : List ℕ) (size i : ℕ) where
-  event-good : check_event events attributes size i ≡ Good
+  event-good : check_event events attributes size i ≡ Ok tt
       → (good_shape (drop (i * 5) events) (count_of attributes) size ≡ true) × (bad_from attributes size (word events i 4) (word events i 3) ≡ word events i 3 + word events i 4)
   unfolding check_event
   event-good e = go (good_shape (drop (i * 5) events) (count_of attributes) size) refl (eqb (bad_from attributes size (word events i 4) (word events i 3)) (word events i 3 + word events i 4)) refl e
     where
       go : (s : Bool) → good_shape (drop (i * 5) events) (count_of attributes) size ≡ s → (b : Bool) → eqb (bad_from attributes size (word events i 4) (word events i 3))
-          (word events i 3 + word events i 4) ≡ b → cond s (cond b Good (Bad i (bad_from attributes size (word events i 4) (word events i 3)))) (Bad i nowhere) ≡ Good
+          (word events i 3 + word events i 4) ≡ b → cond {A = Checked} s (cond {A = Checked} b (Ok tt) (Err (i, bad_from attributes size (word events i 4) (word events i 3)))) (Err (i, nowhere)) ≡ Ok tt
           → (good_shape (drop (i * 5) events) (count_of attributes) size ≡ true) × (bad_from attributes size (word events i 4) (word events i 3) ≡ word events i 3 + word events i 4)
       go true p true q r = (p, eqb-true (bad_from attributes size (word events i 4) (word events i 3)) (word events i 3 + word events i 4) q)
       go true p false q r = let z : ◌≡◌ {A = ℕ} 0 1 = cc in absurd (omega arith)
       go false p b q r = let z : ◌≡◌ {A = ℕ} 0 1 = cc in absurd (omega arith)
 
-  event-valid : check_event events attributes size i ≡ Good → ValidEvent events attributes size i
+  event-valid : check_event events attributes size i ≡ Ok tt → ValidEvent events attributes size i
   event-valid e =
       let g = event-good e in
       let w : List ℕ = drop (i * 5) events in
@@ -126,12 +125,12 @@ module _ (events attributes : List ℕ) (size i : ℕ) where
         each = λ j l h. attribute-valid attributes size j (bad-none attributes size (word events i 4) (word events i 3) j g.1 l h);
       }
 
-both-good : (c d : Checked) → and_then c d ≡ Good → (c ≡ Good) × (d ≡ Good)
-both-good Good d e = (refl, e)
-both-good (Bad a b) d e = let z : ◌≡◌ {A = ℕ} 0 1 = cc in absurd (omega arith)
+both-good : (c d : Checked) → and_then c d ≡ Ok tt → (c ≡ Ok tt) × (d ≡ Ok tt)
+both-good (Ok u) d e = (refl, e)
+both-good (Err (a, b)) d e = let z : ◌≡◌ {A = ℕ} 0 1 = cc in absurd (omega arith)
 
 module _ (events attributes : List ℕ) (size : ℕ) where
-  from-good : (n i k : ℕ) → check_from events attributes size n i ≡ Good → i ≤ k → k < i + n → check_event events attributes size k ≡ Good
+  from-good : (n i k : ℕ) → check_from events attributes size n i ≡ Ok tt → i ≤ k → k < i + n → check_event events attributes size k ≡ Ok tt
   unfolding check_from
   from-good zero i k e l h = absurd (omega arith)
   from-good (suc n) i k e l h =
@@ -139,29 +138,29 @@ module _ (events attributes : List ℕ) (size : ℕ) where
       ⊎_elim (λ z. ap (check_event events attributes size) (sym z) ∙ p.0) (λ z. from-good n (i + 1) k p.1 (omega arith) (omega arith)) (eq-or-lt_of_le l)
 
 module _ (events attributes source : List ℕ) where
-  of-good : check_of events attributes source ≡ Good → (good_sizes (length events) (length attributes) (length source) ≡ true) × (check_from events attributes (length source) (count_of events) 0 ≡ Good)
+  of-good : check_of events attributes source ≡ Ok tt → (good_sizes (length events) (length attributes) (length source) ≡ true) × (check_from events attributes (length source) (count_of events) 0 ≡ Ok tt)
   unfolding check_of
   of-good e = go (good_sizes (length events) (length attributes) (length source)) refl e
     where
-      go : (b : Bool) → good_sizes (length events) (length attributes) (length source) ≡ b → cond b (check_from events attributes (length source) (count_of events) 0) (Bad nowhere nowhere) ≡ Good
-          → (good_sizes (length events) (length attributes) (length source) ≡ true) × (check_from events attributes (length source) (count_of events) 0 ≡ Good)
+      go : (b : Bool) → good_sizes (length events) (length attributes) (length source) ≡ b → cond b (check_from events attributes (length source) (count_of events) 0) (Err (nowhere, nowhere)) ≡ Ok tt
+          → (good_sizes (length events) (length attributes) (length source) ≡ true) × (check_from events attributes (length source) (count_of events) 0 ≡ Ok tt)
       go true p q = (p, q)
       go false p q = let z : ◌≡◌ {A = ℕ} 0 1 = cc in absurd (omega arith)
 
   -- a table that passed refusal 11 has sizes in range
-  pub good-sizes : check_of events attributes source ≡ Good → ValidSizes (length events) (length attributes) (length source)
+  pub good-sizes : check_of events attributes source ≡ Ok tt → ValidSizes (length events) (length attributes) (length source)
   good-sizes e = sizes-valid (length events) (length attributes) (length source) (of-good e).0
 
   -- each event of a table that passed refusal 11 is valid: its bytes and attributes lie in the table
-  pub good-event : check_of events attributes source ≡ Good → (i : ℕ) → i < count_of events → ValidEvent events attributes (length source) i
+  pub good-event : check_of events attributes source ≡ Ok tt → (i : ℕ) → i < count_of events → ValidEvent events attributes (length source) i
   good-event e i h = event-valid events attributes (length source) i (from-good events attributes (length source) (count_of events) 0 i (of-good e).1 (omega arith) (omega arith))
 
 -- a check is told by its values
 pub same_check : (c d : Checked) → checked_answer c ≡ checked_answer d → c ≡ d
-same_check Good Good e = refl
-same_check Good (Bad a b) e = let z : ◌≡◌ {A = ℕ} 0 1 = cc in absurd (omega arith)
-same_check (Bad a b) Good e = let z : ◌≡◌ {A = ℕ} 0 1 = cc in absurd (omega arith)
-same_check (Bad a b) (Bad x y) e =
+same_check (Ok a) (Ok b) e = refl
+same_check (Ok u) (Err (a, b)) e = let z : ◌≡◌ {A = ℕ} 0 1 = cc in absurd (omega arith)
+same_check (Err (a, b)) (Ok u) e = let z : ◌≡◌ {A = ℕ} 0 1 = cc in absurd (omega arith)
+same_check (Err (a, b)) (Err (x, y)) e =
     let q : ◌≡◌ {A = Refused} (record { cause = cause.BadTable; path = []; event = a; attribute = b }) (record { cause = cause.BadTable; path = []; event = x; attribute = y }) = cc in
     let p : a ≡ x = ap (λ (r : Refused). r.event) q in
     let r : b ≡ y = ap (λ (r : Refused). r.attribute) q in

@@ -7,7 +7,7 @@ use native.Mathlib.Omega.{arith}
 use borrow.Author.Tests.{eqb-true, eqb-false, leb-false, lt-leb}
 use lib.Dec.{leb, eqb}
 use Rattle.table.specs.Table.{word, count_of, check_of}
-use Rattle.table.specs.declared.Checked.TheVariants.{Good}
+use Rattle.std.specs.Prelude.{Ok}
 use Rattle.table.specs.Event.{attributes_from, kind_at}
 use Rattle.table.proofs.Resolving.{attributes-none}
 use Rattle.table.proofs.ValidTables.{good-event}
@@ -51,11 +51,11 @@ module _ {events : List ℕ} {i : ℕ} (attributes source : List ℕ) where
       ap (λ (n : ℕ). attributes_from attributes source n (word events i 3)) z
 
   -- of a table that is good
-  pub range-high : {first end : ℕ} → check_of events attributes source ≡ Good → Ranged events i first end → end ≤ count_of attributes
+  pub range-high : {first end : ℕ} → check_of events attributes source ≡ Ok tt → Ranged events i first end → end ≤ count_of attributes
   range-high good (none e) = omega arith
   range-high good (some h k) = (good-event events attributes source good i h).range k
 
   -- only a Start and an Empty have attributes
-  pub range_none : {first end : ℕ} → check_of events attributes source ≡ Good → 1 < kind_at events i → Ranged events i first end → (first ≡ 0) × (end ≡ 0)
+  pub range_none : {first end : ℕ} → check_of events attributes source ≡ Ok tt → 1 < kind_at events i → Ranged events i first end → (first ≡ 0) × (end ≡ 0)
   range_none good l (none e) = (refl, refl)
   range_none good l (some h k) = let z = (good-event events attributes source good i h).tag k in absurd (omega arith)

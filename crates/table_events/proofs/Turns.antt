@@ -157,6 +157,14 @@ skipping-start events source start name h e = record {
   same = λ attributes. ap (λ (s : List ℕ). skip_of s 0 (start + 1) (resolve_from events attributes source (count_of events - (start + 1)) (start + 1))) (sym (bytes-in events source start h name e));
 }
 
+-- behind the last event
+pub skipping-done : {events source : List ℕ} {start : ℕ} {name : List ℕ} {depth i : ℕ} → Skipping events source start name depth i → count_of events ≤ i → (attributes : List ℕ) →
+    broken_at cause.EofInSkip (count_of events)
+    ≡ skip_of (bytes_at events source start) 0 (start + 1) (resolve_from events attributes source (count_of events - (start + 1)) (start + 1))
+skipping-done {events = events} {source = source} {name = name} {depth = depth} {i = i} s h attributes =
+    let z : i ≡ count_of events = (let y = s.high in omega arith) in
+    sym (s.same attributes ∙ ap (skip_of name depth i) (resolve-end events attributes source (count_of events) i h) ∙ end-breaks name depth i ∙ ap (broken_at cause.EofInSkip) z)
+
 module _ {events source : List ℕ} {start : ℕ} {name : List ℕ} {depth i : ℕ} (s : Skipping events source start name depth i) (k : ℕ) (e : k ≡ cond (leb (count_of events) i) 7 (kind_at events i)) where
   abbrev whole : List ℕ → Skip
   whole attributes = skip_of (bytes_at events source start) 0 (start + 1) (resolve_from events attributes source (count_of events - (start + 1)) (start + 1))
@@ -180,7 +188,7 @@ module _ {events source : List ℕ} {start : ℕ} {name : List ℕ} {depth i : �
           ∙ rw z (eof-breaks name depth i (rest attributes) (bytes_at events source i) (word events i 3) (attributes_from attributes source (word events i 4) (word events i 3)))
 
   module _ (h : k ≡ 7 → ⊥) where
-    pub skipping-in : i < count_of events
+    skipping-in : i < count_of events
     skipping-in = kind-within events i k e h
 
     here : (attributes : List ℕ) →

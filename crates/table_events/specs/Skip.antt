@@ -1,10 +1,8 @@
 -- An unknown element is skipped (rules R11 and R19). Definitions only.
-use Rattle.std.specs.Prelude.{ℕ, zero, suc, ◌+◌, ◌-◌, List, [], ◌∷◌, Bool, cond, ◌&&◌, eqb, ltb}
+use Rattle.std.specs.Prelude.{ℕ, zero, suc, ◌+◌, ◌-◌, List, [], ◌∷◌, Bool, cond, ◌&&◌, eqb, ltb, Result, Ok, Err}
 use Rattle.names.specs.Names.{same_bytes}
 use Rattle.table.specs.Kinds as kind
 use Rattle.table.specs.Event.{Event, Tag, Start, Empty, End, Piece, Eof, Fault}
-use Rattle.table_events.specs.declared.Skipped.{Skipped}
-use Rattle.table_events.specs.declared.Skipped.TheVariants.{Next, Refused}
 use Rattle.names.specs.of_refusal.declared.Cause.TheVariants as cause
 use Rattle.names.specs.of_refusal.declared.Cause.{Cause}
 
@@ -30,9 +28,9 @@ skip_of name depth i (Eof ∷ es) = broken_at cause.EofInSkip i
 skip_of name depth i (Fault ∷ es) = broken_at cause.XmlFault i
 
 -- ---- the code's words
-abbrev pub skip_answer : Skipped → Skip
-skip_answer (Next i) = next i
-skip_answer (Refused why i) = broken_at why i
+abbrev pub skip_answer : Result ℕ (Cause × ℕ) → Skip
+skip_answer (Ok i) = next i
+skip_answer (Err broken) = broken_at broken.0 broken.1
 
 -- the depth behind an event of a kind that does not end the skip; `own`: it has the skipped name
 abbrev pub depth_after : ℕ → Bool → ℕ → ℕ

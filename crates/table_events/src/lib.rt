@@ -78,13 +78,6 @@ pub fn end_at(events: &[u32], i: usize) -> usize
     wide(word_of(words, 3)) + wide(count)
 }
 
-// The number of the next event, or why and at which event the skip is refused.
-#[derive(Clone, Copy)]
-pub enum Skipped {
-    Next(usize),
-    Refused(Cause, usize),
-}
-
 // The depth behind an event of that kind; `own` says that it has the skipped name.
 fn depth_after(kind: u32, own: bool, depth: usize) -> usize
     requires { depth < 18446744073709551615 }
@@ -99,29 +92,29 @@ fn depth_after(kind: u32, own: bool, depth: usize) -> usize
     depth
 }
 
-// Skips the element that event `start` begins (rules R11 and R19).
-pub fn skip_from(events: &[u32], source: &[u8], start: usize) -> Skipped
+// Skips the element that event `start` begins: the number of the next event, or why and at which event that is refused (rules R11
+// and R19).
+pub fn skip_from(events: &[u32], source: &[u8], start: usize) -> Result<usize, (Cause, usize)>
     requires { start < count_of events.now }
     ensures { (attributes : List ℕ) → skip_answer result ≡ skip_of (bytes_at events.now source.now start) 0 (start + 1)
         (resolve_from events.now attributes source.now (count_of events.now - (start + 1)) (start + 1)) }
 {
     let name = bytes_at(events, source, start);
-    let mut depth: usize = 0;
-    let mut i = start + 1;
-    loop {
-        let at = i;
-        let kind = kind_at(events, at);
+    let mut depth = 0;
+    for i in start + 1..events.len() / 5 {
+        let kind = kind_at(events, i);
         if kind == kind::EOF {
-            break Skipped::Refused(Cause::EofInSkip, at);
+            return Err((Cause::EofInSkip, i));
         }
         if kind == kind::FAULT {
-            break Skipped::Refused(Cause::XmlFault, at);
+            return Err((Cause::XmlFault, i));
         }
-        i += 1;
-        let own = same(bytes_at(events, source, at), name);
+        let own = same(bytes_at(events, source, i), name);
         if own & (kind == kind::END) & (depth == 0) {
-            break Skipped::Next(i);
+            return Ok(i + 1);
         }
         depth = depth_after(kind, own, depth);
     }
+    // behind the last event
+    Err((Cause::EofInSkip, events.len() / 5))
 }

@@ -46,8 +46,8 @@ fn areas(x: State, s: &[u8]) -> State {
     let bytes = lister::the_fixed::decimal_at(s, 5, 4, 9999);
     State {
         builder,
-        words: (records.number as usize) * 32,
-        bytes: bytes.number as usize,
+        words: (records.unwrap_or(0) as usize) * 32,
+        bytes: bytes.unwrap_or(0) as usize,
     }
 }
 

@@ -5,7 +5,7 @@
 ghost use Rattle.std.specs.Prelude.{◌≤◌, length, IfOk};
 
 use program_input::read_input;
-use program_input::the_list_input::{Found, input_of};
+use program_input::the_list_input::input_of;
 use std::io;
 use test_tell::tell_table;
 
@@ -34,7 +34,7 @@ fn replay_first(rt: &impl Print, s: &[u8]) -> io::Result<usize>
     let mut attributes = [0u32; 16384];
     let found = input_of(s, &mut events, &mut attributes);
     match found {
-        Found::Is(x) => {
+        Some(x) => {
             let m = x.events;
             let n = x.attributes;
             let at = x.at;
@@ -42,12 +42,13 @@ fn replay_first(rt: &impl Print, s: &[u8]) -> io::Result<usize>
             replay(rt, &events[..m], &attributes[..n], &s[at..end])?;
             Ok(end)
         }
-        Found::Not => Ok(0),
+        None => Ok(0),
     }
 }
 
 fn replay_all(rt: &impl Print, s: &[u8]) -> io::Result<()> {
     let mut at = 0;
+    // while: each step passes a whole table.
     while at < s.len() {
         let taken = replay_first(rt, &s[at..])?;
         if taken == 0 {

@@ -13,7 +13,7 @@ use tree_values::put_moment;
 use tree_values::the_area::{clear_words, first_at, least};
 use tree_values::the_names::code_in;
 use tree_values::the_refusal::Verdict;
-use tree_values::the_timestamp::{Moment, Timestamp, timestamp_of};
+use tree_values::the_timestamp::{Moment, timestamp_of};
 use tree_values::the_tree_put::put_text;
 use tree_values::the_tree_record::{bit, kind, put_field, word};
 
@@ -91,11 +91,9 @@ fn behind(s: &[u8], i: usize) -> &[u8] {
 }
 
 fn put_stamp(r: &mut [u32], s: &[u8]) {
-    let found = timestamp_of(s);
-    let Timestamp::Is(m) = found else {
-        return;
-    };
-    put_moment(r, m);
+    if let Ok(m) = timestamp_of(s) {
+        put_moment(r, m);
+    }
 }
 
 fn put_record(r: &mut [u32], kind: u32, s: &[u8]) {
@@ -129,6 +127,7 @@ fn turn(rt: &impl Print, records: &mut [u32], n: usize, line: &[u8]) -> io::Resu
 fn run(rt: &impl Print, records: &mut [u32], s: &[u8]) -> io::Result<()> {
     let mut n = 0;
     let mut at = 0;
+    // while: each step passes a whole line.
     while at < s.len() {
         let rest = &s[at..];
         let end = first_at(rest, b'\n');

@@ -4,16 +4,12 @@
 
 mod show;
 
-use integer::Integer;
 use program_input::read_input;
 use show::{bytes_of, front, show_bytes, show_kept, show_moment, show_refusal, show_words, write};
 use std::io;
-use text_pieces::the_reference::Named;
 use text_pieces::the_text::kept::kept_of;
-use time_text::the_time::read::Time;
-use timestamp::Timestamp;
+use timestamp::the_refusal::number_of;
 use trim::the_area::first_at;
-use uuids::Uuid;
 
 fn try_utf8(rt: &impl Print, hex: &[u8]) -> io::Result<()> {
     let mut room = [0u8; 32];
@@ -42,10 +38,9 @@ fn try_char(rt: &impl Print, digits: &[u8]) -> io::Result<()> {
     let mut name = [0u8; 32];
     name[0] = b'#';
     trim::the_area::copy_into(&mut name[1..], digits);
-    let named = text_pieces::the_reference::named_by(front(&name, digits.len() + 1));
-    match named {
-        Named::Is(c) => show_char(rt, c),
-        Named::Not => show_refusal(rt, 10),
+    match text_pieces::the_reference::named_by(front(&name, digits.len() + 1)) {
+        Some(c) => show_char(rt, c),
+        None => show_refusal(rt, 10),
     }
 }
 
@@ -96,7 +91,7 @@ fn try_written(rt: &impl Print, text: &[u8]) -> io::Result<()> {
     let secs = uuids::the_fixed::decimal_at(text, 0, 10, 4294967295);
     let nanos = uuids::the_fixed::decimal_at(text, 11, 10, 4294967295);
     let mut room = [0u8; 64];
-    let kept = kept_of(time_text::write_time(&mut room, secs.number, nanos.number));
+    let kept = kept_of(time_text::write_time(&mut room, secs.unwrap_or(0), nanos.unwrap_or(0)));
     show_kept(rt, kept, 16, &room)
 }
 
@@ -107,38 +102,30 @@ fn try_entity(rt: &impl Print, name: &[u8]) -> io::Result<()> {
 }
 
 fn try_integer(rt: &impl Print, text: &[u8]) -> io::Result<()> {
-    let integer = integer::integer_of(text);
-    match integer {
-        Integer::Is(n) => print!(rt; "{n}"),
-        Integer::NotUtf8 => show_refusal(rt, 2),
-        Integer::Bad => show_refusal(rt, 3),
+    match integer::integer_of(text) {
+        Ok(n) => print!(rt; "{n}"),
+        Err(cause) => show_refusal(rt, number_of(cause) as u64),
     }
 }
 
 fn try_time(rt: &impl Print, text: &[u8]) -> io::Result<()> {
-    let time = time_text::the_time::read::read_time(text);
-    match time {
-        Time::Is(secs, nanos) => print!(rt; "{secs} {nanos}"),
-        Time::NotUtf8 => show_refusal(rt, 2),
-        Time::Bad => show_refusal(rt, 5),
+    match time_text::the_time::read::read_time(text) {
+        Ok((secs, nanos)) => print!(rt; "{secs} {nanos}"),
+        Err(cause) => show_refusal(rt, number_of(cause) as u64),
     }
 }
 
 fn try_timestamp(rt: &impl Print, text: &[u8]) -> io::Result<()> {
-    let timestamp = timestamp::timestamp_of(text);
-    match timestamp {
-        Timestamp::Is(m) => show_moment(rt, m),
-        Timestamp::NotUtf8 => show_refusal(rt, 2),
-        Timestamp::Bad => show_refusal(rt, 4),
+    match timestamp::timestamp_of(text) {
+        Ok(m) => show_moment(rt, m),
+        Err(cause) => show_refusal(rt, number_of(cause) as u64),
     }
 }
 
 fn try_uuid(rt: &impl Print, text: &[u8]) -> io::Result<()> {
-    let uuid = uuids::uuid_of(text);
-    match uuid {
-        Uuid::Is(w) => show_words(rt, w),
-        Uuid::NotUtf8 => show_refusal(rt, 2),
-        Uuid::Bad => show_refusal(rt, 6),
+    match uuids::uuid_of(text) {
+        Ok(w) => show_words(rt, w),
+        Err(cause) => show_refusal(rt, number_of(cause) as u64),
     }
 }
 
@@ -181,6 +168,7 @@ fn try_line(rt: &impl Print, line: &[u8]) -> io::Result<()> {
 
 fn try_lines(rt: &impl Print, s: &[u8]) -> io::Result<()> {
     let mut at = 0;
+    // while: each step passes a whole line.
     while at < s.len() {
         let rest = &s[at..];
         let end = first_at(rest, b'\n');

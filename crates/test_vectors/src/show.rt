@@ -2,7 +2,7 @@
 ghost use Rattle.std.specs.Prelude.{◌<◌, ◌≤◌, length};
 
 use std::io;
-use text_pieces::the_text::kept::Kept;
+use text_pieces::the_text::kept::Unkept;
 use timestamp::Moment;
 use uuids::Words;
 
@@ -15,11 +15,8 @@ pub fn show_refusal(rt: &impl Print, n: u64) -> io::Result<()> {
 }
 
 pub fn show_bytes(rt: &impl Print, s: &[u8]) -> io::Result<()> {
-    let mut i = 0;
-    while i < s.len() {
-        let byte = s[i];
+    for byte in s {
         print!(rt; "{byte:02x}")?;
-        i += 1;
     }
     Ok(())
 }
@@ -33,13 +30,18 @@ pub fn front(s: &[u8], n: usize) -> &[u8] {
 }
 
 // `full` is the refusal of an area that is too short.
-pub fn show_kept(rt: &impl Print, kept: Kept, full: u64, room: &[u8; 64]) -> io::Result<()> {
+pub fn show_kept(
+    rt: &impl Print,
+    kept: Result<usize, Unkept>,
+    full: u64,
+    room: &[u8; 64],
+) -> io::Result<()> {
     match kept {
-        Kept::Put(n) => show_bytes(rt, front(room, n)),
-        Kept::Full => show_refusal(rt, full),
-        Kept::NotUtf8 => show_refusal(rt, 2),
-        Kept::BadReference => show_refusal(rt, 10),
-        Kept::UnknownName => show_refusal(rt, 21),
+        Ok(n) => show_bytes(rt, front(room, n)),
+        Err(Unkept::Full) => show_refusal(rt, full),
+        Err(Unkept::NotUtf8) => show_refusal(rt, 2),
+        Err(Unkept::BadReference) => show_refusal(rt, 10),
+        Err(Unkept::UnknownName) => show_refusal(rt, 21),
     }
 }
 
@@ -86,16 +88,9 @@ fn digit_of(b: u8) -> u8
 pub fn bytes_of(hex: &[u8], room: &mut [u8]) -> usize
     ensures { result ≤ length room.new }
 {
-    let mut k = 0;
-    let mut i = 0;
-    while k < room.len() {
-        let next = i + 1;
-        if hex.len() <= next {
-            return k;
-        }
-        room[k] = digit_of(hex[i]) * 16 + digit_of(hex[next]);
-        i += 2;
-        k += 1;
+    let n = room.len().min(hex.len() / 2);
+    for k in 0..n {
+        room[k] = digit_of(hex[2 * k]) * 16 + digit_of(hex[2 * k + 1]);
     }
-    k
+    n
 }

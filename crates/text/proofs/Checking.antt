@@ -5,15 +5,15 @@ use mathlib.Core.List.{List}
 use mathlib.Core.Bool.{Bool, true, false, cond}
 use native.Mathlib.Omega.{arith}
 use lib.ListN.{length}
+use Rattle.std.specs.Prelude.{Option, Result}
 use Rattle.utf8_chars.specs.of_area.Answer.{Answer, gives, refuses}
 use Rattle.utf8_chars.specs.of_area.Area.{stored_answer, placing, laid}
-use Rattle.utf8_chars.specs.of_area.declared.Stored.{Stored}
 use Rattle.utf8_chars.specs.of_utf8.Utf8.{utf8}
 use Rattle.reference.specs.Reference.{refs_ok, decoded}
 use Rattle.text.specs.Decode.{cleaned, decoded_of, decoded_laid}
 use Rattle.text.specs.Value.{checked_of}
 use Rattle.text.specs.Kept.{kept_answer}
-use Rattle.text.specs.declared.kept.Kept.{Kept}
+use Rattle.text.specs.declared.kept.Unkept.{Unkept}
 use Rattle.text.proofs.Putting.{first-fails, second-fails, kept-both}
 use Rattle.utf8_chars.specs.of_refusal.declared.Cause.TheVariants as cause
 use Rattle.utf8_chars.specs.of_refusal.declared.Cause.{Cause}
@@ -31,45 +31,29 @@ module _ (s : List ℕ) where
       go true false e = let z : ◌≡◌ {A = ℕ} 0 1 = cc in absurd (omega arith)
       go false u e = let z : ◌≡◌ {A = ℕ} 0 1 = cc in absurd (omega arith)
 
-  pub checked-not-utf8 : refuses cause.NotUtf8 ≡ checked_of s → utf8 s ≡ false
-  checked-not-utf8 = go (utf8 s) (refs_ok s 0)
-    where
-      go : (t u : Bool) → refuses cause.NotUtf8 ≡ two t u → t ≡ false
-      go true true e = let z : ◌≡◌ {A = ℕ} 0 1 = cc in absurd (omega arith)
-      go true false e = let z : ◌≡◌ {A = ℕ} 2 10 = cc in absurd (omega arith)
-      go false u e = refl
-
-  pub checked-bad : refuses cause.BadReference ≡ checked_of s → (utf8 s ≡ true) × (refs_ok s 0 ≡ false)
-  checked-bad = go (utf8 s) (refs_ok s 0)
-    where
-      go : (t u : Bool) → refuses cause.BadReference ≡ two t u → (t ≡ true) × (u ≡ false)
-      go true true e = let z : ◌≡◌ {A = ℕ} 0 1 = cc in absurd (omega arith)
-      go true false e = (refl, refl)
-      go false u e = let z : ◌≡◌ {A = ℕ} 10 2 = cc in absurd (omega arith)
-
--- a value put into an area, by the outcome of its check
+-- a value put into an area, by the outcome of its tests
 module _ (clean : Bool) (out s : List ℕ) where
-  pub decoded-not-utf8 : refuses cause.NotUtf8 ≡ checked_of s → ((short : Cause) → refuses cause.NotUtf8 ≡ decoded_of short clean (length out) s) × (out ≡ decoded_laid clean out s)
+  pub decoded-not-utf8 : utf8 s ≡ false → ((short : Cause) → refuses cause.NotUtf8 ≡ decoded_of short clean (length out) s) × (out ≡ decoded_laid clean out s)
   decoded-not-utf8 e = (λ short. (short-of short).0, (short-of cause.TextFull).1)
     where
       short-of : (short : Cause) → (refuses cause.NotUtf8 ≡ decoded_of short clean (length out) s) × (out ≡ decoded_laid clean out s)
       short-of short = first-fails (utf8 s) (refs_ok s 0) (placing short (length out) (cleaned clean (decoded s 0)))
-          (refuses cause.BadReference) (refuses cause.NotUtf8) out (laid out (cleaned clean (decoded s 0))) (checked-not-utf8 s e)
+          (refuses cause.BadReference) (refuses cause.NotUtf8) out (laid out (cleaned clean (decoded s 0))) e
 
-  pub decoded-bad : refuses cause.BadReference ≡ checked_of s → ((short : Cause) → refuses cause.BadReference ≡ decoded_of short clean (length out) s) × (out ≡ decoded_laid clean out s)
-  decoded-bad e = (λ short. (short-of short).0, (short-of cause.TextFull).1)
+  pub decoded-bad : utf8 s ≡ true → refs_ok s 0 ≡ false → ((short : Cause) → refuses cause.BadReference ≡ decoded_of short clean (length out) s) × (out ≡ decoded_laid clean out s)
+  decoded-bad e f = (λ short. (short-of short).0, (short-of cause.TextFull).1)
     where
       short-of : (short : Cause) → (refuses cause.BadReference ≡ decoded_of short clean (length out) s) × (out ≡ decoded_laid clean out s)
       short-of short =
           second-fails (utf8 s) (refs_ok s 0) (placing short (length out) (cleaned clean (decoded s 0))) (refuses cause.BadReference)
-          (refuses cause.NotUtf8) out (laid out (cleaned clean (decoded s 0))) (checked-bad s e).0 (checked-bad s e).1
+          (refuses cause.NotUtf8) out (laid out (cleaned clean (decoded s 0))) e f
 
-  pub decoded-good : (out' : List ℕ) (put : Stored) (k : Kept) → gives tt ≡ checked_of s → stored_answer cause.TextFull put ≡ placing cause.TextFull (length out) (cleaned clean (decoded s 0))
+  pub decoded-good : (out' : List ℕ) (put : Option ℕ) (k : Result ℕ Unkept) → utf8 s ≡ true → refs_ok s 0 ≡ true → stored_answer cause.TextFull put ≡ placing cause.TextFull (length out) (cleaned clean (decoded s 0))
       → ((short : Cause) → kept_answer short k ≡ stored_answer short put) → out' ≡ laid out (cleaned clean (decoded s 0))
       → ((short : Cause) → kept_answer short k ≡ decoded_of short clean (length out) s) × (out' ≡ decoded_laid clean out s)
-  decoded-good out' put k e p q o = (λ short. (short-of short).0, (short-of cause.TextFull).1)
+  decoded-good out' put k e f p q o = (λ short. (short-of short).0, (short-of cause.TextFull).1)
     where
       short-of : (short : Cause) → (kept_answer short k ≡ decoded_of short clean (length out) s) × (out' ≡ decoded_laid clean out s)
       short-of short =
           kept-both short cause.TextFull out out' (cleaned clean (decoded s 0)) put k p q (utf8 s) (refs_ok s 0)
-          (refuses cause.BadReference) (refuses cause.NotUtf8) (checked-good s e).0 (checked-good s e).1 o
+          (refuses cause.BadReference) (refuses cause.NotUtf8) e f o

@@ -12,7 +12,7 @@ use lib.Seq.{drop-drop, length-take-le}
 use Rattle.utf8_chars.proofs.of_area.Parts.{rest_part}
 use Rattle.utf8_chars.specs.of_utf8.Characters.{encode}
 use Rattle.reference.specs.Reference.{ref_at, code_of, bytes_of, decoded}
-use Rattle.reference.specs.declared.Ref.TheVariants.{Is, Not}
+use Rattle.std.specs.Prelude.{Some, None}
 use Rattle.reference.proofs.Behind.{ref-fits}
 use Rattle.reference.proofs.Decoding.{decoded-drop}
 use Rattle.text.specs.Decode.{cleaned, piece_of, piece_width, Pieced}
@@ -72,14 +72,14 @@ module _ (s : List ℕ) (h : 0 < length s) where
         ap (λ (t : Bool). cond t (suc (bytes_of (ref_at s))) 1) e,
       )
 
-  pub piece-bad : get_or s 0 0 ≡ 0x26 → ref_at (drop 1 s) ≡ Not → (piece_of s ≡ 0 ∷ []) × (piece_width s ≡ 1)
+  pub piece-bad : get_or s 0 0 ≡ 0x26 → ref_at (drop 1 s) ≡ None → (piece_of s ≡ 0 ∷ []) × (piece_width s ≡ 1)
   unfolding encode
   piece-bad n r = let p = reference n in (p.0 ∙ rw r refl, p.1 ∙ rw r refl)
 
-  pub piece-char : (c w : ℕ) → get_or s 0 0 ≡ 0x26 → ref_at (drop 1 s) ≡ Is c w → (piece_of s ≡ encode c) × (piece_width s ≡ w + 1)
+  pub piece-char : (c w : ℕ) → get_or s 0 0 ≡ 0x26 → ref_at (drop 1 s) ≡ Some (c, w) → (piece_of s ≡ encode c) × (piece_width s ≡ w + 1)
   piece-char c w n r = let p = reference n in (p.0 ∙ rw r refl, p.1 ∙ rw r (omega arith))
 
-  pub ref-room : (c w : ℕ) → ref_at (drop 1 s) ≡ Is c w → w + 1 ≤ length s
+  pub ref-room : (c w : ℕ) → ref_at (drop 1 s) ≡ Some (c, w) → w + 1 ≤ length s
   ref-room c w r =
       let k : bytes_of (ref_at (drop 1 s)) ≤ length (drop 1 s) = ref-fits (drop 1 s) in
       let n : bytes_of (ref_at (drop 1 s)) ≡ w = ap bytes_of r in

@@ -5,12 +5,12 @@ use mathlib.Core.List.{List}
 use mathlib.Core.Bool.{Bool, true, false, cond, ◌&&◌}
 use native.Mathlib.Omega.{arith}
 use lib.ListN.{length}
+use Rattle.std.specs.Prelude.{Option, Result}
 use Rattle.utf8_chars.specs.of_area.Answer.{Answer, gives, refuses}
 use Rattle.utf8_chars.specs.of_area.Area.{stored_answer, placing, laid}
-use Rattle.utf8_chars.specs.of_area.declared.Stored.{Stored}
 use Rattle.utf8_chars.proofs.of_area.Laying.{other-area, put-fits}
 use Rattle.text.specs.Kept.{kept_answer}
-use Rattle.text.specs.declared.kept.Kept.{Kept}
+use Rattle.text.specs.declared.kept.Unkept.{Unkept}
 use Rattle.utf8_chars.specs.of_refusal.declared.Cause.{Cause}
 
 -- a choice by one test, and by two, from their outcomes
@@ -43,7 +43,7 @@ module _ (t u : Bool) (good bad not-utf8 : Answer ℕ) (out full : List ℕ) whe
   both_hold a out' p q e o = (e ∙ both_yes t u good bad not-utf8 p q, o ∙ cond_yes (t && u) full out (ap (λ (b : Bool). b && u) p ∙ q))
 
 -- f was put at the front of out, an area that has the cause `here` where it is too short, by a function that has `there` for it
-module _ (here there : Cause) (out out' f : List ℕ) (put : Stored) (k : Kept) (e : stored_answer there put ≡ placing there (length out) f)
+module _ (here there : Cause) (out out' f : List ℕ) (put : Option ℕ) (k : Result ℕ Unkept) (e : stored_answer there put ≡ placing there (length out) f)
     (g : (short : Cause) → kept_answer short k ≡ stored_answer short put) where
   -- the answer of a function with another cause for "too short", said with this area's cause
   pub kept-placing : kept_answer here k ≡ placing here (length out) f

@@ -7,9 +7,9 @@ use native.Mathlib.Omega.{arith}
 use borrow.Author.Tests.{not-true, lt-ltb, ltb-false}
 use lib.Dec.{ltb, eqb}
 use lib.ListN.{length}
+use Rattle.std.specs.Prelude.{Option, Result}
 use Rattle.utf8_chars.specs.of_area.Answer.{refuses}
 use Rattle.utf8_chars.specs.of_area.Area.{stored_answer, placing, laid}
-use Rattle.utf8_chars.specs.of_area.declared.Stored.{Stored}
 use Rattle.utf8_chars.specs.of_utf8.Utf8.{utf8}
 use Rattle.utf8_chars.specs.of_utf8.inside.Ascii.{ascii}
 use Rattle.utf8_chars.proofs.of_utf8.Rules.{ascii-utf8}
@@ -18,7 +18,7 @@ use Rattle.reference.proofs.Decoding.{plain-refs, plain-decoded}
 use Rattle.text_filter.specs.Filter.{filtered, unfiltered}
 use Rattle.text.specs.Decode.{cleaned, decoded_of, decoded_laid}
 use Rattle.text.specs.Kept.{kept_answer}
-use Rattle.text.specs.declared.kept.Kept.{Kept}
+use Rattle.text.specs.declared.kept.Unkept.{Unkept}
 use Rattle.text.specs.inside.Plain.{odd, plain}
 use Rattle.text_filter.proofs.Filtering.{kept_high, filtered-same}
 use Rattle.text.proofs.Putting.{kept-both}
@@ -56,7 +56,7 @@ plain-cleaned true s e =
 plain-cleaned false s e = sym (plain-decoded s (plain-each s e).0)
 
 -- a plain text that was put as it is
-pub put-plain : (clean : Bool) (out s out' : List ℕ) (put : Stored) (k : Kept) → plain s ≡ true
+pub put-plain : (clean : Bool) (out s out' : List ℕ) (put : Option ℕ) (k : Result ℕ Unkept) → plain s ≡ true
     → stored_answer cause.OutputFull put ≡ placing cause.OutputFull (length out) s → ((short : Cause) → kept_answer short k ≡ stored_answer short put) → out' ≡ laid out s
     → ((short : Cause) → kept_answer short k ≡ decoded_of short clean (length out) s) × (out' ≡ decoded_laid clean out s)
 put-plain clean out s out' put k e p q o = (λ short. (short-of short).0, (short-of cause.TextFull).1)

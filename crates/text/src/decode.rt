@@ -8,13 +8,12 @@ ghost use Rattle.text.specs.inside.Plain.{plain, run};
 ghost use Rattle.utf8_chars.specs.of_refusal.declared.Cause.TheVariants as cause;
 ghost use Rattle.utf8_chars.specs.of_refusal.declared.Cause.{Cause};
 
-use crate::kept::{Kept, kept_of};
-use crate::value::{Checked, check_value};
-use reference::{Ref, ref_at};
+use crate::kept::{Unkept, kept_of};
+use reference::{ref_at, refs_ok};
 use text_filter::is_dropped;
 use text_filter::the_copying::copy_into;
 use utf8_chars::encode_of;
-use utf8_chars::the_area::Stored;
+use utf8_chars::the_utf8::is_utf8;
 
 // The bytes of a piece, the first n of the four, and how many bytes of the value it takes.
 #[derive(Clone, Copy)]
@@ -57,49 +56,43 @@ pub fn piece_of(s: &[u8], clean: bool) -> Piece
     if b != 0x26 {
         return byte_piece(b, clean);
     }
-    let r = ref_at(&s[1..]);
-    let Ref::Is(c, w) = r else {
+    let Some((c, w)) = ref_at(&s[1..]) else {
         return byte_piece(0, clean);
     };
     let e = encode_of(c);
     let bytes = e.bytes;
-    let width = w + 1;
     Piece {
         bytes,
         n: e.n,
-        width,
+        width: w + 1,
     }
 }
 
 // Puts the piece into out from k on.
-fn put_piece(out: &mut [u8], k: usize, p: Piece) -> Stored
+fn put_piece(out: &mut [u8], k: usize, p: Piece) -> Option<usize>
     requires k_in_bounds { k ≤ length out.old }
     requires n_in_bounds { p.n ≤ length p.bytes }
     ensures result_value { stored_answer cause.OutputFull result ≡ placing cause.OutputFull (length out.old - k) (take p.n p.bytes) }
     ensures out_after { out.new ≡ take k out.old ++ laid (drop k out.old) (take p.n p.bytes) }
 {
-    let bytes = p.bytes;
-    let n = p.n;
-    copy_into(&mut out[k..], &bytes[..n])
+    copy_into(&mut out[k..], &p.bytes[..p.n])
 }
 
 // How many bytes at the front of s are put as they are.
 fn run_of(s: &[u8], clean: bool) -> usize
     ensures { result ≡ run clean s.now }
 {
-    let mut i = 0;
-    while i < s.len() {
+    for i in 0..s.len() {
         let b = s[i];
         if (b == 0x26) | (clean & is_dropped(b)) {
             return i;
         }
-        i += 1;
     }
-    i
+    s.len()
 }
 
 // Puts them into out from k on.
-fn put_run(out: &mut [u8], k: usize, s: &[u8], clean: bool) -> Stored
+fn put_run(out: &mut [u8], k: usize, s: &[u8], clean: bool) -> Option<usize>
     requires { k ≤ length out.old }
     ensures result_value { stored_answer cause.OutputFull result ≡ placing cause.OutputFull (length out.old - k) (take (run clean s.now) s.now) }
     ensures out_after { out.new ≡ take k out.old ++ laid (drop k out.old) (take (run clean s.now) s.now) }
@@ -109,57 +102,50 @@ fn put_run(out: &mut [u8], k: usize, s: &[u8], clean: bool) -> Stored
 }
 
 // Puts what s stands for at the front of out, filtered where `clean` asks for it; only what is put needs room (rule M7).
-pub fn write_decoded(out: &mut [u8], s: &[u8], clean: bool) -> Stored
+pub fn write_decoded(out: &mut [u8], s: &[u8], clean: bool) -> Option<usize>
     ensures result_value { stored_answer cause.TextFull result ≡ placing cause.TextFull (length out.old) (cleaned clean (decoded s.now 0)) }
     ensures out_after { out.new ≡ laid out.old (cleaned clean (decoded s.now 0)) }
 {
     let mut i = 0;
     let mut k = 0;
+    // while: each step passes a run and a whole piece.
     while i < s.len() {
-        let run = put_run(out, k, &s[i..], clean);
-        let Stored::Put(m) = run else {
-            return Stored::Full;
-        };
+        let m = put_run(out, k, &s[i..], clean)?;
         k += m;
         i += m;
         let p = piece_of(&s[i..], clean);
-        let put = put_piece(out, k, p);
-        let Stored::Put(n) = put else {
-            return Stored::Full;
-        };
+        let n = put_piece(out, k, p)?;
         k += n;
         i += p.width;
     }
-    Stored::Put(k)
+    Some(k)
 }
 
-// Whether every byte is plain. No way out of the loop before its end, so that many bytes are tested at a time.
+// Whether every byte is plain. No exit before the end: so the compiler takes many bytes at a time.
 fn is_plain(s: &[u8]) -> bool
     ensures { result ≡ plain s.now }
 {
     let mut odd = false;
-    let mut i = 0;
-    while i < s.len() {
-        let b = s[i];
-        odd = odd | ((b == 0x26) | ((b < 0x20) | (0x7f < b)));
-        i += 1;
+    for b in s {
+        odd = odd | ((*b == 0x26) | ((*b < 0x20) | (0x7f < *b)));
     }
     !odd
 }
 
 // 2 and 10 come before a refusal for want of room (rule M7): the whole value is checked before any of it is put. A plain value is
 // put as it is.
-pub fn put_decoded(out: &mut [u8], s: &[u8], clean: bool) -> Kept
+pub fn put_decoded(out: &mut [u8], s: &[u8], clean: bool) -> Result<usize, Unkept>
     ensures result_value { (short : Cause) → kept_answer short result ≡ decoded_of short clean (length out.old) s.now }
     ensures out_after { out.new ≡ decoded_laid clean out.old s.now }
 {
     if is_plain(s) {
         return kept_of(copy_into(out, s));
     }
-    let checked = check_value(s);
-    match checked {
-        Checked::Good => kept_of(write_decoded(out, s, clean)),
-        Checked::NotUtf8 => Kept::NotUtf8,
-        Checked::BadReference => Kept::BadReference,
+    if !is_utf8(s) {
+        return Err(Unkept::NotUtf8);
     }
+    if !refs_ok(s) {
+        return Err(Unkept::BadReference);
+    }
+    kept_of(write_decoded(out, s, clean))
 }

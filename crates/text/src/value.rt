@@ -5,32 +5,26 @@ ghost use Rattle.text.specs.Value.{checked_answer, checked_of, value_of, value_l
 ghost use Rattle.utf8_chars.specs.of_refusal.declared.Cause.TheVariants as cause;
 
 use crate::decode::put_decoded;
-use crate::kept::Kept;
+use crate::kept::Unkept;
 use reference::refs_ok;
+use utf8_chars::the_refusal::Cause;
 use utf8_chars::the_utf8::is_utf8;
 
-#[derive(Clone, Copy)]
-pub enum Checked {
-    Good,
-    NotUtf8,
-    BadReference,
-}
-
 // By rule X5.
-pub fn check_value(s: &[u8]) -> Checked
+pub fn check_value(s: &[u8]) -> Result<(), Cause>
     ensures { checked_answer result ≡ checked_of s.now }
 {
     if !is_utf8(s) {
-        return Checked::NotUtf8;
+        return Err(Cause::NotUtf8);
     }
-    if refs_ok(s) {
-        return Checked::Good;
+    if !refs_ok(s) {
+        return Err(Cause::BadReference);
     }
-    Checked::BadReference
+    Ok(())
 }
 
 // By rule X1.
-pub fn store_value(out: &mut [u8], s: &[u8]) -> Kept
+pub fn store_value(out: &mut [u8], s: &[u8]) -> Result<usize, Unkept>
     ensures result_value { kept_answer cause.TextFull result ≡ value_of (length out.old) s.now }
     ensures out_after { out.new ≡ value_laid out.old s.now }
 {

@@ -8,7 +8,6 @@ ghost use Rattle.copying.specs.of_refusal.declared.Cause.TheVariants as cause;
 
 pub use copying as the_copying;
 use copying::copy_into;
-use copying::the_area::Stored;
 pub use utf8 as the_utf8;
 
 // By rule X8.
@@ -23,37 +22,32 @@ pub fn is_clean(s: &[u8]) -> bool
     ensures { result ≡ unfiltered s.now }
 {
     let mut odd = false;
-    let mut i = 0;
-    while i < s.len() {
-        odd = odd | is_dropped(s[i]);
-        i += 1;
+    for b in s {
+        odd = odd | is_dropped(*b);
     }
     !odd
 }
 
 // Byte by byte.
-fn store_each(out: &mut [u8], s: &[u8]) -> Stored
+fn store_each(out: &mut [u8], s: &[u8]) -> Option<usize>
     ensures result_value { stored_answer cause.TextFull result ≡ placing cause.TextFull (length out.old) (filtered s.now) }
     ensures out_after { out.new ≡ laid out.old (filtered s.now) }
 {
-    let mut i = 0;
     let mut k = 0;
-    while i < s.len() {
-        let b = s[i];
-        i += 1;
-        if !is_dropped(b) {
+    for b in s {
+        if !is_dropped(*b) {
             if out.len() <= k {
-                return Stored::Full;
+                return None;
             }
-            out[k] = b;
+            out[k] = *b;
             k += 1;
         }
     }
-    Stored::Put(k)
+    Some(k)
 }
 
 // Puts s without the dropped bytes at the front of out (rule X8).
-pub fn store(out: &mut [u8], s: &[u8]) -> Stored
+pub fn store(out: &mut [u8], s: &[u8]) -> Option<usize>
     ensures result_value { stored_answer cause.TextFull result ≡ placing cause.TextFull (length out.old) (filtered s.now) }
     ensures out_after { out.new ≡ laid out.old (filtered s.now) }
 {

@@ -16,13 +16,10 @@ fn stands_at(s: &[u8], k: usize, p: Piece) -> bool
     requires n_in_bounds { p.n ≤ length p.bytes }
     ensures { result ≡ same_bytes (take p.n (drop k s.now)) (take p.n p.bytes) }
 {
-    let bytes = p.bytes;
-    let n = p.n;
-    if s.len() - k < n {
+    if s.len() - k < p.n {
         return false;
     }
-    let e = k + n;
-    same(&s[k..e], &bytes[..n])
+    same(&s[k..k + p.n], &p.bytes[..p.n])
 }
 
 // Whether stored is the text that would be stored for raw.
@@ -31,6 +28,7 @@ pub fn is_cleaned(stored: &[u8], raw: &[u8]) -> bool
 {
     let mut i = 0;
     let mut k = 0;
+    // while: each step passes a whole piece.
     while i < raw.len() {
         let p = piece_of(&raw[i..], true);
         if !stands_at(stored, k, p) {
@@ -48,6 +46,7 @@ pub fn cleaned_length(key: &[u8]) -> usize
 {
     let mut i = 0;
     let mut k = 0;
+    // while: each step passes a whole piece.
     while i < key.len() {
         let p = piece_of(&key[i..], true);
         k += p.n;

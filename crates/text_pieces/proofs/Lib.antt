@@ -1,5 +1,4 @@
 pub mod Gathering
-mod Refusing
 mod Examples
 pub use Rattle.text.proofs.of_area as of_area
 pub use Rattle.text.proofs.of_reference as of_reference

@@ -1,7 +1,7 @@
 // Pieces of gathered text, into scratch from its mark on.
 #![tactic(auto)]
 
-ghost use Rattle.std.specs.Prelude.{◌≡◌, length};
+ghost use Rattle.std.specs.Prelude.{◌≡◌, Err, length};
 ghost use Rattle.text.specs.of_area.Answer.{refuses};
 ghost use Rattle.text.specs.of_reference.Reference.{unnamed};
 ghost use Rattle.text.specs.Kept.{kept_answer};
@@ -10,15 +10,15 @@ ghost use Rattle.text.specs.of_refusal.declared.Cause.TheVariants as cause;
 
 pub use text as the_text;
 use text::decode::put_decoded;
-use text::kept::{Kept, kept_of};
+use text::kept::{Unkept, kept_of};
 use text::the_area::copy_into;
-use text::the_reference::{Named, named_by};
+use text::the_reference::named_by;
 use text::the_utf8::is_utf8;
 use text::the_utf8_chars::encode_of;
 pub use text::{the_names, the_reference, the_text_filter};
 
 // By rule X9.
-pub fn gather_text(out: &mut [u8], s: &[u8]) -> Kept
+pub fn gather_text(out: &mut [u8], s: &[u8]) -> Result<usize, Unkept>
     ensures result_value { kept_answer cause.ScratchFull result ≡ text_of (length out.old) s.now }
     ensures out_after { out.new ≡ text_laid out.old s.now }
 {
@@ -26,49 +26,44 @@ pub fn gather_text(out: &mut [u8], s: &[u8]) -> Kept
 }
 
 // By rule X9.
-pub fn gather_cdata(out: &mut [u8], s: &[u8]) -> Kept
+pub fn gather_cdata(out: &mut [u8], s: &[u8]) -> Result<usize, Unkept>
     ensures result_value { kept_answer cause.ScratchFull result ≡ cdata_of (length out.old) s.now }
     ensures out_after { out.new ≡ cdata_laid out.old s.now }
 {
     if is_utf8(s) {
         return kept_of(copy_into(out, s));
     }
-    Kept::NotUtf8
+    Err(Unkept::NotUtf8)
 }
 
 // Why a name that stands for no character is refused (rules X6 and X7).
-fn unnamed_by(name: &[u8]) -> Kept
-    ensures { kept_answer cause.ScratchFull result ≡ refuses (unnamed name.now) }
+fn unnamed_by(name: &[u8]) -> Unkept
+    ensures { kept_answer cause.ScratchFull (Err result) ≡ refuses (unnamed name.now) }
 {
-    if name.len() == 0 {
-        return Kept::UnknownName;
+    if name.starts_with(b"#") {
+        Unkept::BadReference
+    } else {
+        Unkept::UnknownName
     }
-    if name[0] == 0x23 {
-        return Kept::BadReference;
-    }
-    Kept::UnknownName
 }
 
 // The name of a Ref event (rules X6 and X7).
-pub fn gather_reference(out: &mut [u8], name: &[u8]) -> Kept
+pub fn gather_reference(out: &mut [u8], name: &[u8]) -> Result<usize, Unkept>
     ensures result_value { kept_answer cause.ScratchFull result ≡ reference_of (length out.old) name.now }
     ensures out_after { out.new ≡ reference_laid out.old name.now }
 {
     if !is_utf8(name) {
-        return Kept::NotUtf8;
+        return Err(Unkept::NotUtf8);
     }
-    let named = named_by(name);
-    let Named::Is(c) = named else {
-        return unnamed_by(name);
+    let Some(c) = named_by(name) else {
+        return Err(unnamed_by(name));
     };
     let e = encode_of(c);
-    let bytes = e.bytes;
-    let n = e.n;
-    kept_of(copy_into(out, &bytes[..n]))
+    kept_of(copy_into(out, &e.bytes[..e.n]))
 }
 
 // By rule T4.
-pub fn gather_indent(out: &mut [u8]) -> Kept
+pub fn gather_indent(out: &mut [u8]) -> Result<usize, Unkept>
     ensures result_value { kept_answer cause.ScratchFull result ≡ indent_of (length out.old) }
     ensures out_after { out.new ≡ indent_laid out.old }
 {

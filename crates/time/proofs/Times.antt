@@ -1,5 +1,5 @@
 -- When a whole part and a fraction make a time, and what a time's text stands for. Assumes nothing.
-use Prim.Native.Nat.{ℕ, zero, suc, ◌+◌, ◌-◌, ◌≤◌, ◌<◌}
+use Prim.Native.Nat.{ℕ, zero, suc, ◌+◌, ◌≤◌, ◌<◌}
 use mathlib.Core.Path.{◌≡◌, refl, sym, ap, ◌∙◌, subst}
 use mathlib.Core.List.{List, [], ◌∷◌}
 use mathlib.Core.Bool.{Bool, true, false, cond, ◌&&◌, and-eq-true_iff}
@@ -10,8 +10,7 @@ use lib.ListN.{length}
 use Rattle.fraction.specs.of_area.Answer.{Answer, gives, refuses}
 use Rattle.fraction.specs.of_utf8.Utf8.{utf8}
 use Rattle.fraction.specs.of_digits.Digits.{all_digits, value, is_number, number_in}
-use Rattle.fraction.specs.of_digits.declared.Number.TheVariants as number
-use Rattle.time.specs.declared.read.Formed.TheVariants as formed
+use Rattle.std.specs.Prelude.{Option, Some, None}
 use Rattle.fraction.specs.Fraction.{is_fraction, billionths, billionths_of}
 use Rattle.fraction.proofs.Fractions.{is-fraction, nine-below}
 use Rattle.time.specs.Time.{make_time, is_time, seconds_of, nanos_of, time_of, whole, fraction, up_to, formed_time}
@@ -20,29 +19,29 @@ use Rattle.fraction.specs.of_refusal.declared.Cause.TheVariants as cause
 
 -- ---- a number that may have no digit
 module _ (most : ℕ) (s : List ℕ) where
-  pub up-to-none : length s ≡ 0 → number.Is 0 ≡ up_to most s
+  pub up-to-none : length s ≡ 0 → Some 0 ≡ up_to most s
   up-to-none h = go s h
     where
-      go : (s : List ℕ) → length s ≡ 0 → number.Is 0 ≡ up_to most s
-      go [] h = sym (ap (λ (t : Bool). cond t (number.Is 0) number.Not) (le-leb 0 most (omega arith)))
+      go : (s : List ℕ) → length s ≡ 0 → Some 0 ≡ up_to most s
+      go [] h = sym (ap (λ (t : Bool). cond t (Some 0) None) (le-leb 0 most (omega arith)))
       go (b ∷ s) h = absurd (omega arith)
 
   pub up-to-some : (length s ≡ 0 → ⊥) → number_in 10 most s ≡ up_to most s
   unfolding number_in is_number
-  up-to-some h = ap (λ (t : Bool). cond (t && (all_digits 10 s && leb (value 10 s) most)) (number.Is (value 10 s)) number.Not) (lt-ltb 0 (length s) (omega arith))
+  up-to-some h = ap (λ (t : Bool). cond (t && (all_digits 10 s && leb (value 10 s) most)) (Some (value 10 s)) None) (lt-ltb 0 (length s) (omega arith))
 
-  told : (t : Bool) (v : ℕ) → number.Not ≡ cond t (number.Is v) number.Not → t ≡ false
+  told : (t : Bool) (v : ℕ) → None ≡ cond t (Some v) None → t ≡ false
   told true v e = let z : ◌≡◌ {A = ℕ} 0 1 = cc in absurd (omega arith)
   told false v e = refl
 
-  named : (t : Bool) (n v : ℕ) → number.Is n ≡ cond t (number.Is v) number.Not → (t ≡ true) × (n ≡ v)
+  named : (t : Bool) (n v : ℕ) → Some n ≡ cond t (Some v) None → (t ≡ true) × (n ≡ v)
   named true n v e = (refl, cc)
   named false n v e = let z : ◌≡◌ {A = ℕ} 0 1 = cc in absurd (omega arith)
 
-  up-to-not : number.Not ≡ up_to most s → (all_digits 10 s && leb (value 10 s) most) ≡ false
+  up-to-not : None ≡ up_to most s → (all_digits 10 s && leb (value 10 s) most) ≡ false
   up-to-not e = told (all_digits 10 s && leb (value 10 s) most) (value 10 s) e
 
-  pub up-to-is : (n : ℕ) → number.Is n ≡ up_to most s → (all_digits 10 s ≡ true) × (n ≡ value 10 s) × (value 10 s ≤ most)
+  pub up-to-is : (n : ℕ) → Some n ≡ up_to most s → (all_digits 10 s ≡ true) × (n ≡ value 10 s) × (value 10 s ≤ most)
   up-to-is n e =
       let p = named (all_digits 10 s && leb (value 10 s) most) n (value 10 s) e in
       let q = (and-eq-true_iff (all_digits 10 s) (leb (value 10 s) most)).0 p.0 in
@@ -72,7 +71,7 @@ module _ (w f : List ℕ) where
       go zero n h = let k = eqb-false n 0 h in omega arith
       go (suc m) n h = omega arith
 
-  pub bad-whole : number.Not ≡ up_to 8388607 w → make_time w f ≡ false
+  pub bad-whole : None ≡ up_to 8388607 w → make_time w f ≡ false
   unfolding make_time
   bad-whole e =
       go (all_digits 10 w) (all_digits 10 f) (leb (length f) 9) (ltb 0 (length w + length f)) (leb (value 10 w) 8388607) refl (up-to-not 8388607 w e)
@@ -111,38 +110,38 @@ module _ (w f : List ℕ) where
 
 -- ---- the answer
 module _ (w f : List ℕ) where
-  pub formed-not : make_time w f ≡ false → formed.Not ≡ formed_time w f
-  formed-not h = sym (ap (λ (t : Bool). cond t (formed.Is (value 10 w) (billionths f)) formed.Not) h)
+  pub formed-not : make_time w f ≡ false → None ≡ formed_time w f
+  formed-not h = sym (ap (λ (t : Bool). cond {A = Option (ℕ × ℕ)} t (Some (value 10 w, billionths f)) None) h)
 
-  pub formed-is : make_time w f ≡ true → (a b : ℕ) → a ≡ value 10 w → b ≡ billionths f → formed.Is a b ≡ formed_time w f
+  pub formed-is : make_time w f ≡ true → (a b : ℕ) → a ≡ value 10 w → b ≡ billionths f → Some (a, b) ≡ formed_time w f
   formed-is h a b p q = rw (h, p, q) refl
 
   -- both parts are numbers
-  module _ (seconds nanos : ℕ) (es : number.Is seconds ≡ up_to 8388607 w) (en : number.Is nanos ≡ billionths_of f) where
+  module _ (seconds nanos : ℕ) (es : Some seconds ≡ up_to 8388607 w) (en : Some nanos ≡ billionths_of f) where
     pub seconds-small : seconds ≤ 8388607
     seconds-small = let p = up-to-is 8388607 w seconds es in omega (arith, p.1, p.2)
 
     pub nanos-small : nanos < 1000000000
     nanos-small = let p = is-fraction f nanos en in rw p.1 (nine-below f p.0)
 
-    pub formed-good : (eqb (length w) 0 && eqb (length f) 0) ≡ false → formed.Is seconds nanos ≡ formed_time w f
+    pub formed-good : (eqb (length w) 0 && eqb (length f) 0) ≡ false → Some (seconds, nanos) ≡ formed_time w f
     formed-good s =
         let p = up-to-is 8388607 w seconds es in
         let q = is-fraction f nanos en in
         let r = (and-eq-true_iff (all_digits 10 f) (leb (length f) 9)).0 q.0 in
         formed-is (good-parts w f p.0 r.0 (leb-true (length f) 9 r.1) (some-digit w f s) p.2) seconds nanos p.1 q.1
 
-  is-formed : (a b : ℕ) → formed.Is a b ≡ formed_time w f → (make_time w f ≡ true) × (a ≡ value 10 w) × (b ≡ billionths f)
+  is-formed : (a b : ℕ) → Some (a, b) ≡ formed_time w f → (make_time w f ≡ true) × (a ≡ value 10 w) × (b ≡ billionths f)
   is-formed a b e = go (make_time w f) refl e
     where
-      go : (t : Bool) → make_time w f ≡ t → formed.Is a b ≡ cond t (formed.Is (value 10 w) (billionths f)) formed.Not → (make_time w f ≡ true) × (a ≡ value 10 w) × (b ≡ billionths f)
-      go true q p = (q, cc, cc)
+      go : (t : Bool) → make_time w f ≡ t → Some (a, b) ≡ cond {A = Option (ℕ × ℕ)} t (Some (value 10 w, billionths f)) None → (make_time w f ≡ true) × (a ≡ value 10 w) × (b ≡ billionths f)
+      go true q p = let r : ◌≡◌ {A = ℕ × ℕ} (a, b) (value 10 w, billionths f) = cc in (q, ap (λ (x : ℕ × ℕ). x.0) r, ap (λ (x : ℕ × ℕ). x.1) r)
       go false q p = let z : ◌≡◌ {A = ℕ} 0 1 = cc in absurd (omega arith)
 
-  not-formed : formed.Not ≡ formed_time w f → make_time w f ≡ false
+  not-formed : None ≡ formed_time w f → make_time w f ≡ false
   not-formed e = go (make_time w f) e
     where
-      go : (t : Bool) → formed.Not ≡ cond t (formed.Is (value 10 w) (billionths f)) formed.Not → t ≡ false
+      go : (t : Bool) → None ≡ cond {A = Option (ℕ × ℕ)} t (Some (value 10 w, billionths f)) None → t ≡ false
       go true p = let z : ◌≡◌ {A = ℕ} 0 1 = cc in absurd (omega arith)
       go false p = refl
 
@@ -167,8 +166,8 @@ module _ (s : List ℕ) where
       go true false i e = let z : ◌≡◌ {A = ℕ} 0 1 = cc in absurd (omega arith)
       go false t i e = let z : ◌≡◌ {A = ℕ} 0 1 = cc in absurd (omega arith)
 
-  pub read_is : (a b : ℕ) → formed.Is a b ≡ formed_time (whole s) (fraction s) → gives (a, b) ≡ time_of s
+  pub read_is : (a b : ℕ) → Some (a, b) ≡ formed_time (whole s) (fraction s) → gives (a, b) ≡ time_of s
   read_is a b e = let p = is-formed (whole s) (fraction s) a b e in rw (p.1, p.2) (sym (time-is p.0))
 
-  pub read-bad : formed.Not ≡ formed_time (whole s) (fraction s) → utf8 s ≡ true → refuses cause.BadTime ≡ time_of s
+  pub read-bad : None ≡ formed_time (whole s) (fraction s) → utf8 s ≡ true → refuses cause.BadTime ≡ time_of s
   read-bad e u = rw (u, not-formed (whole s) (fraction s) e) refl

@@ -1,23 +1,17 @@
 -- A time as it is read (rules V1, V3 and V4). Definitions only.
-use Rattle.std.specs.Prelude.{ℕ, suc, ◌+◌, List, Bool, cond, ◌&&◌, length, take, drop, ltb, leb}
+use Rattle.std.specs.Prelude.{ℕ, suc, ◌+◌, List, Bool, cond, ◌&&◌, length, take, drop, ltb, leb, Option, Some, None, Result}
 use Rattle.fraction.specs.of_area.Answer.{Answer, gives, refuses}
 use Rattle.fraction.specs.of_area.Area.{first_at}
 use Rattle.fraction.specs.of_utf8.Utf8.{utf8}
 use Rattle.fraction.specs.of_digits.Digits.{all_digits, value}
-use Rattle.fraction.specs.of_digits.declared.Number.{Number}
-use Rattle.fraction.specs.of_digits.declared.Number.TheVariants as number
 use Rattle.fraction.specs.Fraction.{billionths}
-use Rattle.time.specs.declared.read.Formed.{Formed}
-use Rattle.time.specs.declared.read.Formed.TheVariants as formed
-use Rattle.time.specs.declared.read.Time.{Time}
-use Rattle.time.specs.declared.read.Time.TheVariants.{Is, NotUtf8, Bad}
+use Rattle.fraction.specs.of_digits.Results.{answered}
+use Rattle.fraction.specs.of_refusal.declared.Cause.{Cause}
 use Rattle.fraction.specs.of_refusal.declared.Cause.TheVariants as cause
 
 -- seconds and nanoseconds, or 2 for what isn't UTF-8, 5 for what is no time
-abbrev pub time_answer : Time → Answer (ℕ × ℕ)
-time_answer (Is secs nanos) = gives (secs, nanos)
-time_answer NotUtf8 = refuses cause.NotUtf8
-time_answer Bad = refuses cause.BadTime
+abbrev pub time_answer : Result (ℕ × ℕ) Cause → Answer (ℕ × ℕ)
+time_answer = answered
 
 -- how many bytes stand before the first point
 abbrev pub point : List ℕ → ℕ
@@ -53,9 +47,9 @@ time_of s = cond (utf8 s) (cond (is_time s) (gives (seconds_of s, nanos_of s)) (
 
 -- ---- what the steps of the code find
 -- digits, or none, that stand for at most `most`
-abbrev pub up_to : ℕ → List ℕ → Number
-up_to most s = cond (all_digits 10 s && leb (value 10 s) most) (number.Is (value 10 s)) number.Not
+abbrev pub up_to : ℕ → List ℕ → Option ℕ
+up_to most s = cond (all_digits 10 s && leb (value 10 s) most) (Some (value 10 s)) None
 
 -- the time that a whole part and a fraction make
-abbrev pub formed_time : List ℕ → List ℕ → Formed
-formed_time w f = cond (make_time w f) (formed.Is (value 10 w) (billionths f)) formed.Not
+abbrev pub formed_time : List ℕ → List ℕ → Option (ℕ × ℕ)
+formed_time w f = cond (make_time w f) (Some (value 10 w, billionths f)) None

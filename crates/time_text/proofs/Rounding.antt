@@ -7,7 +7,7 @@ use Prim.Native.Nat.{ℕ, zero, suc, ◌+◌, ◌-◌, ◌*◌, ◌/◌, ◌%◌
 use native.Mathlib.Nat.{le_trans, le_of_eq, le_of_lt, lt_of_lt_of_le, lt_of_le_of_lt, mul_comm, mul_assoc, mul_left_comm, mul_right_comm, add-mul, mul-one, suc-mul}
 use native.Mathlib.Nat.{mul-le-mul_left, mul-lt-mul_of_pos_right, lt_of_mul-lt-mul_right, le_of_mul-le-mul_right, div-add-mod', div-lt_iff_lt-mul, mul-pos, mod-lt, zero-lt-suc}
 use native.Mathlib.Omega.{arith}
-use lib.Dec.{T, eqb, is_le, compare_is_eq, leb→le, nleb→lt, eqb→eq, lt→ltb, eqb-suc-zero}
+use lib.Dec.{T, is_le, compare_is_eq, leb→le, nleb→lt, eqb→eq, lt→ltb, eqb-suc-zero}
 use lib.IntN.{pos}
 use lib.Pow.{pow_pos, pow_mono}
 use lib.Ieee.{Float, fin, Format, binary64, up, down, size, nearest, round, add, sum, div}

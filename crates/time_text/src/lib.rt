@@ -7,7 +7,6 @@ ghost use Rattle.time_text.specs.Written.{float_sum, small, thousandths_of, writ
 ghost use Rattle.time.specs.of_refusal.declared.Cause.TheVariants as cause;
 
 pub use time as the_time;
-use time::the_area::Stored;
 pub use time::{the_area, the_digits, the_refusal};
 
 // Seconds as a float plus nanoseconds divided by a billion (rule W10).
@@ -51,23 +50,17 @@ pub fn thousandths(secs: u32, nanos: u32) -> u64
 }
 
 // Puts a time at the front of out: seconds, a point, and three digits (rules W10 and W11).
-pub fn write_time(out: &mut [u8], secs: u32, nanos: u32) -> Stored
+pub fn write_time(out: &mut [u8], secs: u32, nanos: u32) -> Option<usize>
     ensures result_value { stored_answer cause.OutputFull result ≡ placing cause.OutputFull (length out.old) (written_time secs nanos) }
     ensures out_after { out.new ≡ laid out.old (written_time secs nanos) }
 {
     let ms = thousandths(secs, nanos);
-    let whole = time::the_digits::write_decimal(out, ms / 1000);
-    let Stored::Put(point) = whole else {
-        return Stored::Full;
-    };
+    let point = time::the_digits::write_decimal(out, ms / 1000)?;
     if out.len() <= point {
-        return Stored::Full;
+        return None;
     }
     out[point] = 0x2e;
     let from = point + 1;
-    let fraction = time::the_digits::write_digits(&mut out[from..], 3, ms);
-    let Stored::Put(n) = fraction else {
-        return Stored::Full;
-    };
-    Stored::Put(from + n)
+    let n = time::the_digits::write_digits(&mut out[from..], 3, ms)?;
+    Some(from + n)
 }

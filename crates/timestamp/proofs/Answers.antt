@@ -17,7 +17,7 @@ use Rattle.clock.proofs.of_fixed.Texts.{digits-on, byte-on}
 use Rattle.timestamp.specs.Timestamp.{date_tests, clock_tests, has_point, places, fraction_width, is_utc, offset_tests, tail, zone, timestamp_tests, is_timestamp, moment_of, timestamp_of}
 use Rattle.timestamp.specs.inside.Leaves.{form_of}
 use Rattle.timestamp.specs.declared.Moment.{Moment}
-use Rattle.timestamp.specs.declared.Form.TheVariants.{Right, Wrong}
+use Rattle.std.specs.Prelude.{Some, None}
 use Rattle.timestamp.proofs.Fractions.{run-part}
 use Rattle.names.specs.of_refusal.declared.Cause.TheVariants as cause
 
@@ -87,19 +87,19 @@ module _ (s : List ℕ) where
       date-utf8 (passes (timestamp_tests s) 1 e) (clock-utf8 (passes (timestamp_tests s) 2 e) (fraction-utf8 (tail s) (zone-utf8 (zone s) (passes (timestamp_tests s) 4 e))))
 
   -- ---- the answer
-  pub answer-right : (m : Moment) → Right m ≡ form_of s → gives m ≡ timestamp_of s
+  pub answer-right : (m : Moment) → Some m ≡ form_of s → gives m ≡ timestamp_of s
   unfolding timestamp_of form_of
   answer-right m e = go (is_timestamp s) refl e
     where
-      go : (b : Bool) → is_timestamp s ≡ b → Right m ≡ cond b (Right (moment_of s)) Wrong → gives m ≡ timestamp_of s
+      go : (b : Bool) → is_timestamp s ≡ b → Some m ≡ cond b (Some (moment_of s)) None → gives m ≡ timestamp_of s
       go true h e = let z : m ≡ moment_of s = cc in rw (timestamp-utf8 h, h, z)
       go false h e = let z : ◌≡◌ {A = ℕ} 0 1 = cc in absurd (omega arith)
 
-  pub answer-bad : Wrong ≡ form_of s → utf8 s ≡ true → refuses cause.BadTimestamp ≡ timestamp_of s
+  pub answer-bad : None ≡ form_of s → utf8 s ≡ true → refuses cause.BadTimestamp ≡ timestamp_of s
   unfolding timestamp_of form_of
   answer-bad e u = go (is_timestamp s) refl e
     where
-      go : (b : Bool) → is_timestamp s ≡ b → Wrong ≡ cond b (Right (moment_of s)) Wrong → refuses cause.BadTimestamp ≡ timestamp_of s
+      go : (b : Bool) → is_timestamp s ≡ b → None ≡ cond b (Some (moment_of s)) None → refuses cause.BadTimestamp ≡ timestamp_of s
       go true h e = let z : ◌≡◌ {A = ℕ} 0 1 = cc in absurd (omega arith)
       go false h e = rw (u, h)
 

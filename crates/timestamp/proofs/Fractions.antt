@@ -10,14 +10,13 @@ use lib.ListN.{length, get_or, take, drop, length-drop, drop_of_length-le}
 use lib.Seq.{length-take-le}
 use Rattle.names.proofs.of_area.Lists.{drop-next}
 use Rattle.fraction.specs.of_digits.Digits.{digit, is_digit, all_digits}
-use Rattle.fraction.specs.of_digits.declared.Number.TheVariants.{Is, Not}
+use Rattle.std.specs.Prelude.{Some, None}
 use Rattle.fraction.specs.Fraction.{is_fraction, billionths_of}
 use Rattle.fraction.proofs.Fractions.{is-fraction, not-fraction, nine-below}
 use Rattle.clock.specs.of_fixed.Fields.{part}
 use Rattle.clock.proofs.of_fixed.Tests.{fails}
 use Rattle.timestamp.specs.Timestamp.{digit_run, places, fraction_tests, nanos_of}
 use Rattle.timestamp.specs.inside.Leaves.{fraction_of}
-use Rattle.timestamp.specs.declared.parts.Fraction.TheVariants.{Of, NoFraction}
 
 -- ---- how many digits a text begins with
 decimal-class : (b : ℕ) → is_digit 10 b ≡ (leb 0x30 b && leb b 0x39)
@@ -56,7 +55,7 @@ module _ (s : List ℕ) (i : ℕ) where
 
 -- ---- the fraction that t may begin with
 module _ (t : List ℕ) where
-  pub fraction-none : (get_or t 0 0 ≡ 0x2E → ⊥) → Of 0 0 ≡ fraction_of t
+  pub fraction-none : (get_or t 0 0 ≡ 0x2E → ⊥) → Some (0, 0) ≡ fraction_of t
   unfolding fraction_of places
   fraction-none n = rw (ne_eqb (get_or t 0 0) 0x2E n)
 
@@ -88,7 +87,7 @@ module _ (t : List ℕ) where
       count : n ≡ places t
       count = e ∙ sym places-run
 
-      pub fraction-empty : n < 1 → NoFraction ≡ fraction_of t
+      pub fraction-empty : n < 1 → None ≡ fraction_of t
       unfolding fraction_of
       fraction-empty h = rw (fails (fraction_tests t) 0 (rw (eq-eqb (get_or t 0 0) 0x2E p) (lt-leb 1 (places t) (omega (arith, count)))))
 
@@ -97,18 +96,18 @@ module _ (t : List ℕ) where
         digits-at : part 1 (m - 1) t ≡ part 1 (places t) t
         digits-at = ap (λ (k : ℕ). part 1 k t) (em ∙ count)
 
-        pub fraction-long : Not ≡ billionths_of (part 1 (m - 1) t) → NoFraction ≡ fraction_of t
+        pub fraction-long : None ≡ billionths_of (part 1 (m - 1) t) → None ≡ fraction_of t
         unfolding fraction_of
         fraction-long h = rw (fails (fraction_tests t) 1 (sym run-fraction ∙ not-fraction (part 1 (places t) t) (h ∙ ap billionths_of digits-at)))
 
-        module _ (v : ℕ) (h : Is v ≡ billionths_of (part 1 (m - 1) t)) where
+        module _ (v : ℕ) (h : Some v ≡ billionths_of (part 1 (m - 1) t)) where
           told : (is_fraction (part 1 (places t) t) ≡ true) × (v ≡ nanos_of t)
           told = is-fraction (part 1 (places t) t) v (h ∙ ap billionths_of digits-at)
 
           pub fraction-small : v < 1000000000
           fraction-small = rw told.1 (nine-below (part 1 (places t) t) told.0)
 
-          pub fraction-right : 1 ≤ n → Of v (n + 1) ≡ fraction_of t
+          pub fraction-right : 1 ≤ n → Some (v, n + 1) ≡ fraction_of t
           unfolding fraction_of
           fraction-right lo =
               let b : eqb (get_or t 0 0) 0x2E ≡ true = eq-eqb (get_or t 0 0) 0x2E p in

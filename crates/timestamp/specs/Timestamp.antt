@@ -1,5 +1,5 @@
 -- Timestamps by RFC 3339, section 5.6, each rule by its name there. Definitions only.
-use Rattle.std.specs.Prelude.{ℕ, suc, ◌+◌, ◌-◌, ◌*◌, Bool, not, ◌&&◌, ◌||◌, cond, List, [], ◌∷◌, length, get_or, drop, leb, ltb, eqb}
+use Rattle.std.specs.Prelude.{ℕ, suc, ◌+◌, ◌-◌, ◌*◌, Bool, not, ◌&&◌, ◌||◌, cond, List, [], ◌∷◌, length, get_or, drop, leb, ltb, eqb, Result}
 use Rattle.names.specs.of_area.Answer.{Answer, gives, refuses}
 use Rattle.fraction.specs.of_utf8.Utf8.{utf8}
 use Rattle.fraction.specs.of_digits.Digits.{is_digit, is_number, value}
@@ -7,8 +7,8 @@ use Rattle.clock.specs.of_fixed.Fields.{part, all}
 use Rattle.calendar.specs.Calendar.{month_length}
 use Rattle.fraction.specs.Fraction.{billionths}
 use Rattle.timestamp.specs.declared.Moment.{Moment}
-use Rattle.timestamp.specs.declared.Timestamp.{Timestamp}
-use Rattle.timestamp.specs.declared.Timestamp.TheVariants.{Is, NotUtf8, Bad}
+use Rattle.fraction.specs.of_digits.Results.{answered}
+use Rattle.names.specs.of_refusal.declared.Cause.{Cause}
 use Rattle.names.specs.of_refusal.declared.Cause.TheVariants as cause
 -- "T" time-hour ":" time-minute ":" time-second, the bytes 10 to 18
 pub use Rattle.clock.specs.Clock.{hour_of, minute_of, second_of, clock_tests}
@@ -101,10 +101,8 @@ moment_of s = record {
   offset = offset_of (zone s);
 }
 
-abbrev pub timestamp_answer : Timestamp → Answer Moment
-timestamp_answer (Is m) = gives m
-timestamp_answer NotUtf8 = refuses cause.NotUtf8
-timestamp_answer Bad = refuses cause.BadTimestamp
+abbrev pub timestamp_answer : Result Moment Cause → Answer Moment
+timestamp_answer = answered
 
 -- rule V1
 unfoldable pub timestamp_of : List ℕ → Answer Moment

@@ -11,8 +11,7 @@ ghost use Rattle.timestamp.specs.Timestamp.{timestamp_answer, timestamp_of, in_r
 ghost use Rattle.timestamp.specs.inside.Leaves.{form_of};
 
 use calendar::month_length;
-use clock::Clock;
-use parts::{Date, Fraction, Zone};
+use names::the_refusal::Cause;
 
 // A moment as it is written; `offset` is minutes east of UTC, and 1439.
 #[derive(Clone, Copy)]
@@ -27,40 +26,19 @@ pub struct Moment {
     pub offset: u16,
 }
 
-#[derive(Clone, Copy)]
-pub enum Timestamp {
-    Is(Moment),
-    NotUtf8,
-    Bad,
-}
-
-#[derive(Clone, Copy)]
-enum Form {
-    Right(Moment),
-    Wrong,
-}
-
 // By rule V5.
-fn form_of(s: &[u8]) -> Form
+fn form_of(s: &[u8]) -> Option<Moment>
     ensures { result ≡ form_of s.now }
 {
     if s.len() < 20 {
-        return Form::Wrong;
+        return None;
     }
-    let Date::On(year, month, day) = parts::date_of(s) else {
-        return Form::Wrong;
-    };
-    let Clock::At(hour, minute, second) = clock::clock_of(s) else {
-        return Form::Wrong;
-    };
-    let Fraction::Of(nanos, width) = parts::fraction_of(&s[19..]) else {
-        return Form::Wrong;
-    };
+    let (year, month, day) = parts::date_of(s)?;
+    let (hour, minute, second) = clock::clock_of(s)?;
+    let (nanos, width) = parts::fraction_of(&s[19..])?;
     let at = 19 + width;
-    let Zone::East(offset) = parts::zone_of(&s[at..]) else {
-        return Form::Wrong;
-    };
-    Form::Right(Moment {
+    let offset = parts::zone_of(&s[at..])?;
+    Some(Moment {
         year,
         month,
         day,
@@ -73,17 +51,16 @@ fn form_of(s: &[u8]) -> Form
 }
 
 // A timestamp is ASCII, so only what is none has to be tested for UTF-8 (rule V1).
-pub fn timestamp_of(s: &[u8]) -> Timestamp
+pub fn timestamp_of(s: &[u8]) -> Result<Moment, Cause>
     ensures { timestamp_answer result ≡ timestamp_of s.now }
 {
-    let form = form_of(s);
-    let Form::Right(m) = form else {
+    let Some(m) = form_of(s) else {
         if fraction::the_utf8::is_utf8(s) {
-            return Timestamp::Bad;
+            return Err(Cause::BadTimestamp);
         }
-        return Timestamp::NotUtf8;
+        return Err(Cause::NotUtf8);
     };
-    Timestamp::Is(m)
+    Ok(m)
 }
 
 // By rule B10.

@@ -36,6 +36,7 @@ fn run_with(
 {
     let mut st = begin();
     let mut at = 0;
+    // while: each step passes as many bytes as leave the registers alone.
     while at < source.len() {
         let i = at;
         let b = source[i];

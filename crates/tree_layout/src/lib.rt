@@ -54,6 +54,7 @@ fn good_records(texts: &[u8], words: &[u32], limit: usize) -> bool
 {
     let mut at = 0;
     let mut state = tree_order::nothing();
+    // while: ends where no record stands, and what is left is looked at behind it.
     while stands_at(words, at, limit) {
         let end = at + 32;
         let r = &words[at..end];

@@ -7,10 +7,8 @@ fn is_zero(s: &[u8]) -> bool
     ensures { result ≡ all_zero s.now }
 {
     let mut odd = false;
-    let mut i = 0;
-    while i < s.len() {
-        odd = odd | (s[i] != 0);
-        i += 1;
+    for b in s {
+        odd = odd | (*b != 0);
     }
     !odd
 }

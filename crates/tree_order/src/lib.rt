@@ -4,31 +4,39 @@
 ghost use Rattle.std.specs.Prelude.{◌≡◌, ◌≤◌, ◌&&◌, length, leb};
 ghost use Rattle.tree_report.specs.of_tree_status.Status.{Few};
 ghost use Rattle.tree_report.specs.Layout as tree;
-ghost use Rattle.tree_order.specs.inside.Open.{state_of, fresh_of, status_behind};
+ghost use Rattle.tree_order.specs.inside.Open.{number_of, state_of, fresh_of, status_behind};
 
 use tree_report::the_tree_record::{bit, has_bit, kind, word};
 use tree_report::the_tree_status::{Tally, is_ruled, no_status, tallied};
 
-// What is open behind a record.
+// A list of properties: not begun, at hand, or over because another record came.
+#[derive(Clone, Copy)]
+pub enum Properties {
+    Unbegun,
+    AtHand,
+    Over,
+}
+
+// What is open behind a record: `level` elements, a report, a suite and a case.
 #[derive(Clone, Copy)]
 pub struct State {
     pub level: u32,
     pub extras: bool,
-    pub suitelist: u32,
-    pub caselist: u32,
+    pub suitelist: Properties,
+    pub caselist: Properties,
     pub tally: Tally,
     pub flagged: bool,
 }
 
 // Just opened: no property, no status element yet.
-fn fresh(level: u32, extras: bool, suitelist: u32) -> State
-    ensures { state_of result ≡ fresh_of level extras suitelist }
+fn fresh(level: u32, extras: bool, suitelist: Properties) -> State
+    ensures { state_of result ≡ fresh_of level extras (number_of suitelist) }
 {
     State {
         level,
         extras,
         suitelist,
-        caselist: 0,
+        caselist: Properties::Unbegun,
         tally: no_status(),
         flagged: false,
     }
@@ -37,7 +45,7 @@ fn fresh(level: u32, extras: bool, suitelist: u32) -> State
 pub fn nothing() -> State
     ensures { state_of result ≡ tree.nothing }
 {
-    fresh(0, false, 0)
+    fresh(0, false, Properties::Unbegun)
 }
 
 // An open case may end.
@@ -55,6 +63,12 @@ pub fn may_stop(o: State) -> bool
     (1 <= o.level) & may_end(o)
 }
 
+fn may_go_on(p: Properties) -> bool
+    ensures { result ≡ leb (number_of p) 1 }
+{
+    !matches!(p, Properties::Over)
+}
+
 // A live record may stand here (rule M10).
 pub fn may_follow(o: State, r: &[u32]) -> bool
     requires { 32 ≤ length r.now }
@@ -66,8 +80,8 @@ pub fn may_follow(o: State, r: &[u32]) -> bool
         kind::REPORT => o.level == 0,
         kind::SUITE => (1 <= o.level) & done,
         kind::CASE => (2 <= o.level) & done,
-        kind::SUITE_PROPERTY => (2 <= o.level) & (done & (o.suitelist <= 1)),
-        kind::CASE_PROPERTY => (o.level == 3) & (o.caselist <= 1),
+        kind::SUITE_PROPERTY => (2 <= o.level) & (done & may_go_on(o.suitelist)),
+        kind::CASE_PROPERTY => (o.level == 3) & may_go_on(o.caselist),
         kind::SUITE_EXTRA => (o.level == 2) & o.extras,
         kind::CASE_EXTRA => (o.level == 3) & o.extras,
         _ => o.level == 3,
@@ -75,10 +89,13 @@ pub fn may_follow(o: State, r: &[u32]) -> bool
 }
 
 // A list of properties that is at hand is over once another record comes.
-fn over(n: u32) -> u32
-    ensures { result ≡ tree.over n }
+fn over(p: Properties) -> Properties
+    ensures { number_of result ≡ tree.over (number_of p) }
 {
-    if n == 1 { 2 } else { n }
+    match p {
+        Properties::AtHand => Properties::Over,
+        _ => p,
+    }
 }
 
 // Behind a status element.
@@ -86,14 +103,13 @@ fn with_status(o: State, r: &[u32]) -> State
     requires { (32 ≤ length r.now) × Few 4294967294 o.tally }
     ensures { state_of result ≡ status_behind (state_of o) r.now }
 {
-    let t = o.tally;
     State {
         level: 3,
         extras: false,
-        suitelist: o.suitelist,
         caselist: over(o.caselist),
-        tally: tallied(t, r[word::KIND]),
+        tally: tallied(o.tally, r[word::KIND]),
         flagged: o.flagged | has_bit(r, bit::FLAKY),
+        ..o
     }
 }
 
@@ -102,19 +118,16 @@ pub fn following(o: State, r: &[u32]) -> State
     ensures { state_of result ≡ tree.following (state_of o) r.now }
 {
     let k = r[word::KIND];
-    let t = o.tally;
     match k {
-        kind::REPORT => fresh(1, true, 0),
-        kind::SUITE => fresh(2, true, 0),
+        kind::REPORT => fresh(1, true, Properties::Unbegun),
+        kind::SUITE => fresh(2, true, Properties::Unbegun),
         kind::CASE => fresh(3, true, over(o.suitelist)),
-        kind::SUITE_PROPERTY => fresh(2, false, 1),
+        kind::SUITE_PROPERTY => fresh(2, false, Properties::AtHand),
         kind::CASE_PROPERTY => State {
             level: 3,
             extras: false,
-            suitelist: o.suitelist,
-            caselist: 1,
-            tally: t,
-            flagged: o.flagged,
+            caselist: Properties::AtHand,
+            ..o
         },
         kind::SUITE_EXTRA => o,
         kind::CASE_EXTRA => o,

@@ -13,10 +13,7 @@ pub mod word;
 pub fn field(words: &[u32], o: usize) -> u32
     ensures { result ≡ get_or words.now o 0 }
 {
-    if o < words.len() {
-        return words[o];
-    }
-    0
+    words.get(o).copied().unwrap_or(0)
 }
 
 // Changes word o of a record, where the part has it.
@@ -33,10 +30,7 @@ pub fn put_field(words: &mut [u32], o: usize, v: u32)
 fn mask_of(k: u32) -> u32
     ensures { result ≡ mask_of k }
 {
-    if 31 < k {
-        return 2147483648;
-    }
-    1u32 << k
+    1 << k.min(31)
 }
 
 // Whether the presence bit k is set.

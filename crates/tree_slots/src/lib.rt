@@ -7,6 +7,7 @@ ghost use Rattle.tree_report.specs.of_tree_record.Record.{has_bit};
 ghost use Rattle.tree_report.specs.Layout.{all_zero, zero_at};
 ghost use Rattle.tree_report.specs.inside.Parts.{good_text_at, slot, text_slot};
 
+use tree_report::the_area::wide;
 use tree_report::the_tree_record::has_bit;
 pub use tree_report::{
     the_area, the_fixed, the_names, the_refusal, the_text_filter, the_timestamp, the_tree_record,
@@ -18,18 +19,10 @@ pub fn is_zero(words: &[u32]) -> bool
     ensures { result ≡ all_zero words.now }
 {
     let mut odd = false;
-    let mut i = 0;
-    while i < words.len() {
-        odd = odd | (words[i] != 0);
-        i += 1;
+    for w in words {
+        odd = odd | (*w != 0);
     }
     !odd
-}
-
-fn wide(x: u32) -> usize
-    ensures { (result ≡ x) × (result < 4294967296) }
-{
-    x as usize
 }
 
 // One read: of a text the ends are looked at, whatever its length.
@@ -60,8 +53,7 @@ pub fn text_slot(texts: &[u8], r: &[u32], k: u32, o: usize) -> bool
     if has_bit(r, k) {
         return is_text(texts, r, o);
     }
-    let end = o + 2;
-    is_zero(&r[o..end])
+    is_zero(&r[o..o + 2])
 }
 
 // Words that may be anything where they are present.
@@ -72,6 +64,5 @@ pub fn free_slot(r: &[u32], k: u32, o: usize, n: usize) -> bool
     if has_bit(r, k) {
         return true;
     }
-    let end = o + n;
-    is_zero(&r[o..end])
+    is_zero(&r[o..o + n])
 }

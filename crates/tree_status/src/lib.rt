@@ -8,7 +8,7 @@ pub use tree_record as the_tree_record;
 use tree_record::kind::{FLAKY_ERROR, SKIPPED};
 
 // How many mains there are, the kind of the last one, and how many flaky runs and reruns.
-#[derive(Clone, Copy)]
+#[derive(Clone, Copy, Default)]
 pub struct Tally {
     pub mains: u32,
     pub main: u32,
@@ -19,12 +19,7 @@ pub struct Tally {
 pub fn no_status() -> Tally
     ensures { result ≡ rule.no_status }
 {
-    Tally {
-        mains: 0,
-        main: 0,
-        flaky: 0,
-        reruns: 0,
-    }
+    Tally::default()
 }
 
 // One status element more (rules S1 and S5). The counts are below the top of a word.
@@ -36,23 +31,18 @@ pub fn tallied(t: Tally, kind: u32) -> Tally
         return Tally {
             mains: t.mains + 1,
             main: kind,
-            flaky: t.flaky,
-            reruns: t.reruns,
+            ..t
         };
     }
     if kind <= FLAKY_ERROR {
         return Tally {
-            mains: t.mains,
-            main: t.main,
             flaky: t.flaky + 1,
-            reruns: t.reruns,
+            ..t
         };
     }
     Tally {
-        mains: t.mains,
-        main: t.main,
-        flaky: t.flaky,
         reruns: t.reruns + 1,
+        ..t
     }
 }
 

@@ -54,6 +54,7 @@ fn start_of(s: &[u8]) -> usize
     ensures { (result ≤ length s.now) × (no_start_of (chars s.now) ≡ chars (drop result s.now)) }
 {
     let mut i = 0;
+    // while: each step passes a whole character.
     while i < s.len() {
         let f = first_of(&s[i..]);
         let w = f.width;
@@ -71,6 +72,7 @@ fn end_forward(s: &[u8]) -> usize
 {
     let mut to = 0;
     let mut j = 0;
+    // while: each step passes a whole character.
     while j < s.len() {
         let f = first_of(&s[j..]);
         let w = f.width;
@@ -86,18 +88,16 @@ fn end_forward(s: &[u8]) -> usize
 fn end_of(s: &[u8]) -> usize
     ensures { (result ≤ length s.now) × (joined (no_end_of (chars s.now)) ≡ take result s.now) }
 {
-    let mut n = s.len();
-    while 0 < n {
-        let b = s[n - 1];
+    for i in (0..s.len()).rev() {
+        let b = s[i];
         if 0x80 <= b {
             return end_forward(s);
         }
         if !is_white(b as u32) {
-            return n;
+            return i + 1;
         }
-        n -= 1;
     }
-    n
+    0
 }
 
 // By rule X10.

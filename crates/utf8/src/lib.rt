@@ -61,10 +61,8 @@ fn is_ascii(s: &[u8]) -> bool
     ensures { result ≡ ascii s.now }
 {
     let mut odd = false;
-    let mut i = 0;
-    while i < s.len() {
-        odd = odd | (0x80 <= s[i]);
-        i += 1;
+    for b in s {
+        odd = odd | (0x80 <= *b);
     }
     !odd
 }
@@ -73,13 +71,11 @@ fn is_ascii(s: &[u8]) -> bool
 fn is_run(s: &[u8]) -> bool
     ensures { result ≡ utf8 s.now }
 {
-    let mut i = 0;
     let mut k: usize = 0;
     let mut lo: u8 = 0x80;
     let mut hi: u8 = 0xbf;
-    while i < s.len() {
-        let b = s[i];
-        i += 1;
+    for b in s {
+        let b = *b;
         if k == 0 {
             if 0x80 <= b {
                 k = need_of(b);
@@ -87,13 +83,12 @@ fn is_run(s: &[u8]) -> bool
                 hi = high_of(b);
             }
         } else {
-            if (lo <= b) & (b <= hi) {
-                k -= 1;
-                lo = 0x80;
-                hi = 0xbf;
-            } else {
+            if (b < lo) | (hi < b) {
                 return false;
             }
+            k -= 1;
+            lo = 0x80;
+            hi = 0xbf;
         }
     }
     k == 0

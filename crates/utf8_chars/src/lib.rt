@@ -21,23 +21,18 @@ pub struct Coded {
 fn runs_of(s: &[u8], n: usize, lo: u8, hi: u8) -> bool
     ensures { result ≡ runs s.now n lo hi }
 {
-    let mut i = 0;
-    let mut k = n;
+    if s.len() < n {
+        return false;
+    }
     let mut least = lo;
     let mut most = hi;
-    while 0 < k {
-        if s.len() <= i {
-            return false;
-        }
+    for i in 0..n {
         let b = s[i];
-        if (least <= b) & (b <= most) {
-            least = 0x80;
-            most = 0xbf;
-            i += 1;
-            k -= 1;
-        } else {
+        if (b < least) | (most < b) {
             return false;
         }
+        least = 0x80;
+        most = 0xbf;
     }
     true
 }

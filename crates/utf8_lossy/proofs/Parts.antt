@@ -15,7 +15,7 @@ use Rattle.utf8.specs.Grammar.{Char, three-ee}
 use Rattle.utf8.specs.Utf8.{need, low, high, within, runs}
 use Rattle.utf8.proofs.Rules.{run-char}
 use Rattle.utf8.proofs.Runs.{need-most}
-use Rattle.utf8_lossy.specs.Lossy.{along, behind, part_width, is_whole, replacement, part_text, Parted}
+use Rattle.utf8_lossy.specs.Lossy.{along, part_width, is_whole, replacement, part_text, Parted}
 use Rattle.utf8_lossy.specs.declared.Part.{Part}
 
 -- at a place of the list, i bytes behind its front

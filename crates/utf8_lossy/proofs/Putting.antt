@@ -5,10 +5,9 @@ use mathlib.Core.List.{List, ◌++◌}
 use native.Mathlib.Omega.{arith}
 use borrow.Rule.Slice.PartMut.{put_mid}
 use lib.ListN.{length, take, drop, length-drop}
+use Rattle.std.specs.Prelude.{Option, Some, None}
 use Rattle.utf8.specs.of_area.Answer.{refuses}
 use Rattle.utf8.specs.of_area.Area.{placing, laid, stored_answer}
-use Rattle.utf8.specs.of_area.declared.Stored.{Stored}
-use Rattle.utf8.specs.of_area.declared.Stored.TheVariants.{Put, Full}
 use Rattle.utf8.proofs.of_area.Parts.{rest_part, rest_back}
 use Rattle.utf8.proofs.of_area.Laying.{Laying, laying_on, laying_chunk, laying-over, put-fits, full-over}
 use Rattle.utf8_lossy.specs.Lossy.{part_width, part_text, lossy, Parted}
@@ -32,7 +31,7 @@ module _ (s : List ℕ) (i : ℕ) (h : i < length s) (p : Part) (e : Parted (tak
 
   -- s is put up to i; a call that is lent the area from k on is to put that part, answers r and leaves ys there
   module _ (f : List ℕ → List ℕ) (join : (a b : List ℕ) → f (a ++ b) ≡ f a ++ f b) (short : Cause) {out₀ out : List ℕ}
-      {k : ℕ} (l : Laying out₀ out k (f (lossy s)) (f (lossy (drop i s)))) (r : Stored) (ys : List ℕ)
+      {k : ℕ} (l : Laying out₀ out k (f (lossy s)) (f (lossy (drop i s)))) (r : Option ℕ) (ys : List ℕ)
       (a : stored_answer short r ≡ placing short (length (take (length out - k) (drop k out))) (f (part_text (take (length s - i) (drop i s)))))
       (w : ys ≡ laid (take (length out - k) (drop k out)) (f (part_text (take (length s - i) (drop i s))))) where
     abbrev t : List ℕ
@@ -60,17 +59,17 @@ module _ (s : List ℕ) (i : ℕ) (h : i < length s) (p : Part) (e : Parted (tak
         ∙ ap (λ (z : List ℕ). placing short (length (drop k out)) (f (part_text z))) (rest_part s i) ∙ ap (λ (n : ℕ). placing short n t) (length-drop k out)
 
     -- the call had no room for the part's text: the way out, with the refusal and the area
-    pub part-full : r ≡ Full → (refuses short ≡ placing short (length out₀) (f (lossy s))) × (after ≡ laid out₀ (f (lossy s)))
+    pub part-full : r ≡ None → (refuses short ≡ placing short (length out₀) (f (lossy s))) × (after ≡ laid out₀ (f (lossy s)))
     part-full q = laying-over t g turn short after back (full-over short (length out - k) t (sym (ap (stored_answer short) q) ∙ answer))
 
     -- the call put the part's text: a turn of the loop
-    pub part-put : (n : ℕ) → r ≡ Put n → Laying out₀ after (k + n) (f (lossy s)) g
+    pub part-put : (n : ℕ) → r ≡ Some n → Laying out₀ after (k + n) (f (lossy s)) g
     part-put n q =
         let m = put-fits short (length out - k) t n (sym (ap (stored_answer short) q) ∙ answer) in
         rw m.1 (laying_chunk t g turn after back m.0)
 
     -- what was put so far lies in the area
-    pub put-room : (n : ℕ) → r ≡ Put n → k + n ≤ length out
+    pub put-room : (n : ℕ) → r ≡ Some n → k + n ≤ length out
     put-room n q =
         let m = put-fits short (length out - k) t n (sym (ap (stored_answer short) q) ∙ answer) in
         omega (arith, m.0, m.1, l.fits)

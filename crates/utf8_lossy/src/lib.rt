@@ -8,7 +8,7 @@ ghost use Rattle.utf8.specs.of_refusal.declared.Cause.TheVariants as cause;
 
 pub use utf8 as the_utf8;
 pub use utf8::the_area;
-use utf8::the_area::{Stored, copy_into};
+use utf8::the_area::copy_into;
 use utf8::{high_of, low_of, need_of};
 
 // The part that a text begins with: how many bytes it takes, and whether it is a whole character.
@@ -22,25 +22,18 @@ pub struct Part {
 fn along_of(s: &[u8], n: usize, lo: u8, hi: u8) -> usize
     ensures { result ≡ along s.now n lo hi }
 {
-    let mut i = 0;
-    let mut k = n;
     let mut least = lo;
     let mut most = hi;
-    while 0 < k {
-        if s.len() <= i {
-            return i;
-        }
+    let end = n.min(s.len());
+    for i in 0..end {
         let b = s[i];
-        if (least <= b) & (b <= most) {
-            least = 0x80;
-            most = 0xbf;
-            i += 1;
-            k -= 1;
-        } else {
+        if (b < least) | (most < b) {
             return i;
         }
+        least = 0x80;
+        most = 0xbf;
     }
-    i
+    end
 }
 
 // The part that s begins with, of no bytes where s is empty; a caller goes on behind it.
@@ -63,7 +56,7 @@ pub fn part_of(s: &[u8]) -> Part
 }
 
 // Puts what stands for p, the part that s begins with, at the front of out.
-pub fn put_part(out: &mut [u8], s: &[u8], p: Part) -> Stored
+pub fn put_part(out: &mut [u8], s: &[u8], p: Part) -> Option<usize>
     requires { Parted s.now p }
     ensures result_value { stored_answer cause.OutputFull result ≡ placing cause.OutputFull (length out.old) (part_text s.now) }
     ensures out_after { out.new ≡ laid out.old (part_text s.now) }

@@ -1,14 +1,12 @@
 -- UUIDs as text (RFC 9562, section 4). Definitions only.
-use Rattle.std.specs.Prelude.{ℕ, ◌+◌, ◌*◌, Bool, cond, List, [], ◌∷◌, length, get_or, eqb}
+use Rattle.std.specs.Prelude.{ℕ, ◌+◌, ◌*◌, Bool, cond, List, [], ◌∷◌, length, get_or, eqb, Option, Some, None, Result}
 use Rattle.names.specs.of_area.Answer.{Answer, gives, refuses}
 use Rattle.fixed.specs.of_utf8.Utf8.{utf8}
 use Rattle.fixed.specs.of_digits.Digits.{all_digits, value}
 use Rattle.fixed.specs.Fields.{part, all}
 use Rattle.uuids.specs.declared.Words.{Words}
-use Rattle.uuids.specs.declared.Uuid.{Uuid}
-use Rattle.uuids.specs.declared.Uuid.TheVariants.{Is, NotUtf8, Bad}
-use Rattle.uuids.specs.declared.Form.{Form}
-use Rattle.uuids.specs.declared.Form.TheVariants.{Right, Wrong}
+use Rattle.fixed.specs.of_digits.Results.{answered}
+use Rattle.names.specs.of_refusal.declared.Cause.{Cause}
 use Rattle.names.specs.of_refusal.declared.Cause.TheVariants as cause
 
 -- UUID = 4hexOctet "-" 2hexOctet "-" 2hexOctet "-" 2hexOctet "-" 6hexOctet, which are 36 characters (rule V9)
@@ -32,13 +30,11 @@ words_of s = record {
   d = value 16 (part 28 8 s);
 }
 
-abbrev pub form_of : List ℕ → Form
-form_of s = cond (is_uuid s) (Right (words_of s)) Wrong
+abbrev pub form_of : List ℕ → Option Words
+form_of s = cond (is_uuid s) (Some (words_of s)) None
 
-abbrev pub uuid_answer : Uuid → Answer Words
-uuid_answer (Is w) = gives w
-uuid_answer NotUtf8 = refuses cause.NotUtf8
-uuid_answer Bad = refuses cause.BadUuid
+abbrev pub uuid_answer : Result Words Cause → Answer Words
+uuid_answer = answered
 
 -- rule V1
 unfoldable pub uuid_of : List ℕ → Answer Words

@@ -6,6 +6,7 @@ ghost use Rattle.uuids.specs.Uuid.{form_of, uuid_answer, uuid_of};
 
 pub use fixed as the_fixed;
 pub use names::the_area;
+use names::the_refusal::Cause;
 
 // The 16 octets, the most significant first.
 #[derive(Clone, Copy)]
@@ -16,56 +17,40 @@ pub struct Words {
     pub d: u32,
 }
 
-#[derive(Clone, Copy)]
-pub enum Uuid {
-    Is(Words),
-    NotUtf8,
-    Bad,
-}
-
-#[derive(Clone, Copy)]
-enum Form {
-    Right(Words),
-    Wrong,
-}
-
 // By rule V9.
-fn form_of(s: &[u8]) -> Form
+fn form_of(s: &[u8]) -> Option<Words>
     ensures { result ≡ form_of s.now }
 {
     if s.len() != 36 {
-        return Form::Wrong;
+        return None;
     }
     // The fifth group is read in two parts, four digits and the last eight.
-    let first = fixed::hexadecimal_at(s, 0, 8, 0xffffffff);
-    let second = fixed::hexadecimal_at(s, 9, 4, 0xffff);
-    let third = fixed::hexadecimal_at(s, 14, 4, 0xffff);
-    let fourth = fixed::hexadecimal_at(s, 19, 4, 0xffff);
-    let fifth = fixed::hexadecimal_at(s, 24, 4, 0xffff);
-    let last = fixed::hexadecimal_at(s, 28, 8, 0xffffffff);
-    let hyphens = (s[8] == 0x2d) & (s[13] == 0x2d) & (s[18] == 0x2d) & (s[23] == 0x2d);
-    let groups = first.good & second.good & third.good & fourth.good & fifth.good & last.good;
-    if hyphens & groups {
-        return Form::Right(Words {
-            a: first.number,
-            b: second.number * 65536 + third.number,
-            c: fourth.number * 65536 + fifth.number,
-            d: last.number,
+    let first = fixed::hexadecimal_at(s, 0, 8, 0xffffffff)?;
+    let second = fixed::hexadecimal_at(s, 9, 4, 0xffff)?;
+    let third = fixed::hexadecimal_at(s, 14, 4, 0xffff)?;
+    let fourth = fixed::hexadecimal_at(s, 19, 4, 0xffff)?;
+    let fifth = fixed::hexadecimal_at(s, 24, 4, 0xffff)?;
+    let last = fixed::hexadecimal_at(s, 28, 8, 0xffffffff)?;
+    if (s[8] == 0x2d) & (s[13] == 0x2d) & (s[18] == 0x2d) & (s[23] == 0x2d) {
+        return Some(Words {
+            a: first,
+            b: second * 65536 + third,
+            c: fourth * 65536 + fifth,
+            d: last,
         });
     }
-    Form::Wrong
+    None
 }
 
 // A UUID is ASCII, so only what is none has to be tested for UTF-8 (rule V1).
-pub fn uuid_of(s: &[u8]) -> Uuid
+pub fn uuid_of(s: &[u8]) -> Result<Words, Cause>
     ensures { uuid_answer result ≡ uuid_of s.now }
 {
-    let form = form_of(s);
-    let Form::Right(w) = form else {
+    let Some(words) = form_of(s) else {
         if fixed::the_utf8::is_utf8(s) {
-            return Uuid::Bad;
+            return Err(Cause::BadUuid);
         }
-        return Uuid::NotUtf8;
+        return Err(Cause::NotUtf8);
     };
-    Uuid::Is(w)
+    Ok(words)
 }

@@ -9,10 +9,9 @@ ghost use Rattle.names.specs.of_refusal.declared.Cause.TheVariants as cause;
 
 use escape::the_copying::copy_into;
 pub use names as the_names;
-use names::the_area::{Stored, least};
 
 // Puts what stands for b at the front of out.
-fn put_byte(out: &mut [u8], b: u8) -> Stored
+fn put_byte(out: &mut [u8], b: u8) -> Option<usize>
     ensures result_value { stored_answer cause.OutputFull result ≡ placing cause.OutputFull (length out.old) (written b) }
     ensures out_after { out.new ≡ laid out.old (written b) }
 {
@@ -24,30 +23,25 @@ fn put_byte(out: &mut [u8], b: u8) -> Stored
         b'"' => copy_into(out, b"&quot;"),
         _ => {
             if out.len() == 0 {
-                return Stored::Full;
+                return None;
             }
             out[0] = b;
-            Stored::Put(1)
+            Some(1)
         }
     }
 }
 
 // Puts s, escaped, at the front of out, byte by byte.
-fn escape_bytes(out: &mut [u8], s: &[u8]) -> Stored
+fn escape_bytes(out: &mut [u8], s: &[u8]) -> Option<usize>
     ensures result_value { stored_answer cause.OutputFull result ≡ placing cause.OutputFull (length out.old) (escaped s.now) }
     ensures out_after { out.new ≡ laid out.old (escaped s.now) }
 {
-    let mut i = 0;
     let mut k = 0;
-    while i < s.len() {
-        let put = put_byte(&mut out[k..], s[i]);
-        let Stored::Put(n) = put else {
-            return Stored::Full;
-        };
+    for b in s {
+        let n = put_byte(&mut out[k..], *b)?;
         k += n;
-        i += 1;
     }
-    Stored::Put(k)
+    Some(k)
 }
 
 // Whether each byte stands for itself. No exit before the end and one mark for each of the five: so the compiler takes many bytes at a time.
@@ -59,15 +53,12 @@ fn is_plain(s: &[u8]) -> bool
     let mut gt = false;
     let mut apos = false;
     let mut quot = false;
-    let mut i = 0;
-    while i < s.len() {
-        let b = s[i];
-        amp = amp | (b == b'&');
-        lt = lt | (b == b'<');
-        gt = gt | (b == b'>');
-        apos = apos | (b == b'\'');
-        quot = quot | (b == b'"');
-        i += 1;
+    for b in s {
+        amp = amp | (*b == b'&');
+        lt = lt | (*b == b'<');
+        gt = gt | (*b == b'>');
+        apos = apos | (*b == b'\'');
+        quot = quot | (*b == b'"');
     }
     !(amp | (lt | (gt | (apos | quot))))
 }
@@ -86,12 +77,9 @@ fn is_plain_long(s: &[u8]) -> bool
     requires { 16 ≤ length s.now }
     ensures { result ≡ plain s.now }
 {
-    let mut i = 0;
-    while 16 <= s.len() - i {
-        let end = i + 16;
-        if is_plain(&s[i..end]) {
-            i = end;
-        } else {
+    for k in 0..s.len() / 16 {
+        let i = k * 16;
+        if !is_plain(&s[i..i + 16]) {
             return false;
         }
     }
@@ -115,7 +103,7 @@ fn is_plain_text(s: &[u8]) -> bool
     is_plain(s)
 }
 
-fn put_block(out: &mut [u8], s: &[u8]) -> Stored
+fn put_block(out: &mut [u8], s: &[u8]) -> Option<usize>
     ensures result_value { stored_answer cause.OutputFull result ≡ placing cause.OutputFull (length out.old) (escaped s.now) }
     ensures out_after { out.new ≡ laid out.old (escaped s.now) }
 {
@@ -126,20 +114,14 @@ fn put_block(out: &mut [u8], s: &[u8]) -> Stored
 }
 
 // Puts s, escaped, at the front of out (rule W8), block by block, so that only a block with one of the five goes byte by byte.
-pub fn escape_into(out: &mut [u8], s: &[u8]) -> Stored
+pub fn escape_into(out: &mut [u8], s: &[u8]) -> Option<usize>
     ensures result_value { stored_answer cause.OutputFull result ≡ placing cause.OutputFull (length out.old) (escaped s.now) }
     ensures out_after { out.new ≡ laid out.old (escaped s.now) }
 {
-    let mut i = 0;
     let mut k = 0;
-    while i < s.len() {
-        let end = i + least(s.len() - i, 64);
-        let put = put_block(&mut out[k..], &s[i..end]);
-        let Stored::Put(n) = put else {
-            return Stored::Full;
-        };
+    for block in s.chunks(64) {
+        let n = put_block(&mut out[k..], block)?;
         k += n;
-        i = end;
     }
-    Stored::Put(k)
+    Some(k)
 }

@@ -25,10 +25,7 @@ pub fn left_out(form: u32) -> u32
 pub fn one_less(level: u32) -> u32
     ensures { result ≡ level - 1 }
 {
-    if level == 0 {
-        return 0;
-    }
-    level - 1
+    level.saturating_sub(1)
 }
 
 pub fn is_text(kind: u32) -> bool

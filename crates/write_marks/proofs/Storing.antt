@@ -7,9 +7,8 @@ use native.Mathlib.Omega.{arith}
 use borrow.Author.Tests.{leb-true, leb-false, ltb-true, le-leb, lt-leb}
 use lib.Dec.{leb, ltb}
 use lib.ListN.{length, length-append}
+use Rattle.std.specs.Prelude.{Option, Some, None}
 use Rattle.write_codes.specs.of_area.Answer.{gives, refuses}
-use Rattle.write_codes.specs.of_area.declared.Stored.{Stored}
-use Rattle.write_codes.specs.of_area.declared.Stored.TheVariants.{Put, Full}
 use Rattle.write_bytes.specs.of_list_text.inside.Behind.{Filled, filled, behind, Puts}
 use Rattle.write_bytes.proofs.of_list_text.Putting.{more}
 use Rattle.write_form.specs.of_write_table.Laid.{entry, pair, entry_words, pair_words, place}
@@ -19,11 +18,11 @@ use Rattle.write_codes.specs.of_refusal.declared.Cause.TheVariants as cause
 
 -- ---- what a text that was put says of the area
 module _ (k : ℕ) (out f : List ℕ) where
-  answered : {t : Filled} → Puts (filled (Put k) out) f t → t ≡ (cond (leb (length f) (length out - k)) (gives (k + length f)) (refuses cause.OutputFull), over out k f)
+  answered : {t : Filled} → Puts (filled (Some k) out) f t → t ≡ (cond (leb (length f) (length out - k)) (gives (k + length f)) (refuses cause.OutputFull), over out k f)
   unfolding behind
   answered p = p.same
 
-  pub put-says : {e : ℕ} {out' : List ℕ} → Puts (filled (Put k) out) f (filled (Put e) out') → (leb (length f) (length out - k) ≡ true) × (e ≡ k + length f) × (out' ≡ over out k f)
+  pub put-says : {e : ℕ} {out' : List ℕ} → Puts (filled (Some k) out) f (filled (Some e) out') → (leb (length f) (length out - k) ≡ true) × (e ≡ k + length f) × (out' ≡ over out k f)
   put-says {e} {out'} p = go (leb (length f) (length out - k)) refl (ap (λ (x : Filled). x.0) (answered p)) (ap (λ (x : Filled). x.1) (answered p))
     where
       go : (b : Bool) → leb (length f) (length out - k) ≡ b → gives e ≡ cond b (gives (k + length f)) (refuses cause.OutputFull)
@@ -31,7 +30,7 @@ module _ (k : ℕ) (out f : List ℕ) where
       go true u q o = (u, (cc), o)
       go false u q o = let z : ◌≡◌ {A = ℕ} 0 1 = cc in absurd (omega arith)
 
-  pub full-says : {out' : List ℕ} → Puts (filled (Put k) out) f (filled Full out') → leb (length f) (length out - k) ≡ false
+  pub full-says : {out' : List ℕ} → Puts (filled (Some k) out) f (filled None out') → leb (length f) (length out - k) ≡ false
   full-says {out'} p = go (leb (length f) (length out - k)) refl (ap (λ (x : Filled). x.0) (answered p))
     where
       go : (b : Bool) → leb (length f) (length out - k) ≡ b → refuses cause.OutputFull ≡ cond b (gives (k + length f)) (refuses cause.OutputFull) → leb (length f) (length out - k) ≡ false
@@ -39,7 +38,7 @@ module _ (k : ℕ) (out f : List ℕ) where
       go false u q = u
 
 -- nothing is put where something didn't fit before
-pub never-put : (out f : List ℕ) {out' : List ℕ} (n : ℕ) → Puts (filled Full out) f (filled (Put n) out') → ⊥
+pub never-put : (out f : List ℕ) {out' : List ℕ} (n : ℕ) → Puts (filled None out) f (filled (Some n) out') → ⊥
 unfolding behind
 never-put out f n p = let q = ap (λ (x : Filled). x.0) p.same in let z : ◌≡◌ {A = ℕ} 0 1 = cc in omega arith
 
@@ -72,33 +71,33 @@ cond-third x y true false c p = refl
 cond-third x y false b c p = refl
 
 -- the areas of a table
-abbrev areas : ℕ → Stored → ℕ → ℕ → List ℕ → List ℕ → List ℕ → Areas
+abbrev areas : ℕ → Option ℕ → ℕ → ℕ → List ℕ → List ℕ → List ℕ → Areas
 areas lv m e a ev at by = record { mark = m; form = 0; level = lv; events = e; attributes = a; event_area = ev; attribute_area = at; byte_area = by }
 
-module _ (lv : ℕ) (m to : Stored) (from e a kind n : ℕ) (ev at by by' s : List ℕ) (p : m ≡ Put from) (w : Puts (filled m by) s (filled to by')) where
+module _ (lv : ℕ) (m to : Option ℕ) (from e a kind n : ℕ) (ev at by by' s : List ℕ) (p : m ≡ Some from) (w : Puts (filled m by) s (filled to by')) where
   abbrev h : Held
   h = record { events = e; attributes = a; bytes = from; event_area = ev; attribute_area = at; byte_area = by }
 
   begun : (t : Areas) → held t ≡ put h (entry kind s n) → Wrote (areas lv m e a ev at by) (entry kind s n ∷ []) t
   begun t q = wrote_one (areas lv m e a ev at by) t (entry kind s n) (rw p refl) q
 
-  was : Puts (filled (Put from) by) s (filled to by')
+  was : Puts (filled (Some from) by) s (filled to by')
   was = rw p at w
 
   unfoldable limits : Bool
   limits = entry_limits e (from + length s) a n
 
   -- its bytes didn't fit
-  pub no_bytes : (t : Areas) → to ≡ Full → t.mark ≡ Full → Wrote (areas lv m e a ev at by) (entry kind s n ∷ []) t
+  pub no_bytes : (t : Areas) → to ≡ None → t.mark ≡ None → Wrote (areas lv m e a ev at by) (entry kind s n ∷ []) t
   unfolding put limits
   no_bytes t q f = begun t (rw f (sym (cond-third (some (with_entry h kind s n)) none limits (table_room e ev) (byte_room from (length s) by) (full-says from by s (rw q at was)))))
 
-  module _ (end : ℕ) (q : to ≡ Put end) where
+  module _ (end : ℕ) (q : to ≡ Some end) where
     says : (leb (length s) (length by - from) ≡ true) × (end ≡ from + length s) × (by' ≡ over by from s)
     says = put-says from by s (rw q at was)
 
     -- it isn't within the limits
-    pub no-limits : (t : Areas) → entry_limits e end a n ≡ false → t.mark ≡ Full → Wrote (areas lv m e a ev at by) (entry kind s n ∷ []) t
+    pub no-limits : (t : Areas) → entry_limits e end a n ≡ false → t.mark ≡ None → Wrote (areas lv m e a ev at by) (entry kind s n ∷ []) t
     unfolding put limits
     no-limits t l f =
         begun t (rw f (sym (cond-first (some (with_entry h kind s n)) none limits (table_room e ev && byte_room from (length s) by) (ap (λ (x : ℕ). entry_limits e x a n) (sym says.1) ∙ l))))
@@ -123,12 +122,12 @@ module _ (lv : ℕ) (m to : Stored) (from e a kind n : ℕ) (ev at by by' s : Li
         rw (x (omega arith), y (omega arith), z (omega arith), c (omega arith), u) refl
 
     -- its words didn't fit
-    pub no-entry : (t : Areas) (ev' : List ℕ) → Puts (filled (Put (e * 5)) ev) words (filled Full ev') → t.mark ≡ Full → Wrote (areas lv m e a ev at by) (entry kind s n ∷ []) t
+    pub no-entry : (t : Areas) (ev' : List ℕ) → Puts (filled (Some (e * 5)) ev) words (filled None ev') → t.mark ≡ None → Wrote (areas lv m e a ev at by) (entry kind s n ∷ []) t
     unfolding put limits
     no-entry t ev' v f = begun t (rw f (sym (cond-second (some (with_entry h kind s n)) none limits (table_room e ev) (byte_room from (length s) by) (full-says (e * 5) ev words v))))
 
-    pub entry-stored : (ev' : List ℕ) (u : ℕ) → entry_limits e end a n ≡ true → Puts (filled (Put (e * 5)) ev) words (filled (Put u) ev')
-        → Wrote (areas lv m e a ev at by) (entry kind s n ∷ []) (areas lv (Put end) (e + 1) a ev' at by')
+    pub entry-stored : (ev' : List ℕ) (u : ℕ) → entry_limits e end a n ≡ true → Puts (filled (Some (e * 5)) ev) words (filled (Some u) ev')
+        → Wrote (areas lv m e a ev at by) (entry kind s n ∷ []) (areas lv (Some end) (e + 1) a ev' at by')
     unfolding put limits
     entry-stored ev' u l v =
         let k = put-says (e * 5) ev words v in
@@ -137,7 +136,7 @@ module _ (lv : ℕ) (m to : Stored) (from e a kind n : ℕ) (ev at by by' s : Li
         let z = says.2 in
         let f : put h (entry kind s n) ≡ some (with_entry h kind s n) =
         cond-all (some (with_entry h kind s n)) none limits (table_room e ev) (byte_room from (length s) by) (ap (λ (x : ℕ). entry_limits e x a n) (sym says.1) ∙ l) k.0 says.0 in
-        begun (areas lv (Put end) (e + 1) a ev' at by') (rw (y, z, o) (sym f))
+        begun (areas lv (Some end) (e + 1) a ev' at by') (rw (y, z, o) (sym f))
 
 -- ---- the limits, as they are tested
 leb-back : (a n r : ℕ) → n ≤ r → leb a (r - n) ≡ leb (a + n) r
@@ -159,7 +158,7 @@ limits-over e b a n h = rw (lt-leb (a + n) 65536 (omega arith)) (go (ltb e 65536
     go false y = refl
 
 -- ---- an attribute: its key was put up to mid, its value from there on
-module _ (lv : ℕ) (m mid to : Stored) (from e a : ℕ) (ev at by by' by'' key value : List ℕ) (p : m ≡ Put from)
+module _ (lv : ℕ) (m mid to : Option ℕ) (from e a : ℕ) (ev at by by' by'' key value : List ℕ) (p : m ≡ Some from)
     (w : Puts (filled m by) key (filled mid by')) (v : Puts (filled mid by') value (filled to by'')) where
   abbrev h₂ : Held
   h₂ = record { events = e; attributes = a; bytes = from; event_area = ev; attribute_area = at; byte_area = by }
@@ -171,30 +170,30 @@ module _ (lv : ℕ) (m mid to : Stored) (from e a : ℕ) (ev at by by' by'' key 
   limits₂ = pair_limits a (from + length (key ++ value))
 
   -- key and value together
-  both : Puts (filled (Put from) by) (key ++ value) (filled to by'')
+  both : Puts (filled (Some from) by) (key ++ value) (filled to by'')
   both = rw p at (more w v)
 
   -- they didn't fit
-  pub no-pair : (t : Areas) → to ≡ Full → t.mark ≡ Full → Wrote (areas lv m e a ev at by) (pair key value ∷ []) t
+  pub no-pair : (t : Areas) → to ≡ None → t.mark ≡ None → Wrote (areas lv m e a ev at by) (pair key value ∷ []) t
   unfolding put limits₂
   no-pair t q f =
       begun₂ t (rw f (sym (cond-third (some (with_pair h₂ key value)) none limits₂ (table_room a at) (byte_room from (length (key ++ value)) by) (full-says from by (key ++ value) (rw q at both)))))
 
-  pub no_key : (t : Areas) → mid ≡ Full → t.mark ≡ Full → Wrote (areas lv m e a ev at by) (pair key value ∷ []) t
+  pub no_key : (t : Areas) → mid ≡ None → t.mark ≡ None → Wrote (areas lv m e a ev at by) (pair key value ∷ []) t
   no_key t q f = go to refl
     where
-      go : (x : Stored) → to ≡ x → Wrote (areas lv m e a ev at by) (pair key value ∷ []) t
-      go (Put n) r = absurd (never-put by' value n (rw (q, r) at v))
-      go Full r = no-pair t r f
+      go : (x : Option ℕ) → to ≡ x → Wrote (areas lv m e a ev at by) (pair key value ∷ []) t
+      go (Some n) r = absurd (never-put by' value n (rw (q, r) at v))
+      go None r = no-pair t r f
 
-  module _ (half end : ℕ) (r : mid ≡ Put half) (q : to ≡ Put end) where
+  module _ (half end : ℕ) (r : mid ≡ Some half) (q : to ≡ Some end) where
     says₁ : (leb (length key) (length by - from) ≡ true) × (half ≡ from + length key) × (by' ≡ over by from key)
     says₁ = put-says from by key (rw (p, r) at w)
 
     says₂ : (leb (length (key ++ value)) (length by - from) ≡ true) × (end ≡ from + length (key ++ value)) × (by'' ≡ over by from (key ++ value))
     says₂ = put-says from by (key ++ value) (rw q at both)
 
-    pub no-pair-limits : (t : Areas) → pair_limits a end ≡ false → t.mark ≡ Full → Wrote (areas lv m e a ev at by) (pair key value ∷ []) t
+    pub no-pair-limits : (t : Areas) → pair_limits a end ≡ false → t.mark ≡ None → Wrote (areas lv m e a ev at by) (pair key value ∷ []) t
     unfolding put limits₂
     no-pair-limits t l f = begun₂ t
         (rw f (sym (cond-first (some (with_pair h₂ key value)) none limits₂ (table_room a at && byte_room from (length (key ++ value)) by) (ap (λ (x : ℕ). pair_limits a x) (sym says₂.1) ∙ l))))
@@ -220,13 +219,13 @@ module _ (lv : ℕ) (m mid to : Stored) (from e a : ℕ) (ev at by by' by'' key 
         let g = length-append key value in
         rw (x (omega arith), y (omega arith), x' (omega arith), y' (omega arith), u, u') refl
 
-    pub no-pair-words : (t : Areas) (at' : List ℕ) → Puts (filled (Put (a * 5)) at) words₂ (filled Full at') → t.mark ≡ Full → Wrote (areas lv m e a ev at by) (pair key value ∷ []) t
+    pub no-pair-words : (t : Areas) (at' : List ℕ) → Puts (filled (Some (a * 5)) at) words₂ (filled None at') → t.mark ≡ None → Wrote (areas lv m e a ev at by) (pair key value ∷ []) t
     unfolding put limits₂
     no-pair-words t at' x f =
         begun₂ t (rw f (sym (cond-second (some (with_pair h₂ key value)) none limits₂ (table_room a at) (byte_room from (length (key ++ value)) by) (full-says (a * 5) at words₂ x))))
 
-    pub pair-stored : (at' : List ℕ) (u : ℕ) → pair_limits a end ≡ true → Puts (filled (Put (a * 5)) at) words₂ (filled (Put u) at')
-        → Wrote (areas lv m e a ev at by) (pair key value ∷ []) (areas lv (Put end) e (a + 1) ev at' by'')
+    pub pair-stored : (at' : List ℕ) (u : ℕ) → pair_limits a end ≡ true → Puts (filled (Some (a * 5)) at) words₂ (filled (Some u) at')
+        → Wrote (areas lv m e a ev at by) (pair key value ∷ []) (areas lv (Some end) e (a + 1) ev at' by'')
     unfolding put limits₂
     pair-stored at' u l x =
         let k = put-says (a * 5) at words₂ x in
@@ -235,4 +234,4 @@ module _ (lv : ℕ) (m mid to : Stored) (from e a : ℕ) (ev at by by' by'' key 
         let z = says₂.2 in
         let f : put h₂ (pair key value) ≡ some (with_pair h₂ key value) =
         cond-all (some (with_pair h₂ key value)) none limits₂ (table_room a at) (byte_room from (length (key ++ value)) by) (ap (λ (n : ℕ). pair_limits a n) (sym says₂.1) ∙ l) k.0 says₂.0 in
-        begun₂ (areas lv (Put end) e (a + 1) ev at' by'') (rw (y, z, o) (sym f))
+        begun₂ (areas lv (Some end) e (a + 1) ev at' by'') (rw (y, z, o) (sym f))

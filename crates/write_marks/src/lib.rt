@@ -1,5 +1,5 @@
 // Marks of what is written, which is only appended to, and the entries that are put there: in the three areas of a table, or as XML in
-// the byte area alone. `bytes` is Full once something didn't fit, and then nothing more is put.
+// the byte area alone. `bytes` is None once something didn't fit, and then nothing more is put.
 #![tactic(auto)]
 
 ghost use Rattle.std.specs.Prelude.{◌≡◌, List, [], ◌∷◌, ◌++◌, ℕ, ◌-◌, ◌≤◌, ◌<◌, not, cond};
@@ -13,7 +13,7 @@ use write_bytes::put_words;
 pub use write_bytes::the_list_text;
 pub use write_codes as the_write_codes;
 use write_codes::has_pair_room;
-use write_codes::the_area::{Stored, limit};
+use write_codes::the_area::limit;
 pub use write_codes::{the_names, the_table, the_tree_record};
 pub use write_form as the_write_form;
 use write_form::{form, form_behind, is_too_deep, level_behind};
@@ -26,72 +26,49 @@ pub struct Marks {
     pub attributes: u32,
     pub form: u32,
     pub level: u32,
-    pub bytes: Stored,
+    pub bytes: Option<usize>,
 }
 
 // Whether there may be room for more.
 pub fn is_open(k: Marks) -> bool
     ensures { result ≡ not (is_full k.bytes) }
 {
-    let mark = k.bytes;
-    write_bytes::the_list_text::is_open(mark)
+    write_bytes::the_list_text::is_open(k.bytes)
 }
 
 fn shut(k: Marks) -> Marks
     ensures { result ≡ shut_by k }
 {
-    Marks {
-        events: k.events,
-        attributes: k.attributes,
-        form: k.form,
-        level: k.level,
-        bytes: Stored::Full,
-    }
+    Marks { bytes: None, ..k }
 }
 
-fn event_more(k: Marks, to: Stored) -> Marks
+fn event_more(k: Marks, to: Option<usize>) -> Marks
     requires { k.events ≤ 65535 }
     ensures { result ≡ event_more k to }
 {
     Marks {
         events: k.events + 1,
-        attributes: k.attributes,
-        form: k.form,
-        level: k.level,
         bytes: to,
+        ..k
     }
 }
 
-fn attribute_more(k: Marks, to: Stored) -> Marks
+fn attribute_more(k: Marks, to: Option<usize>) -> Marks
     requires { k.attributes ≤ 65535 }
     ensures { result ≡ attribute_more k to }
 {
     Marks {
-        events: k.events,
         attributes: k.attributes + 1,
-        form: k.form,
-        level: k.level,
         bytes: to,
+        ..k
     }
-}
-
-fn less(a: usize, b: usize) -> usize
-    ensures { result ≡ a - b }
-{
-    if a < b {
-        return 0;
-    }
-    a - b
 }
 
 // A number as a word; what is put never has a larger one.
 fn word(n: usize) -> u32
     ensures { n ≤ 4294967295 → result ≡ n }
 {
-    if n <= 4294967295 {
-        return n as u32;
-    }
-    0
+    u32::try_from(n).unwrap_or(0)
 }
 
 // 0 without length or count (rule W12).
@@ -114,7 +91,7 @@ fn has_entry_room(events: usize, bytes: usize, attributes: usize, count: usize) 
 }
 
 // In the XML form: an entry of that kind was put up to `to`.
-pub fn entry_more(k: Marks, to: Stored, kind: u32) -> Marks
+pub fn entry_more(k: Marks, to: Option<usize>, kind: u32) -> Marks
     ensures { result ≡ entry_more k to kind }
 {
     if is_too_deep(k.level, kind) {
@@ -122,67 +99,75 @@ pub fn entry_more(k: Marks, to: Stored, kind: u32) -> Marks
     }
     let form = form_behind(k.form, kind);
     let level = level_behind(k.level, kind);
-    let Stored::Put(end) = to else {
+    let Some(end) = to else {
         return Marks {
-            events: k.events,
-            attributes: k.attributes,
             form,
             level,
-            bytes: Stored::Full,
+            bytes: None,
+            ..k
         };
     };
+    // `Some(end)` made anew: a copy of `to` waits for memory.
     Marks {
-        events: k.events,
-        attributes: k.attributes,
         form,
         level,
-        bytes: Stored::Put(end),
+        bytes: Some(end),
+        ..k
     }
 }
 
-pub fn text_more(k: Marks, to: Stored) -> Marks
+pub fn text_more(k: Marks, to: Option<usize>) -> Marks
     ensures { result ≡ text_more k to }
 {
-    let Stored::Put(end) = to else {
+    let Some(end) = to else {
         return shut(k);
     };
+    // As in `entry_more`.
     Marks {
-        events: k.events,
-        attributes: k.attributes,
-        form: k.form,
-        level: k.level,
-        bytes: Stored::Put(end),
+        bytes: Some(end),
+        ..k
     }
 }
 
 // An event of a table.
-pub fn store_entry(events: &mut [u32], k: Marks, to: Stored, kind: u32, count: usize) -> Marks
+pub fn store_entry(
+    events: &mut [u32],
+    k: Marks,
+    to: Option<usize>,
+    kind: u32,
+    count: usize,
+) -> Marks
     ensures { k.form ≡ 0 → (at by by' s : List ℕ) → Puts (filled k.bytes by) s (filled to by')
         → Wrote (kept k events.old at by) (laid.entry kind s count ∷ []) (kept result events.new at by') }
 {
-    let mark = k.bytes;
-    let Stored::Put(from) = mark else {
+    let Some(from) = k.bytes else {
         return k;
     };
-    let Stored::Put(end) = to else {
+    let Some(end) = to else {
         return shut(k);
     };
     if !has_entry_room(k.events as usize, end, k.attributes as usize, count) {
         return shut(k);
     }
-    let n = less(end, from);
+    let n = end.saturating_sub(from);
     let start = place(n, from);
     let first = place(count, k.attributes as usize);
     let entry = [kind, start, word(n), first, word(count)];
-    let put = put_words(events, Stored::Put(k.events as usize * 5), &entry);
-    let Stored::Put(_) = put else {
+    let put = put_words(events, Some(k.events as usize * 5), &entry);
+    let Some(_) = put else {
         return shut(k);
     };
-    event_more(k, Stored::Put(end))
+    event_more(k, Some(end))
 }
 
 // An event whose bytes, with what stands around them, were put up to `to`, with so many attributes behind it (rules W12 and W18).
-pub fn store_event(events: &mut [u32], k: Marks, to: Stored, kind: u32, count: usize) -> Marks
+pub fn store_event(
+    events: &mut [u32],
+    k: Marks,
+    to: Option<usize>,
+    kind: u32,
+    count: usize,
+) -> Marks
     ensures { (at by by' s : List ℕ) → Puts (filled k.bytes by) (before k.form k.level kind ++ (s ++ behind k.form kind)) (filled to by')
         → Wrote (kept k events.old at by) (laid.entry kind s count ∷ []) (kept result events.new at by') }
 {
@@ -193,38 +178,47 @@ pub fn store_event(events: &mut [u32], k: Marks, to: Stored, kind: u32, count: u
 }
 
 // An attribute of a table.
-pub fn store_pair(attributes: &mut [u32], k: Marks, middle: Stored, to: Stored) -> Marks
+pub fn store_pair(
+    attributes: &mut [u32],
+    k: Marks,
+    middle: Option<usize>,
+    to: Option<usize>,
+) -> Marks
     ensures { k.form ≡ 0 → (ev by by' by'' key value : List ℕ) → Puts (filled k.bytes by) key (filled middle by') → Puts (filled middle by') value (filled to by'')
         → Wrote (kept k ev attributes.old by) (laid.pair key value ∷ []) (kept result ev attributes.new by'') }
 {
-    let mark = k.bytes;
-    let Stored::Put(from) = mark else {
+    let Some(from) = k.bytes else {
         return k;
     };
-    let Stored::Put(half) = middle else {
+    let Some(half) = middle else {
         return shut(k);
     };
-    let Stored::Put(end) = to else {
+    let Some(end) = to else {
         return shut(k);
     };
     if !has_pair_room(k.attributes as usize, end) {
         return shut(k);
     }
-    let n = less(half, from);
-    let m = less(end, half);
+    let n = half.saturating_sub(from);
+    let m = end.saturating_sub(half);
     let start = place(n, from);
     let behind = place(m, half);
     let entry = [0, start, word(n), behind, word(m)];
-    let put = put_words(attributes, Stored::Put(k.attributes as usize * 5), &entry);
-    let Stored::Put(_) = put else {
+    let put = put_words(attributes, Some(k.attributes as usize * 5), &entry);
+    let Some(_) = put else {
         return shut(k);
     };
-    attribute_more(k, Stored::Put(end))
+    attribute_more(k, Some(end))
 }
 
 // An attribute whose key was put up to `middle`, and its value from there up to `to`, each with what stands around it (rules W12 and
 // W18).
-pub fn store_attribute(attributes: &mut [u32], k: Marks, middle: Stored, to: Stored) -> Marks
+pub fn store_attribute(
+    attributes: &mut [u32],
+    k: Marks,
+    middle: Option<usize>,
+    to: Option<usize>,
+) -> Marks
     ensures { (ev by by' by'' key value : List ℕ) → Puts (filled k.bytes by) (key_in k.form key) (filled middle by')
         → Puts (filled middle by') (value ++ quote_in k.form) (filled to by'')
         → Wrote (kept k ev attributes.old by) (laid.pair key value ∷ []) (kept result ev attributes.new by'') }

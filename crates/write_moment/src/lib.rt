@@ -10,7 +10,7 @@ ghost use Rattle.timestamp.specs.of_refusal.declared.Cause.TheVariants as cause;
 
 pub use timestamp as the_timestamp;
 use timestamp::Moment;
-use timestamp::the_area::{Stored, copy_into};
+use timestamp::the_area::copy_into;
 
 // Puts the last two digits of n into bytes from `at` on.
 fn put_two(bytes: &mut [u8; 29], at: usize, n: u32)
@@ -60,7 +60,7 @@ fn spell(m: Moment) -> [u8; 29]
 }
 
 // Puts m at the front of out (rule W9).
-pub fn write_timestamp(out: &mut [u8], m: Moment) -> Stored
+pub fn write_timestamp(out: &mut [u8], m: Moment) -> Option<usize>
     ensures result_value { stored_answer cause.OutputFull result ≡ placing cause.OutputFull (length out.old) (timestamp_text m) }
     ensures out_after { out.new ≡ laid out.old (timestamp_text m) }
 {

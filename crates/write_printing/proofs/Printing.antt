@@ -4,10 +4,9 @@ use mathlib.Core.Path.{◌≡◌, refl, sym, ap, ◌∙◌}
 use mathlib.Core.List.{List}
 use native.Mathlib.Omega.{arith}
 use lib.ListN.{length}
+use Rattle.std.specs.Prelude.{Option, Some, None}
 use Rattle.writer.specs.of_area.Area.{zeros, stored_answer, placing, laid}
 use Rattle.writer.specs.of_area.Answer.{gives}
-use Rattle.writer.specs.of_area.declared.Stored.{Stored}
-use Rattle.writer.specs.of_area.declared.Stored.TheVariants.{Put, Full}
 use Rattle.write_words.specs.of_list_text.inside.Behind.{Filled, filled, behind, Puts}
 use Rattle.list_printing.proofs.of_public_call.Writing.{put_whole, put-part}
 use Rattle.writer.specs.of_refusal.declared.Cause.TheVariants as cause
@@ -32,7 +31,7 @@ from_start out f =
     rw (z, y) refl
 
 -- out₀ is the area as it was, x cleared, out with f put into it
-module _ (out₀ x out f : List ℕ) (cleared : x ≡ zeros (length out₀)) (r : Stored) (put : Puts (filled (Put 0) x) f (filled r out)) where
+module _ (out₀ x out f : List ℕ) (cleared : x ≡ zeros (length out₀)) (r : Option ℕ) (put : Puts (filled (Some 0) x) f (filled r out)) where
   left : filled r out ≡ (placing cause.OutputFull (length x) f, laid x f)
   left = put.same ∙ from_start x f
 
@@ -42,8 +41,8 @@ module _ (out₀ x out f : List ℕ) (cleared : x ≡ zeros (length out₀)) (r 
   answer : stored_answer cause.OutputFull r ≡ placing cause.OutputFull (length x) f
   answer = ap (λ (s : Filled). s.0) left
 
-  pub whole-printed : (n : ℕ) → r ≡ Put n → Prints (length out₀) f out n
+  pub whole-printed : (n : ℕ) → r ≡ Some n → Prints (length out₀) f out n
   whole-printed n e = put_whole out₀ x out f cleared area n (sym (ap (stored_answer cause.OutputFull) e) ∙ answer)
 
-  pub part-printed : r ≡ Full → Prints (length out₀) f out (length out)
+  pub part-printed : r ≡ None → Prints (length out₀) f out (length out)
   part-printed e = put-part out₀ x out f cleared area (sym (ap (stored_answer cause.OutputFull) e) ∙ answer)

@@ -9,11 +9,11 @@ ghost use Rattle.write_words.specs.Bytes.{table_bytes};
 ghost use Rattle.write_printing.specs.Printed.{tree_printed, read_printed, found_printed, program_writes};
 
 pub use list_printing::the_list_input;
-use list_printing::the_list_input::{Found, input_of};
+use list_printing::the_list_input::{Parts, input_of};
 use list_printing::the_public_call::refuse;
 use list_printing::the_reader::read;
 use write_words::put_table;
-use writer::the_area::{Stored, clear};
+use writer::the_area::clear;
 use writer::the_refusal::Verdict;
 use writer::write;
 
@@ -23,10 +23,10 @@ fn print_table(events: &[u32], attributes: &[u32], bytes: &[u8], out: &mut [u8])
     ensures count { result ≡ min (length out.old) (length (table_bytes (record { events = events.now; attributes = attributes.now; bytes = bytes.now }))) }
 {
     clear(out);
-    let put = put_table(out, Stored::Put(0), events, attributes, bytes);
+    let put = put_table(out, Some(0), events, attributes, bytes);
     match put {
-        Stored::Put(n) => n,
-        Stored::Full => out.len(),
+        Some(n) => n,
+        None => out.len(),
     }
 }
 
@@ -76,7 +76,7 @@ fn print_report(events: &[u32], attributes: &[u32], source: &[u8], out: &mut [u8
 
 // What is printed for what was found in the input: `events` and `attributes` are the areas that hold its words.
 fn print_found(
-    found: Found,
+    found: Option<Parts>,
     input: &[u8],
     events: &[u32],
     attributes: &[u32],
@@ -87,14 +87,14 @@ fn print_found(
     ensures count { result ≡ min (length out.old) (length (found_printed (found_of found events.now attributes.now input.now))) }
 {
     match found {
-        Found::Is(x) => {
+        Some(x) => {
             let m = x.events;
             let n = x.attributes;
             let at = x.at;
             let end = at + x.source;
             print_report(&events[..m], &attributes[..n], &input[at..end], out)
         }
-        Found::Not => refuse(out),
+        None => refuse(out),
     }
 }
 

@@ -8,8 +8,8 @@ use borrow.Author.Tests.{le-leb, eq-eqb}
 use lib.ListN.{length, drop}
 use lib.Dec.{leb, eqb, eqb-suc-zero}
 use Rattle.write_report.specs.of_refusal.Refusal.{nowhere}
-use Rattle.write_report.specs.of_table.Table.{word, count_of, good_attribute, good_shape, bad_from, check_event}
-use Rattle.write_report.specs.of_table.declared.Checked.TheVariants.{Good, Bad}
+use Rattle.write_report.specs.of_table.Table.{word, count_of, good_attribute, good_shape, bad_from, check_event, Checked}
+use Rattle.std.specs.Prelude.{Ok, Err}
 use Rattle.write_report.specs.of_table.Event.{part, bytes_at, attribute_at, attributes_from, event_of, event_at}
 use Rattle.write_report.proofs.of_tree_report.EncodeLists.{both}
 use Rattle.write_report.specs.Written.{attribute}
@@ -54,11 +54,11 @@ module _ {events attributes source : List ℕ} {i j b : ℕ} {is : List Item} wh
         (both (le-leb (place (length s) b + length s) (length source) (part-within source s (laid_bytes is) b (entry-bytes t))) (ranged n (place n j) (count_of attributes) r))
 
     pub entry-checked : kind ≤ 9 → (0 < n → (kind ≤ 1) × (place n j + n ≤ count_of attributes)) →
-        bad_from attributes (length source) n (place n j) ≡ place n j + n → check_event events attributes (length source) i ≡ Good
+        bad_from attributes (length source) n (place n j) ≡ place n j + n → check_event events attributes (length source) i ≡ Ok tt
     unfolding check_event
     entry-checked k r g =
         let bad : ℕ = bad_from attributes (length source) (word events i 4) (word events i 3) in
         let all : bad_from attributes (length source) (word events i 4) (word events i 3) ≡ word events i 3 + word events i 4 =
         (λ x. bad_from attributes (length source) (entry-word t 4 x) (entry-word t 3 x)) ∙ g ∙ sym (λ x. entry-word t 3 x + entry-word t 4 x) in
-        ap (λ (u : Bool). cond u (cond (eqb bad (word events i 3 + word events i 4)) Good (Bad i bad)) (Bad i nowhere)) (shaped k r)
-        ∙ ap (λ (u : Bool). cond u Good (Bad i bad)) (eq-eqb bad (word events i 3 + word events i 4) all)
+        ap (λ (u : Bool). cond {A = Checked} u (cond {A = Checked} (eqb bad (word events i 3 + word events i 4)) (Ok tt) (Err (i, bad))) (Err (i, nowhere))) (shaped k r)
+        ∙ ap (λ (u : Bool). cond {A = Checked} u (Ok tt) (Err (i, bad))) (eq-eqb bad (word events i 3 + word events i 4) all)

@@ -5,9 +5,8 @@ use mathlib.Core.List.{List, [], ◌∷◌, ◌++◌}
 use mathlib.Core.Bool.{Bool, cond}
 use native.Mathlib.Omega.{arith}
 use lib.ListN.{length}
-use Rattle.write_report.specs.of_table.Table.{count_of, bad_from, check_event, and_then, check_from}
-use Rattle.write_report.specs.of_table.declared.Checked.{Checked}
-use Rattle.write_report.specs.of_table.declared.Checked.TheVariants.{Good}
+use Rattle.write_report.specs.of_table.Table.{count_of, bad_from, check_event, and_then, check_from, Checked}
+use Rattle.std.specs.Prelude.{Ok}
 use Rattle.write_report.specs.of_table.Event.{Attribute, Event, Start, Empty, Tag, Piece, Eof, Fault, attributes_from, event_of, event_at, resolve_from}
 use Rattle.write_report.proofs.of_tree_report.EncodeLists.{Each, done, more}
 use Rattle.write_report.specs.Written.{attributes_of, numbered_tag, numbered}
@@ -79,11 +78,11 @@ module _ (events attributes source : List ℕ) where
     event-resolved eof t = entry-resolved t
     event-resolved fault t = entry-resolved t
 
-    bare-checked : {kind : ℕ} {s : List ℕ} → kind ≤ 9 → Stands i j b (entry kind s 0 ∷ is) → check_event events attributes (length source) i ≡ Good
+    bare-checked : {kind : ℕ} {s : List ℕ} → kind ≤ 9 → Stands i j b (entry kind s 0 ∷ is) → check_event events attributes (length source) i ≡ Ok tt
     unfolding bad_from
     bare-checked k t = entry-checked t k (λ h. absurd (omega arith)) refl
 
-    event-checked : {e : Event} → Writable e → Stands i j b (items_of_event (numbered_tag j e) ++ is) → check_event events attributes (length source) i ≡ Good
+    event-checked : {e : Event} → Writable e → Stands i j b (items_of_event (numbered_tag j e) ++ is) → check_event events attributes (length source) i ≡ Ok tt
     event-checked (start {xs = xs} ms) t = entry-checked t (omega arith) (λ h. (omega arith, placed-within xs is (past-entry t) h)) (placed-checked xs is (past-entry t))
     event-checked (empty {xs = xs} ms) t = entry-checked t (omega arith) (λ h. (omega arith, placed-within xs is (past-entry t) h)) (placed-checked xs is (past-entry t))
     event-checked end t = bare-checked (omega arith) t
@@ -103,7 +102,7 @@ module _ (events attributes source : List ℕ) where
       let is : List Item = items_of (numbered (j + length (attributes_of e)) es) in
       λ x. event-resolved is p t x ∷ laid-resolved {i = i + 1} ps (event-past is e t).1 x
 
-  pub laid-checked : {i j b : ℕ} {es : List Event} → Each Writable es → Stands i j b (items_of (numbered j es)) → check_from events attributes (length source) (length es) i ≡ Good
+  pub laid-checked : {i j b : ℕ} {es : List Event} → Each Writable es → Stands i j b (items_of (numbered j es)) → check_from events attributes (length source) (length es) i ≡ Ok tt
   unfolding check_from items_of numbered
   laid-checked done t = refl
   laid-checked {i} {j} (more {x = e} {xs = es} p ps) t =

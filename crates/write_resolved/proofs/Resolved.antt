@@ -9,7 +9,7 @@ use lib.ListN.{length}
 use lib.Dec.{leb}
 use Rattle.write_report.specs.of_refusal.Refusal.{nowhere, accepted}
 use Rattle.write_report.specs.of_table.Table.{count_of, check_from, good_sizes, check_of, checked_answer, table_of}
-use Rattle.write_report.specs.of_table.declared.Checked.TheVariants.{Good, Bad}
+use Rattle.std.specs.Prelude.{Ok, Err}
 use Rattle.write_report.specs.of_table.Event.{Event, resolve_from, resolve}
 use Rattle.write_report.specs.of_tree_report.Report.{Report}
 use Rattle.write_report.proofs.of_tree_report.EncodeLists.{Each, both, and_left, and_right}
@@ -64,10 +64,10 @@ module _ {es : List Event} (w : Each Writable es) where
         (both (eq-eqb (length events % 5) 0 (omega (arith, event-words))) (eq-eqb (length attributes % 5) 0 (omega (arith, attribute-words))))
         (both (le-leb (length events / 5) 65536 (omega arith)) (both (le-leb (length attributes / 5) 65536 (omega arith)) (le-leb (length source) 16777216 (omega arith))))
 
-    pub check-laid : check_of events attributes source ≡ Good
+    pub check-laid : check_of events attributes source ≡ Ok tt
     unfolding check_of
     check-laid =
-        ap (λ (t : Bool). cond t (check_from events attributes (length source) (count_of events) 0) (Bad nowhere nowhere)) sized
+        ap (λ (t : Bool). cond t (check_from events attributes (length source) (count_of events) 0) (Err (nowhere, nowhere))) sized
         ∙ ap (λ (n : ℕ). check_from events attributes (length source) n 0) count ∙ laid-checked events attributes source w standing
 
 -- ---- those of a report

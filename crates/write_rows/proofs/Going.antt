@@ -5,8 +5,7 @@ use mathlib.Core.List.{List, [], ◌∷◌, ◌++◌}
 use mathlib.Core.Bool.{Bool, true, false, not, ◌&&◌, and-eq-true_iff, true≢false}
 use native.Mathlib.Omega.{arith}
 use lib.ListN.{length, take, drop}
-use Rattle.list_sums.specs.of_area.declared.Stored.{Stored}
-use Rattle.list_sums.specs.of_area.declared.Stored.TheVariants.{Put, Full}
+use Rattle.std.specs.Prelude.{Option, Some, None}
 use Rattle.list_sums.specs.of_list_text.inside.Behind.{is_full}
 use Rattle.list_sums.specs.inside.Rows.{stands, records_in}
 use Rattle.list_sums.proofs.Records.{stands-room, records-here, records-over}
@@ -18,9 +17,9 @@ use Rattle.write_marks.proofs.of_write_table.Writing.{Coming, coming-start, comi
 pub goes_on : (a b : Bool) {x : Bool} → (a && b) ≡ true → b ≡ x → x ≡ true
 goes_on a b e f = sym f ∙ ((and-eq-true_iff a b).0 e).1
 
-full-mark : (m : Stored) → not (is_full m) ≡ false → m ≡ Full
-full-mark (Put n) e = absurd (true≢false e)
-full-mark Full e = refl
+full-mark : (m : Option ℕ) → not (is_full m) ≡ false → m ≡ None
+full-mark (Some n) e = absurd (true≢false e)
+full-mark None e = refl
 
 module _ (shown : List (List ℕ) → List Item) where
   -- the records before `at` are put: s₀ is what was kept at the start

@@ -28,11 +28,8 @@ fn count_slots(r: &[u32], codes: &[u8]) -> usize
     ensures upper_bound { result ≤ length codes.now }
 {
     let mut n = 0;
-    let mut i = 0;
-    while i < codes.len() {
-        let code = codes[i];
-        i += 1;
-        if is_present(r, code) {
+    for code in codes {
+        if is_present(r, *code) {
             n += 1;
         }
     }
@@ -51,12 +48,9 @@ fn put_slots(
         (pairs_of_it (slots text.now r.now codes.now)) (kept result ev attributes.new bytes.new) }
 {
     let mut mark = k;
-    let mut i = 0;
-    while i < codes.len() {
-        let code = codes[i];
-        i += 1;
-        if is_present(r, code) {
-            mark = put_attribute(attributes, bytes, mark, text, r, code);
+    for code in codes {
+        if is_present(r, *code) {
+            mark = put_attribute(attributes, bytes, mark, text, r, *code);
         }
     }
     mark

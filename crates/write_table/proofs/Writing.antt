@@ -1,8 +1,7 @@
 -- Items one behind the other. Assumes nothing.
 use mathlib.Core.Path.{◌≡◌, refl, sym, ap, ◌∙◌}
 use mathlib.Core.List.{List, [], ◌∷◌, ◌++◌, append_assoc}
-use Rattle.write_spelled.specs.of_area.declared.Stored.{Stored}
-use Rattle.write_spelled.specs.of_area.declared.Stored.TheVariants.{Full}
+use Rattle.std.specs.Prelude.{ℕ, Option, None}
 use Rattle.write_spelled.specs.of_table.Event.{Event}
 use Rattle.write_table.specs.Laid.{Item, items_of_event, items_of}
 use Rattle.write_table.specs.inside.Putting.{Held, Spelling, Kept, none, some, xml, put, spell, put_all, Areas, held_by_of, held, Wrote}
@@ -33,8 +32,8 @@ pub said : {s t : Areas} {is js : List Item} → Wrote s is t → is ≡ js → 
 said {s} p e = record { same = p.same ∙ ap (put_all (held s)) e }
 
 -- once something didn't fit, nothing more is put
-pub wrote-shut : (s t : Areas) (is : List Item) → s.mark ≡ Full → t.mark ≡ Full → Wrote s is t
-wrote-shut s t is p q = record { same = ap (λ (m : Stored). held_by_of m t) q ∙ sym (put-none is) ∙ ap (λ (m : Stored). put_all (held_by_of m s) is) (sym p) }
+pub wrote-shut : (s t : Areas) (is : List Item) → s.mark ≡ None → t.mark ≡ None → Wrote s is t
+wrote-shut s t is p q = record { same = ap (λ (m : Option ℕ). held_by_of m t) q ∙ sym (put-none is) ∙ ap (λ (m : Option ℕ). put_all (held_by_of m s) is) (sym p) }
 
 -- one item
 pub wrote_one : (s t : Areas) {h : Held} (i : Item) → held s ≡ some h → held t ≡ put h i → Wrote s (i ∷ []) t
@@ -74,7 +73,7 @@ unfolding put_all
 coming-done {s₀} {s} c = record { same = c.left }
 
 -- an area is full: the rest would change nothing, so all items count as put
-pub coming-shut : {s₀ s : Areas} {w f : List Item} → Coming s₀ w s f → s.mark ≡ Full → Wrote s₀ w s
+pub coming-shut : {s₀ s : Areas} {w f : List Item} → Coming s₀ w s f → s.mark ≡ None → Wrote s₀ w s
 coming-shut {s₀} {s} {w} {f} c e =
-    let n : held s ≡ none = ap (λ (m : Stored). held_by_of m s) e in
+    let n : held s ≡ none = ap (λ (m : Option ℕ). held_by_of m s) e in
     record { same = n ∙ sym (put-none f) ∙ ap (λ (x : Kept). put_all x f) (sym n) ∙ c.left }

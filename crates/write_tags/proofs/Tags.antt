@@ -1,5 +1,5 @@
 -- What stands around an entry, by the parts in which it is put. Assumes nothing.
-use Prim.Native.Nat.{ℕ, suc, ◌+◌, ◌-◌, ◌*◌, ◌≤◌, ◌<◌, min}
+use Prim.Native.Nat.{ℕ, suc, ◌+◌, ◌-◌, ◌*◌, ◌≤◌, min}
 use mathlib.Core.Path.{◌≡◌, refl, sym, ap, ap₂, ◌∙◌}
 use mathlib.Core.List.{List, [], ◌∷◌, ◌++◌}
 use mathlib.Core.Bool.{Bool, true, false, cond, ◌||◌}
@@ -81,13 +81,10 @@ break-parts form level n len left e f g =
     go false false = ap (λ (k : ℕ). take k (10 ∷ replicate 32 32) ++ replicate far 32) (one near) ∙ ap (λ (l : List ℕ). 10 ∷ l) all
 
 -- a level more
-pub level-more : (left : ℕ) → 0 < left → replicate {A = ℕ} (left * 4) 32 ≡ (32 ∷ 32 ∷ 32 ∷ 32 ∷ []) ++ replicate ((left - 1) * 4) 32
-level-more left h =
-    let z : left * 4 ≡ 4 + (left - 1) * 4 = omega arith in
-    ap (λ (k : ℕ). replicate {A = ℕ} k 32) z ∙ sym (replicate-append-replicate {A = ℕ} 4 ((left - 1) * 4) 32)
-
-pub no-level : (left : ℕ) → left ≤ 0 → replicate {A = ℕ} (left * 4) 32 ≡ []
-no-level left h = let z : left * 4 ≡ 0 = omega arith in ap (λ (k : ℕ). replicate {A = ℕ} k 32) z
+pub level-more : (n : ℕ) → replicate {A = ℕ} (n * 4) 32 ++ (32 ∷ 32 ∷ 32 ∷ 32 ∷ []) ≡ replicate ((n + 1) * 4) 32
+level-more n =
+    let z : n * 4 + 4 ≡ (n + 1) * 4 = omega arith in
+    replicate-append-replicate {A = ℕ} (n * 4) 4 32 ∙ ap (λ (k : ℕ). replicate {A = ℕ} k 32) z
 
 module _ (form level : ℕ) where
   pub lead-line : (form ≡ 4 → ⊥) → closing form ++ newline level ≡ lead form level

@@ -9,36 +9,33 @@ ghost use Rattle.write_form.specs.of_write_table.inside.Forms as forms;
 
 pub use list_values as the_list_values;
 use list_values::part_of;
-use list_values::the_area::{Stored, least};
 use list_values::the_list_text::put;
 pub use write_form as the_write_form;
 use write_form::the_table::kind;
 use write_form::{form, is_text, left_out, one_less};
 
-fn put_closing(bytes: &mut [u8], k: Stored, form: u32) -> Stored
+fn put_closing(bytes: &mut [u8], k: Option<usize>, form: u32) -> Option<usize>
     ensures { Puts (filled k bytes.old) (forms.closing form) (filled result bytes.new) }
 {
     put(bytes, k, part_of(b"/>", left_out(form), 2))
 }
 
 // Four spaces a level, one by one.
-fn put_levels(bytes: &mut [u8], k: Stored, levels: usize) -> Stored
+fn put_levels(bytes: &mut [u8], k: Option<usize>, levels: usize) -> Option<usize>
     ensures { Puts (filled k bytes.old) (replicate (levels * 4) 32) (filled result bytes.new) }
 {
     let mut mark = k;
-    let mut left = levels;
-    while 0 < left {
+    for _ in 0..levels {
         mark = put(bytes, mark, b"    ");
-        left -= 1;
     }
     mark
 }
 
 // The end of the tag before and a new line, with up to eight levels at once.
-fn put_break(bytes: &mut [u8], k: Stored, form: u32, level: u32) -> Stored
+fn put_break(bytes: &mut [u8], k: Option<usize>, form: u32, level: u32) -> Option<usize>
     ensures { Puts (filled k bytes.old) (forms.closing form ++ newline level) (filled result bytes.new) }
 {
-    let near = least(level as usize, 8);
+    let near = (level as usize).min(8);
     let from = left_out(form);
     let len = 3 - from + near as u32 * 4;
     let led = put(
@@ -49,7 +46,7 @@ fn put_break(bytes: &mut [u8], k: Stored, form: u32, level: u32) -> Stored
     put_levels(bytes, led, level as usize - near)
 }
 
-fn put_lead(bytes: &mut [u8], k: Stored, form: u32, level: u32) -> Stored
+fn put_lead(bytes: &mut [u8], k: Option<usize>, form: u32, level: u32) -> Option<usize>
     ensures { Puts (filled k bytes.old) (forms.lead form level) (filled result bytes.new) }
 {
     if form == form::FREE {
@@ -58,7 +55,13 @@ fn put_lead(bytes: &mut [u8], k: Stored, form: u32, level: u32) -> Stored
     put_break(bytes, k, form, level)
 }
 
-fn put_before_xml(bytes: &mut [u8], k: Stored, form: u32, level: u32, kind: u32) -> Stored
+fn put_before_xml(
+    bytes: &mut [u8],
+    k: Option<usize>,
+    form: u32,
+    level: u32,
+    kind: u32,
+) -> Option<usize>
     ensures { Puts (filled k bytes.old) (forms.before_entry form level kind) (filled result bytes.new) }
 {
     if (kind == kind::START) | (kind == kind::EMPTY) {
@@ -83,7 +86,13 @@ fn put_before_xml(bytes: &mut [u8], k: Stored, form: u32, level: u32, kind: u32)
 }
 
 // What comes before the bytes of an entry of that kind.
-pub fn put_before(bytes: &mut [u8], k: Stored, form: u32, level: u32, kind: u32) -> Stored
+pub fn put_before(
+    bytes: &mut [u8],
+    k: Option<usize>,
+    form: u32,
+    level: u32,
+    kind: u32,
+) -> Option<usize>
     ensures { Puts (filled k bytes.old) (forms.before form level kind) (filled result bytes.new) }
 {
     if form == form::TABLE {
@@ -92,7 +101,7 @@ pub fn put_before(bytes: &mut [u8], k: Stored, form: u32, level: u32, kind: u32)
     put_before_xml(bytes, k, form, level, kind)
 }
 
-pub fn put_behind(bytes: &mut [u8], k: Stored, form: u32, kind: u32) -> Stored
+pub fn put_behind(bytes: &mut [u8], k: Option<usize>, form: u32, kind: u32) -> Option<usize>
     ensures { Puts (filled k bytes.old) (forms.behind form kind) (filled result bytes.new) }
 {
     if form == form::TABLE {
@@ -105,7 +114,7 @@ pub fn put_behind(bytes: &mut [u8], k: Stored, form: u32, kind: u32) -> Stored
 }
 
 // What comes behind a value.
-pub fn put_quote(bytes: &mut [u8], k: Stored, form: u32) -> Stored
+pub fn put_quote(bytes: &mut [u8], k: Option<usize>, form: u32) -> Option<usize>
     ensures { Puts (filled k bytes.old) (forms.quote_in form) (filled result bytes.new) }
 {
     if form == form::TABLE {
@@ -115,7 +124,7 @@ pub fn put_quote(bytes: &mut [u8], k: Stored, form: u32) -> Stored
 }
 
 // A key that no code stands for.
-pub fn put_raw_key(bytes: &mut [u8], k: Stored, form: u32, key: &[u8]) -> Stored
+pub fn put_raw_key(bytes: &mut [u8], k: Option<usize>, form: u32, key: &[u8]) -> Option<usize>
     ensures { Puts (filled k bytes.old) (forms.key_in form key.now) (filled result bytes.new) }
 {
     if form == form::TABLE {

@@ -9,7 +9,7 @@ ghost use Rattle.uuids.specs.of_refusal.declared.Cause.TheVariants as cause;
 
 pub use uuids as the_uuids;
 use uuids::Words;
-use uuids::the_area::{Stored, copy_into};
+use uuids::the_area::copy_into;
 
 // The last hexadecimal digit of n.
 fn digit(n: u32) -> u8
@@ -46,7 +46,7 @@ fn spell(w: Words) -> [u8; 36]
 }
 
 // Puts w at the front of out (rule W9).
-pub fn write_uuid(out: &mut [u8], w: Words) -> Stored
+pub fn write_uuid(out: &mut [u8], w: Words) -> Option<usize>
     ensures result_value { stored_answer cause.OutputFull result ≡ placing cause.OutputFull (length out.old) (uuid_text w) }
     ensures out_after { out.new ≡ laid out.old (uuid_text w) }
 {

@@ -10,7 +10,6 @@ ghost use Rattle.write_codes.specs.of_write_table.inside.Forms.{key_text, key_in
 ghost use Rattle.write_codes.specs.of_write_items.inside.Values.{tag_name, key_name, cut_at, words_of, value_of};
 
 use tree_stamp::moment_of;
-use tree_stamp::the_area::Stored;
 use tree_stamp::the_names::key;
 use tree_stamp::the_tree_record::{field, word};
 use tree_stamp::the_uuids::Words;
@@ -25,32 +24,26 @@ use write_tags::the_write_form::form;
 fn byte_at(s: &[u8], i: usize) -> u8
     ensures { result ≡ get_or s.now i 0 }
 {
-    if i < s.len() {
-        return s[i];
-    }
-    0
-}
-
-fn less(a: u8, b: u8) -> u8
-    ensures { result ≡ a - b }
-{
-    if a < b {
-        return 0;
-    }
-    a - b
+    s.get(i).copied().unwrap_or(0)
 }
 
 // Of names that stand one behind the other, the one with that code; it ends where the next begins.
-fn put_named(bytes: &mut [u8], k: Stored, names: &[u8], starts: &[u8], code: u8) -> Stored
+fn put_named(
+    bytes: &mut [u8],
+    k: Option<usize>,
+    names: &[u8],
+    starts: &[u8],
+    code: u8,
+) -> Option<usize>
     ensures { Puts (filled k bytes.old) (cut_at names.now starts.now code) (filled result bytes.new) }
 {
     let i = code as usize;
     let start = byte_at(starts, i);
-    let len = less(byte_at(starts, i + 1), start);
+    let len = byte_at(starts, i + 1).saturating_sub(start);
     put(bytes, k, part_of(names, start as u32, len as u32))
 }
 
-fn put_any_tag(bytes: &mut [u8], k: Stored, code: u8) -> Stored
+fn put_any_tag(bytes: &mut [u8], k: Option<usize>, code: u8) -> Option<usize>
     ensures { Puts (filled k bytes.old) (tag_name code) (filled result bytes.new) }
 {
     put_named(
@@ -63,7 +56,7 @@ fn put_any_tag(bytes: &mut [u8], k: Stored, code: u8) -> Stored
 }
 
 // The usual ones by themselves: a table of all is put into memory each time.
-pub fn put_tag_name(bytes: &mut [u8], k: Stored, code: u8) -> Stored
+pub fn put_tag_name(bytes: &mut [u8], k: Option<usize>, code: u8) -> Option<usize>
     ensures { Puts (filled k bytes.old) (tag_name code) (filled result bytes.new) }
 {
     match code {
@@ -79,7 +72,7 @@ pub fn put_tag_name(bytes: &mut [u8], k: Stored, code: u8) -> Stored
     }
 }
 
-fn put_any_key(bytes: &mut [u8], k: Stored, code: u8) -> Stored
+fn put_any_key(bytes: &mut [u8], k: Option<usize>, code: u8) -> Option<usize>
     ensures { Puts (filled k bytes.old) (key_name code) (filled result bytes.new) }
 {
     put_named(
@@ -91,7 +84,7 @@ fn put_any_key(bytes: &mut [u8], k: Stored, code: u8) -> Stored
     )
 }
 
-fn put_key_name(bytes: &mut [u8], k: Stored, code: u8) -> Stored
+fn put_key_name(bytes: &mut [u8], k: Option<usize>, code: u8) -> Option<usize>
     ensures { Puts (filled k bytes.old) (key_name code) (filled result bytes.new) }
 {
     match code {
@@ -113,7 +106,7 @@ fn known(code: u8) -> u8
 }
 
 // A key with what stands around it in the XML form, ready made; no key has the code 0.
-fn put_key_text(bytes: &mut [u8], k: Stored, code: u8) -> Stored
+fn put_key_text(bytes: &mut [u8], k: Option<usize>, code: u8) -> Option<usize>
     ensures { Puts (filled k bytes.old) (key_text (key_name code)) (filled result bytes.new) }
 {
     put_named(
@@ -126,7 +119,7 @@ fn put_key_text(bytes: &mut [u8], k: Stored, code: u8) -> Stored
 }
 
 // The key with that code, in either form.
-pub fn put_key(bytes: &mut [u8], k: Stored, form: u32, code: u8) -> Stored
+pub fn put_key(bytes: &mut [u8], k: Option<usize>, form: u32, code: u8) -> Option<usize>
     ensures { Puts (filled k bytes.old) (key_in form (key_name code)) (filled result bytes.new) }
 {
     if form == form::TABLE {
@@ -152,14 +145,20 @@ fn words_of(r: &[u32]) -> Words
     }
 }
 
-pub fn put_text_at(bytes: &mut [u8], k: Stored, text: &[u8], r: &[u32], o: usize) -> Stored
+pub fn put_text_at(
+    bytes: &mut [u8],
+    k: Option<usize>,
+    text: &[u8],
+    r: &[u32],
+    o: usize,
+) -> Option<usize>
     requires { o ≤ 30 }
     ensures { Puts (filled k bytes.old) (escaped (text_at text.now r.now o)) (filled result bytes.new) }
 {
     put_escaped(bytes, k, part_of(text, field(r, o), field(r, o + 1)))
 }
 
-fn put_number_at(bytes: &mut [u8], k: Stored, r: &[u32], o: usize) -> Stored
+fn put_number_at(bytes: &mut [u8], k: Option<usize>, r: &[u32], o: usize) -> Option<usize>
     requires { o ≤ 30 }
     ensures { Puts (filled k bytes.old) (decimal (number_at r.now o)) (filled result bytes.new) }
 {
@@ -167,7 +166,13 @@ fn put_number_at(bytes: &mut [u8], k: Stored, r: &[u32], o: usize) -> Stored
 }
 
 // The value under a key.
-pub fn put_value(bytes: &mut [u8], k: Stored, text: &[u8], r: &[u32], code: u8) -> Stored
+pub fn put_value(
+    bytes: &mut [u8],
+    k: Option<usize>,
+    text: &[u8],
+    r: &[u32],
+    code: u8,
+) -> Option<usize>
     ensures { Puts (filled k bytes.old) (value_of text.now r.now code) (filled result bytes.new) }
 {
     let c = code as usize;

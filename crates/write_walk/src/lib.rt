@@ -8,7 +8,6 @@ ghost use Rattle.list_sums.specs.of_tree_report.Fields.{kind_of};
 ghost use Rattle.write_items.specs.inside.Walk.{ends_at, is_between, own_of, between, first_of};
 ghost use Rattle.write_items.specs.inside.Case.{runs_flaky, is_childless};
 
-use list_sums::rows::stands_here;
 use list_sums::the_tree_record::{bit, field, has_bit, kind, word};
 
 // The level of what belongs to a case.
@@ -31,17 +30,15 @@ pub fn seek(words: &[u32], level: u32, low: u32, high: u32) -> usize
     ensures upper_bound { result ≤ length words.now }
     ensures words_value { take 32 (drop result words.now) ≡ first_of (between low high (own_of level (records_in words.now))) }
 {
-    let mut at = 0;
-    while stands_here(&words[at..]) {
-        let end = at + 32;
-        let here = field(&words[at..end], word::KIND);
-        if ends(level, here) {
+    for i in 0..words.len() / 32 {
+        let at = i * 32;
+        let here = field(&words[at..at + 32], word::KIND);
+        if (here == 0) | ends(level, here) {
             return words.len();
         }
         if is_between(low, here, high) {
             return at;
         }
-        at = end;
     }
     words.len()
 }
@@ -60,17 +57,15 @@ pub fn count_kind(words: &[u32], level: u32, k: u32) -> usize
     ensures result_in_bounds { result * 32 ≤ length words.now }
 {
     let mut n = 0;
-    let mut at = 0;
-    while stands_here(&words[at..]) {
-        let end = at + 32;
-        let here = field(&words[at..end], word::KIND);
-        if ends(level, here) {
+    for i in 0..words.len() / 32 {
+        let at = i * 32;
+        let here = field(&words[at..at + 32], word::KIND);
+        if (here == 0) | ends(level, here) {
             return n;
         }
         if is_between(k, here, k) {
             n += 1;
         }
-        at = end;
     }
     n
 }

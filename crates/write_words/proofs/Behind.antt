@@ -3,22 +3,22 @@ use Prim.Native.Nat.{ℕ, ◌+◌, ◌/◌, ◌≤◌, ◌<◌}
 use mathlib.Core.Path.{◌≡◌, refl, sym, ap, ◌∙◌}
 use mathlib.Core.List.{List, ◌++◌}
 use lib.ListN.{length, drop, get_or, drop_of_length-le}
+use Rattle.std.specs.Prelude.{Option}
 use Rattle.list_input.proofs.of_area.Lists.{drop-next}
-use Rattle.list_input.specs.of_area.declared.Stored.{Stored}
 use Rattle.list_text.specs.inside.Behind.{filled, Puts}
 use Rattle.list_text.proofs.Putting.{Coming, coming-start, coming_on, coming_puts, coming-done}
 use Rattle.write_words.specs.Bytes.{word_bytes, words_bytes, table_bytes}
 
 -- i words are put: out₀ and k₀ are the area and its mark as they were, out and k as they are
-pub record Going (out₀ words : List ℕ) (k₀ : Stored) (out : List ℕ) (k : Stored) (i : ℕ) : Type 0 where
+pub record Going (out₀ words : List ℕ) (k₀ : Option ℕ) (out : List ℕ) (k : Option ℕ) (i : ℕ) : Type 0 where
   pub same : length out ≡ length out₀
   pub coming : Coming (filled k₀ out₀) (words_bytes words) (filled k out) (words_bytes (drop i words))
 
-pub going_start : (out words : List ℕ) (k : Stored) → Going out words k out k 0
+pub going_start : (out words : List ℕ) (k : Option ℕ) → Going out words k out k 0
 going_start out words k = record { same = refl; coming = coming-start (filled k out) (words_bytes words) }
 
-module _ {out₀ words out : List ℕ} {k₀ k : Stored} {i : ℕ} (g : Going out₀ words k₀ out k i) where
-  pub going_next : {out' : List ℕ} {k' : Stored} → i < length words → (w : ℕ) → w ≡ get_or words i 0
+module _ {out₀ words out : List ℕ} {k₀ k : Option ℕ} {i : ℕ} (g : Going out₀ words k₀ out k i) where
+  pub going_next : {out' : List ℕ} {k' : Option ℕ} → i < length words → (w : ℕ) → w ≡ get_or words i 0
       → length out' ≡ length out → Puts (filled k out) (word_bytes w) (filled k' out') → Going out₀ words k₀ out' k' (i + 1)
   unfolding words_bytes
   going_next h w e l p =

@@ -4,11 +4,10 @@
 ghost use Rattle.list_text.specs.inside.Behind.{filled, Puts};
 ghost use Rattle.write_words.specs.Bytes.{word_bytes, words_bytes, table_bytes};
 
-use list_input::the_area::{Stored, wide};
 use list_text::put;
 
 // A word, its low byte first.
-fn put_word(out: &mut [u8], k: Stored, w: usize) -> Stored
+fn put_word(out: &mut [u8], k: Option<usize>, w: usize) -> Option<usize>
     ensures { Puts (filled k out.old) (word_bytes w) (filled result out.new) }
 {
     let four = [
@@ -20,14 +19,12 @@ fn put_word(out: &mut [u8], k: Stored, w: usize) -> Stored
     put(out, k, &four)
 }
 
-fn put_words(out: &mut [u8], k: Stored, words: &[u32]) -> Stored
+fn put_words(out: &mut [u8], k: Option<usize>, words: &[u32]) -> Option<usize>
     ensures { Puts (filled k out.old) (words_bytes words.now) (filled result out.new) }
 {
     let mut mark = k;
-    let mut i = 0;
-    while i < words.len() {
-        mark = put_word(out, mark, wide(words[i]));
-        i += 1;
+    for w in words {
+        mark = put_word(out, mark, *w as usize);
     }
     mark
 }
@@ -35,11 +32,11 @@ fn put_words(out: &mut [u8], k: Stored, words: &[u32]) -> Stored
 // In the form of rule P1, as rule P5 has it: the numbers of events, attributes and bytes, then the three.
 pub fn put_table(
     out: &mut [u8],
-    k: Stored,
+    k: Option<usize>,
     events: &[u32],
     attributes: &[u32],
     bytes: &[u8],
-) -> Stored
+) -> Option<usize>
     ensures { Puts (filled k out.old) (table_bytes (record { events = events.now; attributes = attributes.now; bytes = bytes.now })) (filled result out.new) }
 {
     let first = put_word(out, k, events.len() / 5);

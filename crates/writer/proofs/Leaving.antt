@@ -4,11 +4,10 @@ use mathlib.Core.Path.{◌≡◌, refl, sym, ap, ◌∙◌}
 use mathlib.Core.List.{List}
 use mathlib.Core.Bool.{Bool, true, false}
 use lib.Dec.{eqb}
+use Rattle.std.specs.Prelude.{Option, Some, None}
 use Rattle.refusal.specs.declared.Cause.TheVariants as cause
 use Rattle.area.specs.Answer.{Answer, gives, refuses}
 use Rattle.area.specs.Area.{zeros}
-use Rattle.area.specs.declared.Stored.{Stored}
-use Rattle.area.specs.declared.Stored.TheVariants.{Put, Full}
 use Rattle.tree_layout.specs.of_tree_report.Layout.{layout}
 use Rattle.write_answer.specs.of_write_table.Laid.{Table, items_of, fits}
 use Rattle.write_answer.specs.of_write_table.inside.Putting.{Held, Spelling, Kept, none, some, Areas, held_by_of, held, fresh, Wrote, put_all}
@@ -67,7 +66,7 @@ module _ (words text : List ℕ) (e a b : ℕ) where
         all-put = p.same ∙ ap (λ (k : Kept). put_all k (items_of (events_of words text))) start
 
         -- the table was put
-        pub whole-writing : (n : ℕ) → s.mark ≡ Put n → Left (gives (record { events = s.events; attributes = s.attributes; bytes = n })) s.event_area s.attribute_area s.byte_area
+        pub whole-writing : (n : ℕ) → s.mark ≡ Some n → Left (gives (record { events = s.events; attributes = s.attributes; bytes = n })) s.event_area s.attribute_area s.byte_area
         unfolding table_of
         whole-writing n q = go (eqb s.form 0) refl
           where
@@ -83,12 +82,12 @@ module _ (words text : List ℕ) (e a b : ℕ) where
                 rw r.1 (left-from (fitting r.0) refl refl refl)
 
             go : (x : Bool) → eqb s.form 0 ≡ x → Left (gives (sizes table)) s.event_area s.attribute_area s.byte_area
-            go true y = whole table (ap (λ (m : Stored). held_by_of m s) q ∙ rw y refl)
-            go false y = absurd (never-xml (fresh e a b) (items_of (events_of words text)) text' (sym all-put ∙ ap (λ (m : Stored). held_by_of m s) q ∙ rw y refl))
+            go true y = whole table (ap (λ (m : Option ℕ). held_by_of m s) q ∙ rw y refl)
+            go false y = absurd (never-xml (fresh e a b) (items_of (events_of words text)) text' (sym all-put ∙ ap (λ (m : Option ℕ). held_by_of m s) q ∙ rw y refl))
 
         -- it didn't fit
-        pub short-writing : {ev' at' by' : List ℕ} → s.mark ≡ Full → ev' ≡ zeros e → at' ≡ zeros a → by' ≡ zeros b → Left (refuses cause.OutputFull) ev' at' by'
+        pub short-writing : {ev' at' by' : List ℕ} → s.mark ≡ None → ev' ≡ zeros e → at' ≡ zeros a → by' ≡ zeros b → Left (refuses cause.OutputFull) ev' at' by'
         unfolding table_of
         short-writing q u v w =
-            let n : held s ≡ none = ap (λ (m : Stored). held_by_of m s) q in
+            let n : held s ≡ none = ap (λ (m : Option ℕ). held_by_of m s) q in
             left-from (short (none-fits (events_of words text) e a b (sym all-put ∙ n))) u v w

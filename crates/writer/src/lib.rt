@@ -10,7 +10,7 @@ ghost use Rattle.write_answer.specs.Answer.{events_of, wrote, events_left, attri
 ghost use Rattle.writer.specs.Answer.{writing_from};
 
 pub use area as the_area;
-use area::{Stored, least, limit};
+use area::{least, limit};
 pub use clearing as the_clearing;
 use clearing::clear_table;
 pub use refusal as the_refusal;
@@ -63,7 +63,7 @@ fn put_tree(
         attributes: 0,
         form: form::TABLE,
         level: 0,
-        bytes: Stored::Put(0),
+        bytes: Some(0),
     };
     put_document(
         events,
@@ -95,7 +95,7 @@ pub fn write(
     }
     let k = put_tree(records, text, events, attributes, bytes);
     let mark = k.bytes;
-    let Stored::Put(n) = mark else {
+    let Some(n) = mark else {
         clear_table(events, attributes, bytes);
         return refuse(Cause::OutputFull);
     };

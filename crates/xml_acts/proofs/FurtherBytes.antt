@@ -7,8 +7,7 @@ use borrow.Author.Tests.{ltb-true, eq-eqb, ne_eqb}
 use Rattle.xml_part.specs.of_xml_chars.Chars.{lower}
 use Rattle.xml_part.specs.of_xml_state.declared.Part.{Part}
 use Rattle.xml_part.specs.of_xml_state.declared.State.{State}
-use Rattle.xml_part.specs.of_xml_state.declared.Followed.{Followed}
-use Rattle.xml_part.specs.of_xml_state.declared.Followed.TheVariants.{Takes, Refuses}
+use Rattle.std.specs.Prelude.{Option, Some, None}
 use Rattle.xml_part.specs.of_xml_state.declared.Step.TheVariants.{Go, Bad}
 use Rattle.xml_part.specs.of_xml_state.inside.Parts.{follow_of}
 use Rattle.xml_part.specs.of_xml_state.inside.Registers.{in_mode, with_part}
@@ -20,12 +19,12 @@ when_none-left {l} y e q = rw (eq-eqb l 0 e) q
 pub when_some-left : {l m y : ℕ} (x : ℕ) → (l ≡ 0 → ⊥) → m ≡ y → m ≡ cond (eqb l 0) x y
 when_some-left {l} x n q = rw (ne_eqb l 0 n) q
 
-pub taken : (s : State) (b : ℕ) {r : Followed} {p : Part} {m : ℕ} → r ≡ follow_of s.part b → r ≡ Takes p → m ≡ cond (eqb p.left 0) s.then s.mode →
+pub taken : (s : State) (b : ℕ) {r : Option Part} {p : Part} {m : ℕ} → r ≡ follow_of s.part b → r ≡ Some p → m ≡ cond (eqb p.left 0) s.then s.mode →
     Go (with_part p (in_mode m s)) ≡ further_of s b
 unfolding further_of
 taken s b e t q = rw (sym e ∙ t, q) refl
 
-pub untaken : (s : State) (b : ℕ) {r : Followed} → r ≡ follow_of s.part b → r ≡ Refuses → Bad ≡ further_of s b
+pub untaken : (s : State) (b : ℕ) {r : Option Part} → r ≡ follow_of s.part b → r ≡ None → Bad ≡ further_of s b
 unfolding further_of
 untaken s b e t = rw (sym e ∙ t) refl
 

@@ -10,7 +10,8 @@ pub use tree_record as the_tree_record;
 use tree_record::field;
 use xml_part::the_area::wide;
 use xml_part::the_xml_checks::{byte_at, into, less, wanted};
-use xml_part::the_xml_state::{Followed, Move, State, Step, class, mode};
+use xml_part::the_xml_state::class::Class;
+use xml_part::the_xml_state::{Move, State, Step, mode};
 pub use xml_part::{the_area, the_refusal, the_xml_state};
 use xml_part::{follow, lead};
 
@@ -31,7 +32,7 @@ pub fn begin() -> State
         kept: 0,
         top: 0,
         count: 0,
-        part: lead(class::ANY, 0),
+        part: lead(Class::Any, 0),
     }
 }
 
@@ -55,13 +56,13 @@ fn further(st: State, b: u8) -> Step
     ensures { result ≡ further_of st b }
 {
     match follow(st.part, b) {
-        Followed::Takes(p) => {
+        Some(p) => {
             let mut s = st;
             s.mode = if p.left == 0 { st.then } else { st.mode };
             s.part = p;
             Step::Go(s)
         }
-        Followed::Refuses => Step::Bad,
+        None => Step::Bad,
     }
 }
 
@@ -146,7 +147,7 @@ fn closing(st: State, mode: u8, at: u32, events: &[u32]) -> State
     s
 }
 
-fn led(st: State, then: u8, class: u8, b: u8) -> State
+fn led(st: State, then: u8, class: Class, b: u8) -> State
     ensures { result ≡ led_of st then class b }
 {
     let mut s = st;
@@ -189,10 +190,10 @@ fn opened(st: State, m: Move, b: u8, at: u32) -> State
     let mode = m.mode;
     let act = m.act;
     match act {
-        b'C' => led(st, mode, class::ANY, b),
-        b'S' => led(st, mode, class::START, b),
-        b'H' => led(marked(st, mode, at), mode, class::START, b),
-        b'N' => led(st, mode, class::NAME, b),
+        b'C' => led(st, mode, Class::Any, b),
+        b'S' => led(st, mode, Class::Start, b),
+        b'H' => led(marked(st, mode, at), mode, Class::Start, b),
+        b'N' => led(st, mode, Class::Name, b),
         _ => spelling(st, mode, act),
     }
 }

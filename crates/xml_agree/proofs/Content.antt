@@ -3,7 +3,7 @@ use Prim.Native.Nat.{ℕ}
 use mathlib.Core.Path.{◌≡◌, refl}
 use mathlib.Core.List.{List, ◌∷◌}
 use lib.ListN.{get_or}
-use Rattle.xml_rep.specs.of_xml_chars.Bytes.{whole, part}
+use Rattle.xml_rep.specs.of_xml_chars.Bytes.{whole}
 use Rattle.xml_rep.specs.of_xml_machine.State.{Brackets, b0, b1, b2, text, section, lt, inside, ref, Host, content, attribute, InRef, ampersand, ref_name, hash, digits, hash_x, hexes}
 use Rattle.xml_rep.specs.of_xml_machine.Machine.{more, angle, in_text, section_end, in_section, ref_end, in_ref}
 use Rattle.xml_rep.specs.of_xml_machine.Tokens.{Marks}

@@ -15,8 +15,9 @@ use Rattle.xml_rep.specs.of_xml_machine.Machine.{follow, begun}
 use Rattle.xml_rep.specs.of_xml_machine.Tokens.{Marks}
 use Rattle.xml_rep.specs.of_xml_stack.Stack.{Range}
 use Rattle.xml_rep.specs.of_xml_state.declared.Part.{Part as Open}
-use Rattle.xml_rep.specs.of_xml_state.declared.Followed.{Followed}
-use Rattle.xml_rep.specs.of_xml_state.declared.Followed.TheVariants.{Takes, Refuses}
+use Rattle.xml_rep.specs.of_xml_state.declared.class.Class.{Class}
+use Rattle.xml_rep.specs.of_xml_state.declared.class.Class.TheVariants.{Any, Start, Name}
+use Rattle.std.specs.Prelude.{Option, Some, None}
 use Rattle.xml_rep.specs.of_xml_state.declared.State.{State as Registers}
 use Rattle.xml_rep.specs.of_xml_state.inside.Rows as row
 use Rattle.xml_rep.specs.of_xml_state.inside.Parts.{class_of, unit_of, part_of, follow_of}
@@ -52,13 +53,10 @@ meets-low (to a z ∷ rs) from end l e = by (crosses a z from end) refl e (meets
     by true c t more = omega (arith, crosses-low a z from end c, leb-true z 0x10FFFF (and_left (leb z 0x10FFFF) (low rs) l))
     by false c t more = more t
 
-class_low : (c : ℕ) → low (class_of c) ≡ true
-class_low c = by (eqb c 0) (eqb c 1)
-  where
-    by : (x y : Bool) → low (cond x any_char (cond y name_start name_char)) ≡ true
-    by true y = refl
-    by false true = refl
-    by false false = refl
+class_low : (c : Class) → low (class_of c) ≡ true
+class_low Any = refl
+class_low Start = refl
+class_low Name = refl
 
 -- ---- the byte's range, both ways
 byte-in : (b : ℕ) → (ltb b 0x80 || ltb 0xBF b) ≡ cond (leb 0x80 b && ltb b 0xC0) false true
@@ -73,41 +71,41 @@ abbrev further : ℕ → ℕ → ℕ → ℕ
 further low b unit = low + (b - 0x80) * unit
 
 -- ---- what the code takes, over the numbers of the open character
-abbrev takes : List chars.Range → ℕ → ℕ → ℕ → ℕ → ℕ → Followed
+abbrev takes : List chars.Range → Class → ℕ → ℕ → ℕ → ℕ → Option Open
 takes cls class left low least b =
-    cond (ltb b 0x80 || ltb 0xBF b) Refuses
+    cond (ltb b 0x80 || ltb 0xBF b) None
     (cond (meets cls (max (further low b (unit_of left)) least) (further low b (unit_of left) + (unit_of left - 1)))
-    (Takes (part_of class (left - 1) (further low b (unit_of left) % 4294967296) least)) Refuses)
+    (Some (part_of class (left - 1) (further low b (unit_of left) % 4294967296) least)) None)
 
-takes-law : (class left low least b : ℕ) → takes (class_of class) class left low least b ≡
+takes-law : (class : Class) (left low least b : ℕ) → takes (class_of class) class left low least b ≡
     cond (leb 0x80 b && ltb b 0xC0)
-    (cond (meets (class_of class) (max (further low b (unit_of left)) least) (further low b (unit_of left) + (unit_of left - 1))) (Takes (part_of class (left - 1) (further low b (unit_of left)) least)) Refuses) Refuses
+    (cond (meets (class_of class) (max (further low b (unit_of left)) least) (further low b (unit_of left) + (unit_of left - 1))) (Some (part_of class (left - 1) (further low b (unit_of left)) least)) None) None
 takes-law class left low least b = rw (byte-in b) (by (leb 0x80 b && ltb b 0xC0) (meets (class_of class) (max l least) (l + (unit_of left - 1))) refl)
   where
     l : ℕ
     l = further low b (unit_of left)
 
-    by : (x y : Bool) → meets (class_of class) (max l least) (l + (unit_of left - 1)) ≡ y → cond (cond x false true) Refuses (cond y (Takes (part_of class (left - 1) (l % 4294967296) least)) Refuses) ≡ cond x (cond y (Takes (part_of class (left - 1) l least)) Refuses) Refuses
+    by : (x y : Bool) → meets (class_of class) (max l least) (l + (unit_of left - 1)) ≡ y → cond (cond x false true) None (cond y (Some (part_of class (left - 1) (l % 4294967296) least)) None) ≡ cond x (cond y (Some (part_of class (left - 1) l least)) None) None
     by true true e = let h : l % 4294967296 ≡ l = omega (arith, meets-low (class_of class) (max l least) (l + (unit_of left - 1)) (class_low class) e) in rw h refl
     by true false e = refl
     by false y e = refl
 
 follow-law : (cls : List chars.Range) (low : ℕ) (l : Left) (least b : ℕ) (p : Open) → Parted cls low l least p →
     follow_of p b ≡ cond (leb 0x80 b && ltb b 0xC0)
-    (cond (meets cls (max (further low b (unit_of (left_of l))) least) (further low b (unit_of (left_of l)) + (unit_of (left_of l) - 1))) (Takes (part_of p.class (left_of l - 1) (further low b (unit_of (left_of l))) least)) Refuses) Refuses
+    (cond (meets cls (max (further low b (unit_of (left_of l))) least) (further low b (unit_of (left_of l)) + (unit_of (left_of l) - 1))) (Some (part_of p.class (left_of l - 1) (further low b (unit_of (left_of l))) least)) None) None
 unfolding follow_of
 follow-law cls low l least b p d =
     ap (λ (x : ℕ). takes (class_of p.class) p.class x p.low p.least b) d.1 ∙ ap (λ (x : ℕ). takes (class_of p.class) p.class (left_of l) x p.least b) d.2
     ∙ ap (λ (x : ℕ). takes (class_of p.class) p.class (left_of l) low x b) d.3 ∙ takes-law p.class (left_of l) low least b
-    ∙ ap (λ (x : List chars.Range). cond (leb 0x80 b && ltb b 0xC0) (cond (meets x (max (further low b (unit_of (left_of l))) least) (further low b (unit_of (left_of l)) + (unit_of (left_of l) - 1))) (Takes (part_of p.class (left_of l - 1) (further low b (unit_of (left_of l))) least)) Refuses) Refuses) d.0
+    ∙ ap (λ (x : List chars.Range). cond (leb 0x80 b && ltb b 0xC0) (cond (meets x (max (further low b (unit_of (left_of l))) least) (further low b (unit_of (left_of l)) + (unit_of (left_of l) - 1))) (Some (part_of p.class (left_of l - 1) (further low b (unit_of (left_of l))) least)) None) None) d.0
 
 module _ (src : List ℕ) (at : ℕ) {st : Registers} {m : Marks} {n : ℕ} {rs : List Range} where
-  further-agrees : (x y : Bool) (q : Open) (u : State) → follow_of st.part (get_or src at 0) ≡ cond x (cond y (Takes q) Refuses) Refuses →
+  further-agrees : (x y : Bool) (q : Open) (u : State) → follow_of st.part (get_or src at 0) ≡ cond x (cond y (Some q) None) None →
       Rep src (at + 1) (with_part q (in_mode (cond (eqb q.left 0) st.then st.mode) st)) u m n rs → Agree src at st m n rs (row.to row.within row.further) (cond x (cond y (go Stay u) no) no)
   unfolding act_on acted_of further_of
-  further-agrees true true q u e r = stayed (with_part q (in_mode (cond (eqb q.left 0) st.then st.mode) st)) u (λ events attributes. ap (λ (x : Followed). turned (further_by x st) events attributes) e) refl refl r
-  further-agrees true false q u e r = wrong (λ events attributes. ap (λ (x : Followed). turned (further_by x st) events attributes) e)
-  further-agrees false y q u e r = wrong (λ events attributes. ap (λ (x : Followed). turned (further_by x st) events attributes) e)
+  further-agrees true true q u e r = stayed (with_part q (in_mode (cond (eqb q.left 0) st.then st.mode) st)) u (λ events attributes. ap (λ (x : Option Open). turned (further_by x st) events attributes) e) refl refl r
+  further-agrees true false q u e r = wrong (λ events attributes. ap (λ (x : Option Open). turned (further_by x st) events attributes) e)
+  further-agrees false y q u e r = wrong (λ events attributes. ap (λ (x : Option Open). turned (further_by x st) events attributes) e)
 
   -- the state f leads back to the mode k
   module _ (v : Level st m n) (k : ℕ) (f : Part → State) (e : (q : Part) (to : Registers) → Partly q k to → Moded (f q) to) (h : (q : Part) → Homed (f q) st.home)

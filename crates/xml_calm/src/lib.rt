@@ -13,14 +13,13 @@ fn is_mild(b: u8, stop: u8) -> bool
         | ((b == 0xA) | (b == 0x9))
 }
 
+// No exit before the end: so the compiler takes all bytes at a time.
 fn is_calm(part: &[u8], stop: u8) -> bool
     ensures { result ≡ mild_all stop part.now }
 {
     let mut odd = false;
-    let mut i = 0;
-    while i < part.len() {
-        odd = odd | !is_mild(part[i], stop);
-        i += 1;
+    for b in part {
+        odd = odd | !is_mild(*b, stop);
     }
     !odd
 }
@@ -45,6 +44,7 @@ pub fn calm_end(source: &[u8], from: usize, mode: u8) -> usize
         return from;
     }
     let mut at = from;
+    // while: blocks of sixteen from any place on, and the last place is the answer.
     while at < source.len() {
         if source.len() - at < 16 {
             return at;

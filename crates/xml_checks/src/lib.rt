@@ -45,24 +45,19 @@ pub fn unless0(start: u32, size: u32) -> u32
 pub fn less(a: u32, b: u32) -> u32
     ensures { result ≡ a - b }
 {
-    if b < a { a - b } else { 0 }
+    a.saturating_sub(b)
 }
 
 pub fn byte_at(s: &[u8], i: usize) -> u8
     ensures { result ≡ get_or s.now i 0 }
 {
-    if i < s.len() {
-        return s[i];
-    }
-    0
+    s.get(i).copied().unwrap_or(0)
 }
 
 pub fn into(st: State, mode: u8) -> State
     ensures { result ≡ in_mode mode st }
 {
-    let mut s = st;
-    s.mode = mode;
-    s
+    State { mode, ..st }
 }
 
 // A byte of an end tag's name.

@@ -16,12 +16,11 @@
 -- of `due_in_of` is only at which byte each of them does (rule N9).
 --
 -- `tokens` takes the lengths of both areas and not what these held before: no claim depends on old contents.
-use Rattle.std.specs.Prelude.{ℕ, ◌+◌, ◌-◌, ◌*◌, ◌≤◌, ◌<◌, ◌≡◌, List, ◌++◌, ◌⊎◌, ◌↔◌, length, take, drop, replicate}
+use Rattle.std.specs.Prelude.{ℕ, ◌+◌, ◌-◌, ◌*◌, ◌≤◌, ◌<◌, ◌≡◌, List, ◌++◌, ◌⊎◌, ◌↔◌, length, take, drop, replicate, Ok}
 use Rattle.xml_finish.specs.of_refusal.Refusal.{nowhere}
 use Rattle.xml_finish.specs.of_area.Limits.{most_bytes}
 use Rattle.xml_finish.specs.of_table.Event.{resolve}
 use Rattle.xml_finish.specs.of_table.Table.{check_of}
-use Rattle.xml_finish.specs.of_table.declared.Checked.TheVariants.{Good}
 use Rattle.xml_sound.specs.of_xml_grammar.Grammar.{Miscs}
 use Rattle.xml_sound.specs.of_xml_grammar.Documents.{WellFormed, events_of, FirstBad, Doctype}
 use Rattle.xml_finish.specs.of_xml_machine.Tokens.{Answer, done-with, refused, room_of, tokens}
@@ -72,7 +71,7 @@ pub record Tokenizing : Type 0 where
   -- A. Its words are those of the derivation: kinds, places and lengths, first attributes and their numbers; marks, keys and values (rules N3, N4).
   pub placed : (s : List ℕ) (e a n m : ℕ) → answer_to s e a ≡ done-with n m → (w : WellFormed s) → (event_table s e a n ≡ event_words w) × (attribute_table s e a m ≡ attribute_words w)
   -- A. It passes refusal 11.
-  pub passes : (s : List ℕ) (e a n m : ℕ) → answer_to s e a ≡ done-with n m → check_of (event_table s e a n) (attribute_table s e a m) s ≡ Good
+  pub passes : (s : List ℕ) (e a n m : ℕ) → answer_to s e a ≡ done-with n m → check_of (event_table s e a n) (attribute_table s e a m) s ≡ Ok tt
   -- A. Behind it both areas are zero.
   pub zero_events : (s : List ℕ) (e a n m : ℕ) → answer_to s e a ≡ done-with n m → (n * 5 ≤ e) × (drop (n * 5) (tokens s e a).events ≡ replicate (e - n * 5) 0)
   pub zero_attributes : (s : List ℕ) (e a n m : ℕ) → answer_to s e a ≡ done-with n m → (m * 5 ≤ a) × (drop (m * 5) (tokens s e a).attributes ≡ replicate (a - m * 5) 0)

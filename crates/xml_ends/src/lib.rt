@@ -20,15 +20,10 @@ fn is_doctype(source: &[u8], at: usize) -> bool
     requires { at ≤ 16777216 }
     ensures { result ≡ begins (bytes "DOCTYPE") (drop at source.now) }
 {
-    if source.len() <= at + 6 {
+    if source.len() < at {
         return false;
     }
-    (source[at] == b'D')
-        & ((source[at + 1] == b'O')
-            & ((source[at + 2] == b'C')
-                & ((source[at + 3] == b'T')
-                    & ((source[at + 4] == b'Y')
-                        & ((source[at + 5] == b'P') & (source[at + 6] == b'E'))))))
+    source[at..].starts_with(b"DOCTYPE")
 }
 
 // The mode of the run that a character of which some bytes stand belongs to.

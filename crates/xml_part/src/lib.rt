@@ -1,12 +1,13 @@
 // A character of which some bytes stand, and what its next byte may be.
 #![tactic(auto)]
 
-ghost use Rattle.std.specs.Prelude.{◌≡◌, ◌-◌, ◌<◌, ◌≤◌, max};
+ghost use Rattle.std.specs.Prelude.{◌≡◌, ◌<◌, ◌≤◌};
 ghost use Rattle.xml_checks.specs.of_xml_chars.Chars.{meets, name_start, name_char};
 ghost use Rattle.xml_checks.specs.of_xml_state.inside.Parts.{class_of, unit_of, lead_of, follow_of, low_start};
 
 pub use xml_checks as the_xml_checks;
-use xml_checks::the_xml_state::{Followed, Part, class};
+use xml_checks::the_xml_state::Part;
+use xml_checks::the_xml_state::class::Class;
 pub use xml_checks::{the_area, the_refusal, the_xml_state};
 use xml_checks::{crosses, meets_any};
 
@@ -60,13 +61,13 @@ fn meets_name(low: u64, high: u64) -> bool
                     | (crosses(0x203F, 0x2040, low, high) | meets_start(low, high)))))
 }
 
-fn meets_class(class: u8, low: u64, high: u64) -> bool
+fn meets_class(class: Class, low: u64, high: u64) -> bool
     ensures { result ≡ meets (class_of class) low high }
 {
     match class {
-        class::ANY => meets_any(low, high),
-        class::START => meets_start(low, high),
-        _ => meets_name(low, high),
+        Class::Any => meets_any(low, high),
+        Class::Start => meets_start(low, high),
+        Class::Name => meets_name(low, high),
     }
 }
 
@@ -81,24 +82,12 @@ fn unit(left: u8) -> u64
     }
 }
 
-fn most(a: u64, b: u64) -> u64
-    ensures { result ≡ max a b }
-{
-    if a < b { b } else { a }
-}
-
-fn less(a: u8, b: u8) -> u8
-    ensures { result ≡ a - b }
-{
-    if b < a { a - b } else { 0 }
-}
-
 // Behind the first byte of a character of more than one.
-pub fn lead(class: u8, b: u8) -> Part
+pub fn lead(class: Class, b: u8) -> Part
     ensures { result ≡ lead_of class b }
 {
     if b < 0xE0 {
-        let low = (less(b, 0xC0) as u32) * 64;
+        let low = (b.saturating_sub(0xC0) as u32) * 64;
         return Part {
             class,
             left: 1,
@@ -125,22 +114,21 @@ pub fn lead(class: u8, b: u8) -> Part
 }
 
 // Behind a further byte, where some character of the class begins so.
-pub fn follow(p: Part, b: u8) -> Followed
+pub fn follow(p: Part, b: u8) -> Option<Part>
     ensures { result ≡ follow_of p b }
 {
     if (b < 0x80) | (0xBF < b) {
-        return Followed::Refuses;
+        return None;
     }
     let unit = unit(p.left);
     let low = widen(p.low) + wide(b - 0x80) * unit;
     let high = low + (unit - 1);
-    if meets_class(p.class, most(low, widen(p.least)), high) {
-        return Followed::Takes(Part {
-            class: p.class,
-            left: less(p.left, 1),
-            low: (low % 4294967296) as u32,
-            least: p.least,
-        });
+    if !meets_class(p.class, low.max(widen(p.least)), high) {
+        return None;
     }
-    Followed::Refuses
+    Some(Part {
+        left: p.left.saturating_sub(1),
+        low: (low % 4294967296) as u32,
+        ..p
+    })
 }

@@ -1,5 +1,5 @@
 -- Places of small documents, computed, and tables that the claims exclude. Assumes nothing.
-use Prim.Native.Nat.{ℕ, ◌+◌}
+use Prim.Native.Nat.{ℕ}
 use mathlib.Core.Path.{◌≡◌, refl, sym, ap, ◌∙◌}
 use mathlib.Core.List.{List, [], ◌∷◌, ◌++◌, append-nil}
 use native.Mathlib.Omega.{arith}
@@ -8,7 +8,7 @@ use Rattle.xml_tokens.specs.of_names.Bytes.{bytes}
 use Rattle.xml_tokens.specs.of_utf8.Characters.{encode}
 use Rattle.xml_tokens.specs.of_table.Event.{event_of, event_at, attributes_from, resolve_from, resolve}
 use Rattle.xml_tokens.specs.of_table.Table.{check_from, check_event, good_sizes, good_shape, bad_from, check_of}
-use Rattle.xml_tokens.specs.of_table.declared.Checked.TheVariants.{Good}
+use Rattle.std.specs.Prelude.{Ok}
 use Rattle.xml_tokens.specs.of_xml_chars.Chars.{crosses, single}
 use Rattle.xml_tokens.specs.of_xml_grammar.Grammar.{no_char, a-char, chars, Name, name_of, Value, no_value, value-char, no-attribute, attribute, CharData, data_of}
 use Rattle.xml_tokens.specs.of_xml_grammar.Grammar.{last-space, comment, plain, no-remark, Remark, misc, empty, pair, last-data, undeclared, document}
@@ -64,7 +64,7 @@ astray-resolves : resolve astray [] (bytes "<a>a</a>") ≡ events_of letter
 unfolding event_of event_at attributes_from resolve_from resolve element_of content_of encode
 astray-resolves = refl
 
-astray-passes : check_of astray [] (bytes "<a>a</a>") ≡ Good
+astray-passes : check_of astray [] (bytes "<a>a</a>") ≡ Ok tt
 unfolding check_from check_event good_sizes good_shape bad_from check_of
 astray-passes = refl
 

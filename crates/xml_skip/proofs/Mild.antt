@@ -7,7 +7,7 @@ use native.Mathlib.Omega.{arith}
 use native.Mathlib.Decide.{dec_lt}
 use borrow.Author.Tests.{ltb-true, eqb-true}
 use lib.Dec.{ltb, eqb}
-use lib.ListN.{length, get_or}
+use lib.ListN.{get_or}
 use Rattle.xml_agree.specs.of_xml_chars.Chars.{crosses}
 use Rattle.xml_agree.proofs.of_xml_chars.CharLaws.{or_cases}
 use Rattle.xml_checks.specs.of_xml_state.inside.Rows as row

@@ -97,6 +97,7 @@ fn skip(source: &[u8], from: usize, mode: u8, classes: &[u8], nexts: &[u8], acts
     ensures { (from ≤ result) × Passes source.now mode from result }
 {
     let mut at = calm_end(source, from, mode);
+    // while: each step passes a whole character.
     while at < source.len() {
         let m = move_at(mode, source[at], classes, nexts, acts);
         if m.mode != mode {
@@ -152,8 +153,7 @@ pub fn pass_name(source: &[u8], from: usize, st: State) -> usize
     if st.mode != b'w' {
         return from;
     }
-    let mut at = from;
-    while at < source.len() {
+    for at in from..source.len() {
         let k = less(at as u32, st.mark);
         if wide(st.long) <= wide(k) + 1 {
             return at;
@@ -161,7 +161,6 @@ pub fn pass_name(source: &[u8], from: usize, st: State) -> usize
         if source[at] != byte_at(source, wide(st.name) + wide(k)) {
             return at;
         }
-        at += 1;
     }
-    at
+    from.max(source.len())
 }

@@ -6,23 +6,19 @@ pub use xml_stack::{the_area, the_refusal};
 pub mod class;
 pub mod mode;
 
+use class::Class;
+
 // A character of which some bytes stand: its class, how many bytes are to come, its bits so far with zeros behind them, and the
 // least code point of its width.
 #[derive(Clone, Copy)]
 pub struct Part {
-    pub class: u8,
+    pub class: Class,
     pub left: u8,
     pub low: u32,
     pub least: u32,
 }
 
-#[derive(Clone, Copy)]
-pub enum Followed {
-    Takes(Part),
-    Refuses,
-}
-
-// The mode behind a byte, and what the byte does.
+// The mode behind a byte, and what the byte does, as the bytes of the tables: numbers, since a mode is the index of its row.
 #[derive(Clone, Copy)]
 pub struct Move {
     pub mode: u8,

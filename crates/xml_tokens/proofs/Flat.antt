@@ -12,9 +12,8 @@ use lib.Seq.{take_at, drop_at, drop-drop, drop-nil}
 use Rattle.xml_complete.specs.of_refusal.Refusal.{nowhere}
 use Rattle.xml_complete.specs.of_area.Limits.{most_entries, most_bytes}
 use Rattle.xml_complete.specs.of_table.Event.{Attribute, Event, part, attribute_at, attributes_from, event_of, event_at, resolve_from, resolve}
-use Rattle.xml_complete.specs.of_table.Table.{word, count_of, good_attribute, good_shape, bad_from, check_event, and_then, check_from, good_sizes, check_of}
-use Rattle.xml_complete.specs.of_table.declared.Checked.{Checked}
-use Rattle.xml_complete.specs.of_table.declared.Checked.TheVariants.{Good, Bad}
+use Rattle.xml_complete.specs.of_table.Table.{word, count_of, good_attribute, good_shape, bad_from, check_event, and_then, check_from, good_sizes, check_of, Checked}
+use Rattle.std.specs.Prelude.{Ok, Err}
 use Rattle.xml_complete.proofs.of_table.Words.{word_at}
 use Rattle.xml_complete.specs.of_xml_machine.Tokens.{Rec, rec, flat, laid_out}
 
@@ -131,7 +130,7 @@ module _ (events : List ℕ) (attributes : List Rec) (source : List ℕ) where
       ∙ (and-eq-true_iff _ _).1 (le-leb k 9 g.0, (and-eq-true_iff _ _).1 (le-leb (from + len) (length source) g.1, ranged k first count g.2 g.3))
 
   event-good : (i : ℕ) (r : Rec) (rs : List Rec) → drop (i * 5) events ≡ flat (r ∷ rs) → EventIn (length source) (length attributes) r → Each (AttributeIn (length source)) attributes →
-      check_event events (flat attributes) (length source) i ≡ Good
+      check_event events (flat attributes) (length source) i ≡ Ok tt
   unfolding check_event
   event-good i (rec k from len first count) rs h g o =
       let w : (n : ℕ) → word events i n ≡ get_or (flat (rec k from len first count ∷ rs)) n 0 = first_word events i (rec k from len first count ∷ rs) h in
@@ -140,11 +139,11 @@ module _ (events : List ℕ) (attributes : List Rec) (source : List ℕ) where
       (λ x. bad_from (flat attributes) (length source) (w 4 x) (w 3 x))
       ∙ attributes-good (flat attributes) source count first (drop first attributes) (flat-drop first attributes) (rest-long first count g.2) (each-drop (AttributeIn (length source)) first attributes o)
       ∙ sym (λ x. w 3 x + w 4 x) in
-      ap (λ (u : Bool). cond u (cond (eqb bad (word events i 3 + word events i 4)) Good (Bad i bad)) (Bad i nowhere)) (event-shaped i (rec k from len first count) rs h g)
-      ∙ ap (λ (u : Bool). cond u Good (Bad i bad)) (eq-eqb bad (word events i 3 + word events i 4) all)
+      ap (λ (u : Bool). cond {A = Checked} u (cond {A = Checked} (eqb bad (word events i 3 + word events i 4)) (Ok tt) (Err (i, bad))) (Err (i, nowhere))) (event-shaped i (rec k from len first count) rs h g)
+      ∙ ap (λ (u : Bool). cond {A = Checked} u (Ok tt) (Err (i, bad))) (eq-eqb bad (word events i 3 + word events i 4) all)
 
   events-good : (i : ℕ) (rs : List Rec) → drop (i * 5) events ≡ flat rs → Each (EventIn (length source) (length attributes)) rs → Each (AttributeIn (length source)) attributes →
-      check_from events (flat attributes) (length source) (length rs) i ≡ Good
+      check_from events (flat attributes) (length source) (length rs) i ≡ Ok tt
   unfolding check_from
   events-good i [] h g o = refl
   events-good i (r ∷ rs) h g o =
@@ -165,8 +164,8 @@ module _ (events attributes : List Rec) (source : List ℕ) (g : Each (EventIn (
         (and-eq-true_iff _ _).1 (le-leb (length (flat events) / 5) most_entries (omega arith), (and-eq-true_iff _ _).1 (le-leb (length (flat attributes) / 5) most_entries (omega arith), le-leb (length source) most_bytes l)),
       )
 
-  pub flat_good : Each (AttributeIn (length source)) attributes → length events ≤ most_entries → length attributes ≤ most_entries → length source ≤ most_bytes → check_of (flat events) (flat attributes) source ≡ Good
+  pub flat_good : Each (AttributeIn (length source)) attributes → length events ≤ most_entries → length attributes ≤ most_entries → length source ≤ most_bytes → check_of (flat events) (flat attributes) source ≡ Ok tt
   unfolding check_of
   flat_good o e a l =
-      ap (λ (b : Bool). cond b (check_from (flat events) (flat attributes) (length source) (count_of (flat events)) 0) (Bad nowhere nowhere)) (flat-sized e a l)
+      ap (λ (b : Bool). cond b (check_from (flat events) (flat attributes) (length source) (count_of (flat events)) 0) (Err (nowhere, nowhere))) (flat-sized e a l)
       ∙ ap (λ (n : ℕ). check_from (flat events) (flat attributes) (length source) n 0) (flat-count events) ∙ events-good (flat events) attributes source 0 events refl g o

@@ -11,7 +11,7 @@ use lib.ListN.{length, take, length-map}
 use Rattle.xml_complete.specs.of_area.Limits.{most_entries, most_bytes}
 use Rattle.xml_complete.specs.of_table.Event.{Eof, resolve}
 use Rattle.xml_complete.specs.of_table.Table.{check_of}
-use Rattle.xml_complete.specs.of_table.declared.Checked.TheVariants.{Good}
+use Rattle.std.specs.Prelude.{Ok}
 use Rattle.xml_complete.specs.of_xml_grammar.Events.{numbered, document_of}
 use Rattle.xml_complete.specs.of_xml_grammar.Documents.{WellFormed, events_of}
 use Rattle.xml_complete.specs.of_xml_machine.State.{epilog}
@@ -93,7 +93,7 @@ module _ (s : List ℕ) where
       few-attributes : length attribute_records ≤ most_entries
       few-attributes = let r = room_most a in let l = not-below (room_of a) (length attribute_records) (λ h. g.roomy (inr h)) in omega arith
 
-      good_of : check_of (take (n * 5) (tokens s e a).events) (take (m * 5) (tokens s e a).attributes) s ≡ Good
+      good_of : check_of (take (n * 5) (tokens s e a).events) (take (m * 5) (tokens s e a).attributes) s ≡ Ok tt
       good_of =
           (λ i. check_of (events-flat i) (attributes-flat i) s)
           ∙ flat_good event_records attribute_records s (due-good s).0 (due-good s).1 few-events few-attributes g.within
@@ -103,7 +103,7 @@ module _ (s : List ℕ) where
 
 -- THEOREM: the table passes refusal 11
 pub table-good : (s : List ℕ) (e a n m : ℕ) → (tokens s e a).answer ≡ done-with n m →
-    check_of (take (n * 5) (tokens s e a).events) (take (m * 5) (tokens s e a).attributes) s ≡ Good
+    check_of (take (n * 5) (tokens s e a).events) (take (m * 5) (tokens s e a).attributes) s ≡ Ok tt
 table-good s e a n m h = good_of s e a n m (is-accepted s e a n m h)
 
 -- THEOREM: all that is due of a document, resolved, is the events of any derivation

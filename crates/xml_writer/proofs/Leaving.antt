@@ -7,12 +7,11 @@ use native.Mathlib.Omega.{arith}
 use native.Mathlib.Decide.{dec_le}
 use lib.Dec.{eqb}
 use lib.ListN.{length, take, drop, length-replicate, replicate-append-replicate}
+use Rattle.std.specs.Prelude.{Option, Some, None}
 use Rattle.writer.specs.of_refusal.declared.Cause.TheVariants as cause
 use Rattle.writer.specs.of_area.Answer.{Answer, gives, refuses}
 use Rattle.writer.specs.of_area.Area.{zeros, laid}
 use Rattle.writer.specs.of_area.Limits.{most_bytes}
-use Rattle.writer.specs.of_area.declared.Stored.{Stored}
-use Rattle.writer.specs.of_area.declared.Stored.TheVariants.{Put, Full}
 use Rattle.writer.proofs.of_area.Laying.{laid-zeros, fits-put, over-full}
 use Rattle.writer.proofs.of_area.Lists.{drop-zeros, take-zeros}
 use Rattle.writer.specs.of_tree_report.Layout.{layout}
@@ -43,9 +42,9 @@ holds none = false
 holds (some h) = true
 holds (xml h) = true
 
-module _ (t : Areas) (n : ℕ) (p : t.mark ≡ Put n) where
-  is_held : held t ≡ held_by_of (Put n) t
-  is_held = ap (λ (m : Stored). held_by_of m t) p
+module _ (t : Areas) (n : ℕ) (p : t.mark ≡ Some n) where
+  is_held : held t ≡ held_by_of (Some n) t
+  is_held = ap (λ (m : Option ℕ). held_by_of m t) p
 
   held_bytes : bytes_of (held t) ≡ n
   held_bytes = ap bytes_of is_held ∙ go (eqb t.form 0)
@@ -130,7 +129,7 @@ module _ (words text : List ℕ) (n : ℕ) where
       put-none h = let a = length-replicate {A = ℕ} used 0 in let b = size in all-put ∙ none-spelt (blank used) items near (omega arith)
 
       -- the document was put
-      pub whole-document : (k : ℕ) → m.bytes ≡ Put k → Left (gives k) (out' ++ drop used (zeros n))
+      pub whole-document : (k : ℕ) → m.bytes ≡ Some k → Left (gives k) (out' ++ drop used (zeros n))
       whole-document k q = go (dec_le (length f) used)
         where
           go : Dec (length f ≤ used) → Left (gives k) (out' ++ drop used (zeros n))
@@ -149,11 +148,11 @@ module _ (words text : List ℕ) (n : ℕ) where
           go (no h) = absurd (true≢false (sym (held-some t k q) ∙ ap holds (put-none (omega arith))))
 
       -- it didn't fit
-      pub short-document : {out : List ℕ} → m.bytes ≡ Full → out ≡ zeros n → Left (refuses cause.OutputFull) out
+      pub short-document : {out : List ℕ} → m.bytes ≡ None → out ≡ zeros n → Left (refuses cause.OutputFull) out
       short-document {out} q x = go (dec_le (length f) used)
         where
           none-held : held t ≡ none
-          none-held = ap (λ (s : Stored). held_by_of s t) q
+          none-held = ap (λ (s : Option ℕ). held_by_of s t) q
 
           go : Dec (length f ≤ used) → Left (refuses cause.OutputFull) out
           go (yes h) = absurd (true≢false (sym (ap holds (put-all h)) ∙ ap holds none-held))
@@ -168,11 +167,11 @@ module _ (words text : List ℕ) (n : ℕ) where
       part-is : take u cleared ≡ zeros used
       part-is = ap (take u) ec ∙ ap (λ (k : ℕ). take k (zeros n)) u-is ∙ take-zeros used n (omega arith)
 
-      pub whole-call : (k : ℕ) → m.bytes ≡ Put k → Left (gives k) (out' ++ drop u cleared)
+      pub whole-call : (k : ℕ) → m.bytes ≡ Some k → Left (gives k) (out' ++ drop u cleared)
       whole-call k q =
           let a : out' ++ drop u cleared ≡ out' ++ drop used (zeros n) = ap (λ (x : List ℕ). out' ++ drop u x) ec ∙ ap (λ (i : ℕ). out' ++ drop i (zeros n)) u-is in
           let w = whole-document part-is p k q in
           record { answer = w.answer; area = a ∙ w.area }
 
-      pub short-call : {out : List ℕ} → m.bytes ≡ Full → out ≡ zeros n → Left (refuses cause.OutputFull) out
+      pub short-call : {out : List ℕ} → m.bytes ≡ None → out ≡ zeros n → Left (refuses cause.OutputFull) out
       short-call q x = short-document part-is p q x

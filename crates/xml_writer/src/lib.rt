@@ -10,7 +10,7 @@ ghost use Rattle.xml_writer.specs.Answer.{document_from};
 ghost use Rattle.xml_writer.specs.inside.Put.{Put};
 
 pub use writer as the_writer;
-use writer::the_area::{Stored, clear, least, limit};
+use writer::the_area::{clear, least, limit};
 use writer::the_refusal::{Cause, Refusal, Verdict, no_refusal, refuse_late};
 use writer::the_write_document::put_document;
 use writer::the_write_form::form;
@@ -46,7 +46,7 @@ fn put_tree(records: &[u32], text: &[u8], out: &mut [u8]) -> Marks
         attributes: 0,
         form: form::FREE,
         level: 0,
-        bytes: Stored::Put(0),
+        bytes: Some(0),
     };
     let mut events = [0u32; 1];
     let mut attributes = [0u32; 1];
@@ -72,7 +72,7 @@ pub fn write_xml(records: &[u32], text: &[u8], out: &mut [u8]) -> Document
     let used = least(out.len(), limit::BYTES);
     let k = put_tree(records, text, &mut out[..used]);
     let mark = k.bytes;
-    let Stored::Put(length) = mark else {
+    let Some(length) = mark else {
         clear(out);
         return refuse(Cause::OutputFull);
     };

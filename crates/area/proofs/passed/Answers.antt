@@ -1,20 +1,11 @@
-use Prim.Native.Nat.{◌+◌, ◌-◌}
-use mathlib.Core.Path.{sym, ◌∙◌}
+use Prim.Native.Nat.{◌+◌, ◌*◌}
+use mathlib.Core.Path.{◌≡◌, sym, ◌∙◌}
 use native.Mathlib.Omega.{arith}
-use Rattle.area.proofs.Seeking.{seeking-start}
 use Rattle.area.proofs.Blocks.{seeking_block}
 use Rattle.area.proofs.passed.Goals as goal
 
-pub loop-i-init : goal.loop-i-init
-loop-i-init c = seeking-start _ _
-
-pub loop-i-preserved : goal.loop-i-preserved
-loop-i-preserved c =
-    let loop = c.loop-i in
-    seeking_block loop.invariant (loop.i + 64) (omega arith) (omega arith) (sym c.is_without.ensures ∙ c.if-is_without.true)
-
-pub returns-else-is_without : goal.returns-else-is_without
-returns-else-is_without c = let inv = c.loop-i.invariant in (inv.within, inv.ahead)
-
-pub returns : goal.returns
-returns c = let inv = c.loop-i.invariant in (inv.within, inv.ahead)
+pub loop-k-preserved : goal.loop-k-preserved
+loop-k-preserved c =
+    let from = c.loop-k.k * 64 in
+    let there : from + 64 ≡ (c.loop-k.k + 1) * 64 = omega arith in
+    rw (sym there) (seeking_block c.loop-k.invariant (from + 64) (omega arith) (omega arith) (sym c.is_without.ensures ∙ c.if-not-is_without.false))

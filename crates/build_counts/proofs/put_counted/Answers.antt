@@ -14,13 +14,10 @@ returns-in_default c =
 
 pub returns : goal.returns
 returns c =
-    let p₁ = c in
-    let p₂ = p₁ in
-    let p₃ = p₂ in
-    let a = p₃.args in
+    let a = c.args in
     λ text old more m.
     let words = a.records.now in
     let n = a.i * 32 in
-    was-counted a.i a.b words text old more m p₃.in-Accepted.is
-    (part-back words n p₂.least-at.ensures p₁.put_counts.new.r
-    ∙ ap (λ z. take n words ++ z) (p₁.put_counts.ensures ∙ ap (put_counts a.counted.counts) (part-from words n p₂.least-at.ensures)))
+    was-counted a.i a.b words text old more m c.in-Accepted.is
+    (part-back words n c.least-at.ensures c.put_counts.new.r
+    ∙ ap (λ z. take n words ++ z) (c.put_counts.ensures ∙ ap (put_counts a.counted.counts) (part-from words n c.least-at.ensures)))

@@ -1,46 +1,39 @@
-use Rattle.build_elements.proofs.Opening.{main_marks, main-stopped, no_main, main-went}
+use Rattle.build_kinds.proofs.of_build_draft.Steps.{handed-on, then-refused, then-done}
+use Rattle.build_elements.proofs.Opening.{main_marks, no_main, main-went}
 use Rattle.build_elements.proofs.Steps.{not_taken, was-taken}
-use Rattle.build_kinds.specs.of_build_draft.Calls.{marks, main_kind}
-use Prim.Native.Nat.{ℕ}
-use mathlib.Core.Path.{refl, ap, ◌∙◌}
+use Rattle.build_kinds.specs.of_build_draft.Draft.{Draft}
+use Rattle.build_kinds.specs.of_build_draft.Calls.{open_main}
+use mathlib.Core.Path.{refl, ◌∙◌}
 use Rattle.build_elements.proofs.open_main.Goals as goal
 
-pub returns-in_default : goal.returns-in_default
-returns-in_default c =
+pub returns-in_err-b : goal.returns-in_err-b
+returns-in_err-b c =
     let a = c.args in
-    λ text. main-stopped a.outcome {k = main_kind a.outcome} refl a.records.now text c.in_default.is
+    rw (handed-on c.from_residual.result a.step c.from_residual.ensures.1 c.in_err-b.was)
+    (λ text. then-refused a.step a.records.now text (open_main a.outcome) a.records.now text c.in_err-b.was refl)
 
 pub returns-then-k-eq0 : goal.returns-then-k-eq0
 returns-then-k-eq0 c =
-    let p₁ = c in
-    let p₂ = p₁ in
-    let a = p₂.args in
-    λ text. no_main a.outcome p₁.main_kind-k.ensures a.records.now text p₂.in-Done.is c.if-k-eq0.true
-
-pub returns-in_default-taken : goal.returns-in_default-taken
-returns-in_default-taken c =
-    let p₁ = c in
-    let p₂ = p₁ in
-    let p₃ = p₂ in
-    let p₄ = p₃ in
-    let a = p₄.args in
+    let a = c.args in
     λ text.
-    not_taken p₃.main_kind-k.result main_marks (record { builder = p₄.in-Done.b; words = a.records.now; text = text })
-    p₁.take_record-taken.new.records c.in_default-taken.is (p₁.take_record-taken.ensures text)
-    ∙ main-went a.outcome p₃.main_kind-k.ensures a.records.now text p₄.in-Done.is p₂.if-k-eq0.false
+    no_main a.outcome c.main_kind-k.ensures (record { builder = c.in_ok-b.b; words = a.records.now; text = text }) c.if-k-eq0.true
+    ∙ then-done a.step a.records.now text (open_main a.outcome) c.in_ok-b.was refl
+
+pub returns-in_err-c : goal.returns-in_err-c
+returns-in_err-c c =
+    let a = c.args in
+    rw (handed-on c.from_residual-in_err-c.result c.take_record.result c.from_residual-in_err-c.ensures.1 c.in_err-c.was)
+    (λ text.
+    let d : Draft = record { builder = c.in_ok-b.b; words = a.records.now; text = text } in
+    not_taken c.main_kind-k.result main_marks d c.take_record.new.records c.in_err-c.was (c.take_record.ensures text)
+    ∙ main-went a.outcome c.main_kind-k.ensures d c.if-k-eq0.false
+    ∙ then-done a.step a.records.now text (open_main a.outcome) c.in_ok-b.was refl)
 
 pub returns : goal.returns
 returns c =
-    let p₁ = c in
-    let p₂ = p₁ in
-    let p₃ = p₂ in
-    let p₄ = p₃ in
-    let p₅ = p₄ in
-    let p₆ = p₅ in
-    let a = p₆.args in
+    let a = c.args in
     λ text.
-    let b = p₂.in-Done-taken.c in
-    was-taken p₅.main_kind-k.result main_marks (record { builder = p₆.in-Done.b; words = a.records.now; text = text })
-    p₃.take_record-taken.new.records p₂.in-Done-taken.is (p₃.take_record-taken.ensures text)
-    (c.with_marks.ensures ∙ ap (λ (n : ℕ). marks b.report b.suite b.case n b) p₁.last_of.ensures)
-    ∙ main-went a.outcome p₅.main_kind-k.ensures a.records.now text p₆.in-Done.is p₄.if-k-eq0.false
+    let d : Draft = record { builder = c.in_ok-b.b; words = a.records.now; text = text } in
+    was-taken c.main_kind-k.result main_marks d c.take_record.new.records c.in_ok-c.was (c.take_record.ensures text) (rw c.last_of.ensures refl)
+    ∙ main-went a.outcome c.main_kind-k.ensures d c.if-k-eq0.false
+    ∙ then-done a.step a.records.now text (open_main a.outcome) c.in_ok-b.was refl

@@ -1,3 +1,4 @@
+use Rattle.build_kinds.proofs.of_build_draft.Steps.{handed-on}
 use Rattle.build_pairs.proofs.Adding.{added-nowhere, key-refused, added-fits, added-done}
 use Rattle.build_pairs.proofs.add_pair.Goals as goal
 
@@ -7,15 +8,16 @@ returns-then-not-may_add c =
     added-nowhere args.b args.records.now args.text.now args.k args.key.now args.value.now
     c.place_for.ensures c.may_add.ensures (c.if-not-may_add.true) _ _
 
-pub returns-in_default : goal.returns-in_default
-returns-in_default c =
+pub returns-in_err-c : goal.returns-in_err-c
+returns-in_err-c c =
     let args = c.args in
     let place-for = c.place_for in
     let may_add = c.may_add in
     let if1 = c.if-not-may_add in
-    let keep = c.keep-keyed in
-    key-refused args.b args.records.now args.text.now args.k args.key.now args.value.now place-for.ensures
-    may_add.ensures (if1.false) _ _ keep.ensures c.in_default.is
+    let keep = c.keep in
+    rw (handed-on c.from_residual.result c.keep.result c.from_residual.ensures.1 c.in_err-c.was)
+    (key-refused args.b args.records.now args.text.now args.k args.key.now args.value.now place-for.ensures
+    may_add.ensures (if1.false) _ _ keep.ensures c.in_err-c.was)
 
 pub add_value-requires : goal.add_value-requires
 add_value-requires c =
@@ -23,17 +25,16 @@ add_value-requires c =
     let place-for = c.place_for in
     let may_add = c.may_add in
     let if1 = c.if-not-may_add in
-    let keep = c.keep-keyed in
+    let keep = c.keep in
     added-fits args.b args.records.now args.text.now args.k args.key.now args.value.now place-for.ensures
-    may_add.ensures (if1.false) _ _ keep.ensures c.in-Done.is
+    may_add.ensures (if1.false) _ _ keep.ensures c.in_ok-c.was
 
 pub returns : goal.returns
 returns c =
-    let at-place-for = c in
-    let args = at-place-for.args in
+    let args = c.args in
     let may_add = c.may_add in
     let if1 = c.if-not-may_add in
-    let keep = c.keep-keyed in
+    let keep = c.keep in
     let add-value = c.add_value in
-    added-done args.b args.records.now args.text.now args.k args.key.now args.value.now at-place-for.place_for.ensures
-    may_add.ensures (if1.false) _ _ keep.ensures c.in-Done.is add-value.ensures
+    added-done args.b args.records.now args.text.now args.k args.key.now args.value.now c.place_for.ensures
+    may_add.ensures (if1.false) _ _ keep.ensures c.in_ok-c.was add-value.ensures

@@ -1,22 +1,23 @@
+use Rattle.build_kinds.proofs.of_build_draft.Steps.{handed-on}
 use Rattle.build_pairs.proofs.Pairs.{new-refused, new-fits, new-done}
 use Rattle.build_pairs.proofs.new_pair.Goals as goal
 
-pub returns-in_default : goal.returns-in_default
-returns-in_default c =
+pub returns-in_err-c : goal.returns-in_err-c
+returns-in_err-c c =
     let args = c.args in
-    let take-record = c.take_record-taken in
-    new-refused take-record.result args.k args.b args.records.now args.place args.x args.y take-record.new.records take-record.ensures c.in_default.is
+    let take-record = c.take_record in
+    rw (handed-on c.from_residual.result c.take_record.result c.from_residual.ensures.1 c.in_err-c.was)
+    (new-refused take-record.result args.k args.b args.records.now args.place args.x args.y take-record.new.records take-record.ensures c.in_err-c.was)
 
 pub put_pair_in-requires : goal.put_pair_in-requires
 put_pair_in-requires c =
-    let start = c in
-    let take-record = c.take_record-taken in
-    let f = new-fits take-record.result start.args.k start.args.b start.args.records.now start.args.place start.args.x start.args.y
-    take-record.new.records take-record.ensures c.in-Done.is start.requires.0 in (f.0, f.1, f.2, start.requires.1, start.requires.2)
+    let take-record = c.take_record in
+    let f = new-fits take-record.result c.args.k c.args.b c.args.records.now c.args.place c.args.x c.args.y
+    take-record.new.records take-record.ensures c.in_ok-c.was c.requires.0 in (f.0, f.1, f.2, c.requires.1, c.requires.2)
 
 pub returns : goal.returns
 returns c =
     let args = c.args in
-    let take-record = c.take_record-taken in
+    let take-record = c.take_record in
     new-done take-record.result args.k args.b args.records.now args.place args.x args.y
-    take-record.new.records take-record.ensures c.in-Done.is c.put_pair_in.ensures
+    take-record.new.records take-record.ensures c.in_ok-c.was c.put_pair_in.ensures

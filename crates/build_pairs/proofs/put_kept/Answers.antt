@@ -4,8 +4,7 @@ use Rattle.build_pairs.proofs.put_kept.Goals as goal
 
 pub old_place-i-requires : goal.old_place-i-requires
 old_place-i-requires c =
-    let start = c in
-    place-fits start.args.b start.args.records.now start.requires.0 c.place_for-place.ensures
+    place-fits c.args.b c.args.records.now c.requires.0 c.place_for-place.ensures
 
 pub put_value-requires : goal.put_value-requires
 put_value-requires c =

@@ -1,5 +1,9 @@
 use native.Mathlib.Omega.{arith}
-use Rattle.build_text.proofs.Keeping.{kept-foul, kept-behind, kept_full, kept-end, kept-done}
+use mathlib.Core.Path.{◌≡◌}
+use Rattle.std.specs.Prelude.{Some}
+use Rattle.std.proofs.lemmas.Result.{err_from_is_err_and}
+use Rattle.build_draft.specs.of_refusal.declared.Cause.TheVariants as cause
+use Rattle.build_text.proofs.Keeping.{kept-foul, kept-behind, kept_full, kept-done}
 use Rattle.build_text.proofs.keep.Goals as goal
 
 pub returns-then-is_refused : goal.returns-then-is_refused
@@ -10,50 +14,26 @@ returns-then-is_refused c =
 pub returns-then-limit-fill : goal.returns-then-limit-fill
 returns-then-limit-fill c =
     let args = c.args in
-    let is-refused = c.is_refused in
     λ words.
-    kept-behind args.b args.text.now args.s.now args.lossy is-refused.ensures c.if-is_refused.false c.least-limit.ensures c.if-limit-fill.true words _
+    kept-behind args.b args.text.now args.s.now args.lossy c.is_refused.ensures c.if-is_refused.false c.least-limit.ensures c.if-limit-fill.true words _
 
-pub returns-in_default : goal.returns-in_default
-returns-in_default c =
+pub returns-in_err-n : goal.returns-in_err-n
+returns-in_err-n c =
     let args = c.args in
-    let is-refused = c.is_refused in
-    let if1 = c.if-is_refused in
-    let least = c.least-limit in
-    let if2 = c.if-limit-fill in
-    let store-text = c.store_text-put in
-    λ words.
-    kept_full args.b args.text.now args.s.now args.lossy is-refused.ensures if1.false least.ensures if2.false c.in_default.is store-text.ensures.result_value words _
-
-pub overflow_add-kept : goal.overflow_add-kept
-overflow_add-kept c =
-    let args = c.args in
-    let is-refused = c.is_refused in
-    let if1 = c.if-is_refused in
-    let least = c.least-limit in
-    let if2 = c.if-limit-fill in
-    let store-text = c.store_text-put in
-    let h = kept-end args.b args.text.now args.s.now args.lossy is-refused.ensures if1.false least.ensures if2.false c.in-Put.is store-text.ensures.result_value in
-    omega arith
-
-pub overflow_cast-kept : goal.overflow_cast-kept
-overflow_cast-kept c =
-    let args = c.args in
-    let is-refused = c.is_refused in
-    let if1 = c.if-is_refused in
-    let least = c.least-limit in
-    let if2 = c.if-limit-fill in
-    let store-text = c.store_text-put in
-    let h = kept-end args.b args.text.now args.s.now args.lossy is-refused.ensures if1.false least.ensures if2.false c.in-Put.is store-text.ensures.result_value in
-    omega arith
+    let full = c.in_err-n.ensures.ok_part in
+    let p = err_from_is_err_and c.from_residual.result c.from_residual.ensures.1 in
+    let v = rw full at c.in_err-n.ensures.value in
+    let e : c.in_err-n.field-0.0 ≡ cause.TextFull = cc in
+    rw (p.1, p.2, e)
+    (λ words.
+    kept_full args.b args.text.now args.s.now args.lossy c.is_refused.ensures c.if-is_refused.false
+    c.least-limit.ensures c.if-limit-fill.false full c.store_text.ensures.result_value words _)
 
 pub returns : goal.returns
 returns c =
     let args = c.args in
-    let is-refused = c.is_refused in
-    let if1 = c.if-is_refused in
-    let least = c.least-limit in
-    let if2 = c.if-limit-fill in
-    let store-text = c.store_text-put in
-    kept-done args.b args.text.now args.s.now args.lossy is-refused.ensures if1.false
-    least.ensures if2.false c.in-Put.is store-text.ensures.result_value store-text.ensures.out_after
+    let v = c.ok_or.ensures.value in
+    let w = c.in_ok-n.was in
+    let e : c.store_text.result ≡ Some c.in_ok-n.n = grind arith in
+    kept-done args.b args.text.now args.s.now args.lossy c.is_refused.ensures c.if-is_refused.false
+    c.least-limit.ensures c.if-limit-fill.false e c.store_text.ensures.result_value c.store_text.ensures.out_after

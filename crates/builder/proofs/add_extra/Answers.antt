@@ -6,11 +6,8 @@ use Rattle.builder.proofs.add_extra.Goals as goal
 pub returns : goal.returns
 unfolding add_extra
 returns c =
-    let p₁ = c in
-    let p₂ = p₁ in
-    let p₃ = p₂ in
-    let a = p₃.args in
-    let both = ends a.records.now a.text.now p₂.add_pair-step.result p₂.add_pair-step.new.records p₂.add_pair-step.new.text
-    (of-kind a.key.now a.value.now (record { builder = a.b; words = a.records.now; text = a.text.now }) p₂.add_pair-step.ensures p₃.extra_kind.ensures)
-    p₂.add_pair-step.auto.records p₂.add_pair-step.auto.text
-    (p₁.settle.ensures.value, (p₁.settle.ensures.records_after, p₁.settle.ensures.text_after)) in record { value = both.0; records_after = both.1.0; text_after = both.1.1 }
+    let a = c.args in
+    let both = ends a.records.now a.text.now c.add_pair-step.result c.add_pair-step.new.records c.add_pair-step.new.text
+    (of-kind a.key.now a.value.now (record { builder = a.b; words = a.records.now; text = a.text.now }) c.add_pair-step.ensures c.extra_kind.ensures)
+    c.add_pair-step.auto.records c.add_pair-step.auto.text
+    (c.settle.ensures.value, (c.settle.ensures.records_after, c.settle.ensures.text_after)) in record { value = both.0; records_after = both.1.0; text_after = both.1.1 }

@@ -1,4 +1,3 @@
-use Prim.Native.Nat.{◌-◌}
 use native.Mathlib.Omega.{arith}
 use Rattle.case_tags.proofs.Counting.{counted_start, counted-more, counted-all}
 use Rattle.case_tags.proofs.case_tags.Goals as goal

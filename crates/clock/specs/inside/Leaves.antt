@@ -1,10 +1,8 @@
 -- What the leaf behind a clock answers. Definitions only.
-use Rattle.std.specs.Prelude.{ℕ, cond, List}
+use Rattle.std.specs.Prelude.{ℕ, cond, List, Option, Some, None}
 use Rattle.fixed.specs.Fields.{all}
 use Rattle.clock.specs.Clock.{hour_of, minute_of, second_of, clock_tests}
-use Rattle.clock.specs.declared.Clock.{Clock}
-use Rattle.clock.specs.declared.Clock.TheVariants.{At, NoClock}
 
--- the clock that s, a whole timestamp, has
-unfoldable pub clock_of : List ℕ → Clock
-clock_of s = cond (all (clock_tests s)) (At (hour_of s) (minute_of s) (second_of s)) NoClock
+-- the hour, minute and second that s, a whole timestamp, has
+unfoldable pub clock_of : List ℕ → Option (ℕ × ℕ × ℕ)
+clock_of s = cond (all (clock_tests s)) (Some (hour_of s, minute_of s, second_of s)) None

@@ -20,5 +20,5 @@ returns c =
     let clear = c.clear in
     let put-line = c.put_line-put in
     let a = c.args in
-    let p = rw c.in-Put.is at put-line.ensures in
+    let p = rw c.in-Some.is at put-line.ensures in
     let both = whole-line a.events.now a.attributes.now a.source.now a.refusal a.lent (length a.out.now) c.no_refusal.ensures clear.ensures p in record { value = both.0; out_after = both.1 }

@@ -1,14 +1,7 @@
 use Rattle.key_sort.proofs.Running.{Running}
 use Rattle.key_sort.specs.inside.Numbers.{numbers_in}
 use Rattle.clean_order.specs.inside.CleanOrder.{comes_by}
-use Prim.Native.Nat.{◌+◌, ◌-◌}
-use lib.ListN.{length}
-use mathlib.Core.Path.{◌≡◌}
 use Rattle.key_sort.proofs.merge_up.Given as goal
 
 abbrev pub invariant-loop-k : goal.invariant-loop-k
-invariant-loop-k l =
-    Running (comes_by l.clean l.attributes l.source) l.h l.n (numbers_in l.initial.bytes) (numbers_in l.bytes) l.i l.j l.k × ((l.end ≡ l.n + l.n) × (length l.bytes ≡ length l.initial.bytes))
-
-abbrev pub decreases-loop-k : goal.decreases-loop-k
-decreases-loop-k l = l.n + l.n - l.k
+invariant-loop-k l = Running (comes_by l.clean l.attributes l.source) l.h l.n (numbers_in l.initial.bytes) (numbers_in l.bytes) l.i l.j l.k

@@ -4,7 +4,6 @@ use mathlib.Core.Path.{sym}
 use lib.ListN.{length-drop}
 use lib.Seq.{length-take-le}
 use Rattle.area.proofs.Parts.{rest_part}
-use Prim.Native.Nat.{◌-◌}
 use Rattle.list_input.proofs.fill_front.Goals as goal
 
 pub slice_bounds-fill_words-end-2 : goal.slice_bounds-fill_words-end-2

@@ -51,6 +51,6 @@ returns c =
     let n = length args.out.now in
     let y = c.requires in
     let f = used-shown words text least.result least2.result least.ensures least2.ensures in
-    let p = rw c.in-Put.is at (other put-report.ensures f) in
+    let p = rw c.in-Some.is at (other put-report.ensures f) in
     let both = listed-whole words text n c.no_refusal.ensures
     (whole-listing words text n y _ c.clear.ensures p) in record { value = both.0; out_after = both.1 }

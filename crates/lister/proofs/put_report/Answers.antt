@@ -5,7 +5,7 @@ use mathlib.Core.Path.{◌≡◌, sym, ap, ◌∙◌}
 use native.Mathlib.Omega.{arith}
 use borrow.Author.Tests.{lt-ltb, le-ltb}
 use lib.ListN.{length, take, drop, get_or}
-use Rattle.tree_layout.specs.of_area.declared.Stored.TheVariants.{Put}
+use Rattle.std.specs.Prelude.{Some}
 use Rattle.list_suites.specs.of_list_sums.inside.Rows.{stands, records_in}
 use Rattle.list_suites.proofs.of_list_sums.Records.{records-behind, stands-room}
 use Rattle.list_suites.proofs.of_list_case.Going.{seeking-start, seeking-pass, seeking-found, seeking-none}
@@ -85,7 +85,7 @@ returns-then-field-lt-DEAD c =
     let text = c.args.text.now in
     let e = report-live text (here (goal.at.returns-then-field-lt-DEAD c).In-loop-end) (rest (goal.at.returns-then-field-lt-DEAD c).In-loop-end) (lt-ltb (get_or (here (goal.at.returns-then-field-lt-DEAD c).In-loop-end) 0 0) 16 (rw field.ensures at if2.true)) in
     let p = rw (records-behind (words (goal.at.returns-then-field-lt-DEAD c).In-loop-end) (at (goal.at.returns-then-field-lt-DEAD c).In-loop-end)) at c.put_whole.ensures in
-    seeking-found (report_shown text) loop.invariant (stands-now (goal.at.returns-then-field-lt-DEAD c).In-loop-end) (Put 0) e p
+    seeking-found (report_shown text) loop.invariant (stands-now (goal.at.returns-then-field-lt-DEAD c).In-loop-end) (Some 0) e p
 
 pub loop-end-smaller : goal.loop-end-smaller
 loop-end-smaller c = omega (arith, room (goal.at.loop-end-smaller c).In-loop-end)
@@ -104,4 +104,4 @@ shape_of-out c = ap length c.loop-end.invariant.same
 pub returns : goal.returns
 returns c =
     let text = c.args.text.now in
-    seeking-none (report_shown text) c.loop-end.invariant (Put 0) (report-over text) (sym c.stands_here.ensures ∙ c.loop-end-test.false)
+    seeking-none (report_shown text) c.loop-end.invariant (Some 0) (report-over text) (sym c.stands_here.ensures ∙ c.loop-end-test.false)

@@ -1,12 +1,13 @@
+use Rattle.std.specs.Prelude.{Result}
+use Rattle.clearing.specs.of_refusal.declared.Cause.{Cause}
 use Rattle.merge_limits.specs.inside.Limits.{step_answer}
-use Rattle.merge_limits.specs.declared.Step.{Step}
 use Rattle.merger.specs.Answer.{merging_from}
 use Rattle.merge_head.specs.of_tree_merge.Answer.{outcome_of}
 use mathlib.Core.Path.{sym, ap, ◌∙◌}
 use Rattle.merger.proofs.merging_of.Goals as goal
 
-pub returns-in-Done : goal.returns-in-Done
-returns-in-Done c = rw c.no_refusal.ensures (sym (ap (λ (t : Step). merging_from (outcome_of (step_answer t))) c.in-Done.is))
+pub returns-in-Ok : goal.returns-in-Ok
+returns-in-Ok c = rw c.no_refusal.ensures (sym (ap (λ (t : Result (Unit {0}) Cause). merging_from (outcome_of (step_answer t))) c.in-Ok.is))
 
-pub returns-in-Not : goal.returns-in-Not
-returns-in-Not c = c.refuse.ensures ∙ sym (ap (λ (t : Step). merging_from (outcome_of (step_answer t))) c.in-Not.is)
+pub returns-in-Err : goal.returns-in-Err
+returns-in-Err c = c.refuse.ensures ∙ sym (ap (λ (t : Result (Unit {0}) Cause). merging_from (outcome_of (step_answer t))) c.in-Err.is)

@@ -1,8 +1,5 @@
-use Prim.Native.Nat.{◌-◌, ◌*◌, ◌≤◌}
+use Prim.Native.Nat.{◌*◌, ◌≤◌}
 use Rattle.print_days.proofs.main.Given as goal
 
 abbrev pub invariant-loop-year : goal.invariant-loop-year
-invariant-loop-year l = (l.days ≤ l.year * 366) × (l.year ≤ 400)
-
-abbrev pub decreases-loop-year : goal.decreases-loop-year
-decreases-loop-year l = 400 - l.year
+invariant-loop-year l = l.days ≤ l.year * 366

@@ -1,7 +1,7 @@
 use mathlib.Core.Path.{refl, sym, ap, ◌∙◌}
 use Rattle.read_texts.specs.of_tree_status.Status.{ruled}
 use Rattle.read_texts.specs.of_read_place.inside.Coded.{marks_of}
-use Rattle.read_actions.proofs.Acting.{closed-top, closed-suite, closed-case, closed-not, closed-status}
+use Rattle.read_actions.proofs.Acting.{closed-outer, closed-case, closed-not, closed-status}
 use Rattle.read_actions.proofs.close.Goals as goal
 
 pub returns-then-is_ruled : goal.returns-then-is_ruled
@@ -18,13 +18,7 @@ close_status-requires c =
 pub returns-in-Top : goal.returns-in-Top
 returns-in-Top c =
     let args = c.args in
-    λ rooms p s k j xs attributes source pa kt lo hd li sz. rw c.in-Top.is (closed-top p k (marks_of args.marks) rooms j xs args.content s hd (rw c.in-Top.is at li))
-
-pub returns-in-Suite : goal.returns-in-Suite
-returns-in-Suite c =
-    let args = c.args in
-    λ rooms p s k j xs attributes source pa kt lo hd li sz.
-    rw c.in-Suite.is (closed-suite p k (marks_of args.marks) rooms j xs args.content s hd (rw c.in-Suite.is at li))
+    λ rooms p s k j xs attributes source pa kt lo hd li sz. closed-outer p k (marks_of args.marks) rooms j xs args.content s c.in-Top.is hd li
 
 pub returns-else-is_ruled : goal.returns-else-is_ruled
 returns-else-is_ruled c =

@@ -1,6 +1,6 @@
-use Rattle.read_actions.proofs.Performing.{held, text-end, gathered-end, description-end, record-end, status-end, list-end, property-end, kind-end, acted-pass, acted-skip}
-use Rattle.read_actions.proofs.Performing.{acted-stop, acted-text, acted-end, acted-close, acted-close-text, acted-property, acted-list, acted-open, acted-missing, acted-broken}
-use Rattle.read_texts.specs.of_read_content.declared.Performed.TheVariants.{To}
+use Rattle.std.specs.Prelude.{Ok}
+use Rattle.read_actions.proofs.Performing.{held, text-end, gathered-end, description-end, record-end, status-end, list-end, property-end, kind-end, acted-still}
+use Rattle.read_actions.proofs.Performing.{acted-close, acted-close-text, acted-property, acted-list, acted-open, acted-missing, acted-broken}
 use Rattle.read_texts.specs.of_read_place.inside.Coded.{marks_of}
 use Rattle.read_texts.specs.of_read_state.inside.Coded.{level_of, output_of, control_of}
 use Rattle.read_texts.specs.of_table.Event.{attributes_from}
@@ -98,7 +98,7 @@ returns-in-OpenList c =
     λ rooms p s name pa lo hd li sz. acted-list (level_of start.args.control.level) (output_of start.args.control.output) start.args.control.seen
     start.args.control.closed start.args.control.tally name (marks_of start.args.marks) p rooms start.args.range.first
     (attributes_from start.args.attributes.now start.args.source.now (start.args.range.end - start.args.range.first) start.args.range.first) _ _ _ _ _ start.args.content
-    s _ start.args.control.mode start.requires.control_value li c.in-OpenList.is hd c.open_list.ensures.records_after (ap To c.open_list.ensures.value)
+    s _ start.args.control.mode start.requires.control_value li c.in-OpenList.is hd c.open_list.ensures.records_after (ap Ok c.open_list.ensures.value)
 
 pub returns-in-ReadProperty : goal.returns-in-ReadProperty
 returns-in-ReadProperty c =
@@ -128,39 +128,7 @@ returns-in-Broken c =
 pub returns-in-Pass : goal.returns-in-Pass
 returns-in-Pass c =
     let start = c in
-    λ rooms p s name pa lo hd li sz. acted-pass (level_of start.args.control.level) (output_of start.args.control.output) start.args.control.seen
+    λ rooms p s name pa lo hd li sz. acted-still (level_of start.args.control.level) (output_of start.args.control.output) start.args.control.seen
     start.args.control.closed start.args.control.tally name (marks_of start.args.marks) p rooms start.args.range.first
     (attributes_from start.args.attributes.now start.args.source.now (start.args.range.end - start.args.range.first) start.args.range.first)
     _ _ _ _ _ start.args.content s _ start.args.control.mode start.requires.control_value li hd refl c.in-Pass.is
-
-pub returns-in-Skip : goal.returns-in-Skip
-returns-in-Skip c =
-    let start = c in
-    λ rooms p s name pa lo hd li sz. acted-skip (level_of start.args.control.level) (output_of start.args.control.output) start.args.control.seen
-    start.args.control.closed start.args.control.tally name (marks_of start.args.marks) p rooms start.args.range.first
-    (attributes_from start.args.attributes.now start.args.source.now (start.args.range.end - start.args.range.first) start.args.range.first)
-    _ _ _ _ _ start.args.content s _ start.args.control.mode start.requires.control_value li hd refl c.in-Skip.is
-
-pub returns-in-OpenText : goal.returns-in-OpenText
-returns-in-OpenText c =
-    let start = c in
-    λ rooms p s name pa lo hd li sz. acted-text (level_of start.args.control.level) (output_of start.args.control.output) start.args.control.seen
-    start.args.control.closed start.args.control.tally name (marks_of start.args.marks) p rooms start.args.range.first
-    (attributes_from start.args.attributes.now start.args.source.now (start.args.range.end - start.args.range.first) start.args.range.first)
-    _ _ _ _ _ start.args.content s _ start.args.control.mode start.requires.control_value li hd refl c.in-OpenText.is
-
-pub returns-in-CloseList : goal.returns-in-CloseList
-returns-in-CloseList c =
-    let start = c in
-    λ rooms p s name pa lo hd li sz. acted-end (level_of start.args.control.level) (output_of start.args.control.output) start.args.control.seen
-    start.args.control.closed start.args.control.tally name (marks_of start.args.marks) p rooms start.args.range.first
-    (attributes_from start.args.attributes.now start.args.source.now (start.args.range.end - start.args.range.first) start.args.range.first)
-    _ _ _ _ _ start.args.content s _ start.args.control.mode start.requires.control_value li hd refl c.in-CloseList.is
-
-pub returns-in-Stop : goal.returns-in-Stop
-returns-in-Stop c =
-    let start = c in
-    λ rooms p s name pa lo hd li sz. acted-stop (level_of start.args.control.level) (output_of start.args.control.output) start.args.control.seen
-    start.args.control.closed start.args.control.tally name (marks_of start.args.marks) p rooms start.args.range.first
-    (attributes_from start.args.attributes.now start.args.source.now (start.args.range.end - start.args.range.first) start.args.range.first)
-    _ _ _ _ _ start.args.content s _ start.args.control.mode start.requires.control_value li hd refl c.in-Stop.is

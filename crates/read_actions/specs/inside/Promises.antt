@@ -14,9 +14,8 @@ use Rattle.read_texts.specs.of_read_state.declared.Control.{Control as CodedCont
 use Rattle.read_texts.specs.of_read_place.Marks.{Marks, marks_after}
 use Rattle.read_texts.specs.of_read_content.Content.{Content, perform}
 use Rattle.read_texts.specs.of_read_content.declared.Content.{Content as CodedContent}
-use Rattle.read_texts.specs.of_read_content.declared.Performed.{Performed}
 use Rattle.read_texts.specs.of_read_element.inside.Refines.{Table, Areas}
-use Rattle.read_texts.specs.of_read_content.inside.Holds.{Holds, Lists, Carries, Sized, Performs}
+use Rattle.read_texts.specs.of_read_content.inside.Holds.{Performed, Holds, Lists, Carries, Sized, Performs}
 
 -- the open element of that level is closed, as `perform` says
 abbrev pub Closes : Level → Tally → Marks → CodedContent → (before after : Areas) (scratch : List ℕ) → Performed → Type 0

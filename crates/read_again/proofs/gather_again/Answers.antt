@@ -1,48 +1,27 @@
+use Rattle.std.specs.Prelude.{Some}
 use Prim.Native.Nat.{◌-◌}
-use mathlib.Core.Path.{◌∙◌}
+use mathlib.Core.Path.{refl, ap, ◌∙◌}
 use Rattle.read_again.proofs.Looping.{loop-starts, loop-room, loop-same, loop-goes, loop-done, loop-full}
 use Rattle.read_again.proofs.gather_again.Goals as goal
 
 pub loop-a-init : goal.loop-a-init
 loop-a-init c = loop-starts _ _ _ _ c.requires.from_bound
 
-pub go_over-next-requires : goal.go_over-next-requires
-go_over-next-requires c =
-    let pre = c.requires in
-    record { known = pre.known; fill_in_bounds = loop-room c.loop-a.invariant }
+pub go_over-requires : goal.go_over-requires
+go_over-requires c = record { known = c.requires.known; fill_in_bounds = loop-room c.loop-a.invariant }
 
 pub loop-a-smaller : goal.loop-a-smaller
-loop-a-smaller c =
-    let inv = c.loop-a.invariant in
-    let g = c.go_over-next in
-    (loop-goes inv _ g.result g.ensures _ c.in-Go.is).1
+loop-a-smaller c = (loop-goes c.loop-a.invariant _ _ c.in_ok-a.ensures _ (ap Some c.in-Some.is)).1
 
 pub loop-a-preserved : goal.loop-a-preserved
-loop-a-preserved c =
-    let inv = c.loop-a.invariant in
-    let g = c.go_over-next in
-    (loop-goes inv _ g.result g.ensures _ c.in-Go.is).0
+loop-a-preserved c = (loop-goes c.loop-a.invariant _ _ c.in_ok-a.ensures _ (ap Some c.in-Some.is)).0
 
-pub shape_of-out-in-Done : goal.shape_of-out-in-Done
-shape_of-out-in-Done c =
-    let inv = c.loop-a.invariant in
-    let g = c.go_over-next in
-    g.auto.out ∙ loop-same inv
+pub returns : goal.returns
+returns c =
+    let d = loop-done c.loop-a.invariant _ _ c.in_ok-a.ensures (ap Some c.in_default.is) in
+    record { by_index = λ attributes. (d attributes).0; by_index_2 = λ attributes. (d attributes).1 }
 
-pub returns-in-Done : goal.returns-in-Done
-returns-in-Done c =
-    let inv = c.loop-a.invariant in
-    let g = c.go_over-next in
-    record { by_index = λ attributes. (loop-done inv _ g.result g.ensures c.in-Done.is attributes).0; by_index_2 = λ attributes. (loop-done inv _ g.result g.ensures c.in-Done.is attributes).1 }
-
-pub shape_of-out-in-Full : goal.shape_of-out-in-Full
-shape_of-out-in-Full c =
-    let inv = c.loop-a.invariant in
-    let g = c.go_over-next in
-    g.auto.out ∙ loop-same inv
-
-pub returns-in-Full : goal.returns-in-Full
-returns-in-Full c =
-    let inv = c.loop-a.invariant in
-    let g = c.go_over-next in
-    record { by_index = λ attributes. (loop-full inv _ g.result g.ensures c.in-Full.is attributes).0; by_index_2 = λ attributes. (loop-full inv _ g.result g.ensures c.in-Full.is attributes).1 }
+pub returns-in_err-a : goal.returns-in_err-a
+returns-in_err-a c =
+    let d = loop-full c.loop-a.invariant _ _ c.in_err-a.ensures refl in
+    rw c.from_residual.ensures (record { by_index = λ attributes. (d attributes).0; by_index_2 = λ attributes. (d attributes).1 })

@@ -1,3 +1,5 @@
+use Rattle.std.specs.Prelude.{Option, Some}
+use Rattle.read_again.specs.declared.Again.{Again}
 use mathlib.Core.Path.{refl, sym, ap, subst, ◌∙◌}
 use mathlib.Core.Bool.{true}
 use native.Mathlib.Omega.{arith}
@@ -37,45 +39,35 @@ overflow_add-next c =
     let h = c.if-kind-eq-EOF.false in
     let z = in_table a.events.now a.source.now a.at _ e h in omega arith
 
-pub returns-in_default : goal.returns-in_default
-returns-in_default c =
-    let is-piece = c.is_piece in
-    let if3 = c.if-is_piece in
-    let start = c in
-    let a = start.args in
+pub returns-in_err-n : goal.returns-in_err-n
+returns-in_err-n c =
+    let a = c.args in
     let e = c.kind_at-kind.ensures in
     let h = c.if-kind-eq-EOF.false in
     let x = c.bytes_at-bytes in
-    let g = c.put_piece-put in
-    turn-over a.events.now a.source.now a.at _ e h start.requires.known x.result.now x.ensures
-    a.out.now _ (g.ensures.out_after (output_of a.at.output)) (sym is-piece.ensures ∙ if3.true)
-    (sym (ap (stored_answer cause.ScratchFull) c.in_default.is) ∙ g.ensures.result_value (output_of a.at.output))
+    let g = c.in_err-n.ensures in
+    rw c.from_residual.ensures (turn-over a.events.now a.source.now a.at _ e h c.requires.known x.result.now x.ensures
+    a.out.now _ (g.out_after (output_of a.at.output)) (sym c.is_piece.ensures ∙ c.if-is_piece.true) (g.result_value (output_of a.at.output)))
 
-pub overflow_add-fill : goal.overflow_add-fill
-overflow_add-fill c =
-    let start = c in
-    let a = start.args in
-    let g = c.put_piece-put in
+pub overflow_add-result : goal.overflow_add-result
+overflow_add-result c =
+    let a = c.args in
     let k = c.kind_at-kind.result in
     let x = c.bytes_at-bytes in
     let f = put-fits cause.ScratchFull (length a.out.now - a.at.fill) (added (mode_at a.at.mode status (output_of a.at.output)) (piece_kind k) (piece_bytes k x.result.now))
-    _ (sym (ap (stored_answer cause.ScratchFull) c.in-Put.is) ∙ g.ensures.result_value (output_of a.at.output)) in
-    let y = start.requires.fill_in_bounds in
+    _ (c.in_ok-n.ensures.result_value (output_of a.at.output)) in
+    let y = c.requires.fill_in_bounds in
     omega (arith, f.0, f.1)
 
 pub returns-then-is_piece : goal.returns-then-is_piece
 returns-then-is_piece c =
-    let is-piece = c.is_piece in
-    let if3 = c.if-is_piece in
-    let start = c in
-    let a = start.args in
+    let a = c.args in
     let e = c.kind_at-kind.ensures in
     let h = c.if-kind-eq-EOF.false in
     let x = c.bytes_at-bytes in
-    let g = c.put_piece-put in
-    turn-piece a.events.now a.source.now a.at _ e h start.requires.known x.result.now x.ensures
-    a.out.now _ (g.ensures.out_after (output_of a.at.output)) (sym is-piece.ensures ∙ if3.true) _
-    (sym (ap (stored_answer cause.ScratchFull) c.in-Put.is) ∙ g.ensures.result_value (output_of a.at.output))
+    let g = c.in_ok-n.ensures in
+    turn-piece a.events.now a.source.now a.at _ e h c.requires.known x.result.now x.ensures
+    a.out.now _ (g.out_after (output_of a.at.output)) (sym c.is_piece.ensures ∙ c.if-is_piece.true) _ (g.result_value (output_of a.at.output))
 
 pub skip_from-requires : goal.skip_from-requires
 skip_from-requires c =
@@ -116,7 +108,7 @@ returns-in-Skip c =
     let p = sym is-piece.ensures ∙ if3.false in
     let w = c.lead-led in
     let k = kind-at in
-    subst (Turned a.events.now a.source.now a.out.now a.out.now a.at) (sym c.turn_behind.ensures)
+    subst (λ (r : Option Again). Turned a.events.now a.source.now a.out.now a.out.now a.at (Some r)) (sym c.turn_behind.ensures)
     (turn-skip a.events.now a.source.now a.at _ e h start.requires.known x.result.now x.ensures p h'
     (subst (λ (r : Led). Leads (plan_at (mode_at a.at.mode status (output_of a.at.output)) true (tag_kind k.result) x.result.now) x.result.now r)
     c.in-Skip.is w.ensures) a.out.now c.skip_from.result c.skip_from.ensures)

@@ -1,6 +1,7 @@
 use Rattle.read_pieces.specs.of_table.Event.{piece_kind, piece_bytes}
 use lib.ListN.{length}
 use Prim.Native.Nat.{◌-◌}
+use mathlib.Core.Logic.{inl, inr}
 use Rattle.read_again.proofs.Putting.{none-put, none-laid, piece-answers, piece-area}
 use Rattle.read_again.proofs.put_piece.Goals as goal
 
@@ -13,9 +14,7 @@ returns-in-At c =
 pub returns-in-Text : goal.returns-in-Text
 returns-in-Text c =
     let a = c.args in
-    record { result_value = λ o. rw c.in-Text.is (none-put (length a.out.now - a.k)); out_after = λ o. rw c.in-Text.is (none-laid a.out.now a.k) }
-
-pub returns-in-List : goal.returns-in-List
-returns-in-List c =
-    let a = c.args in
-    record { result_value = λ o. rw c.in-List.is (none-put (length a.out.now - a.k)); out_after = λ o. rw c.in-List.is (none-laid a.out.now a.k) }
+    elim c.in-Text.is [
+      | inl e ↦ record { result_value = λ o. rw e (none-put (length a.out.now - a.k)); out_after = λ o. rw e (none-laid a.out.now a.k) }
+      | inr e ↦ record { result_value = λ o. rw e (none-put (length a.out.now - a.k)); out_after = λ o. rw e (none-laid a.out.now a.k) }
+    ]

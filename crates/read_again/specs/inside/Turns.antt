@@ -1,33 +1,28 @@
 -- One event gone over again. Definitions only.
-use Rattle.std.specs.Prelude.{ℕ, ◌+◌, ◌-◌, ◌≤◌, ◌<◌, ◌≡◌, List, [], ◌++◌, length, take, drop}
+use Rattle.std.specs.Prelude.{ℕ, ◌+◌, ◌-◌, ◌≤◌, ◌<◌, ◌≡◌, List, [], ◌++◌, length, take, drop, Option, Some, None, Result, Ok, Err}
 use Rattle.read_pieces.specs.of_area.Area.{laid}
-use Rattle.read_pieces.specs.of_area.declared.Stored.{Stored}
-use Rattle.read_pieces.specs.of_area.declared.Stored.TheVariants.{Put, Full}
 use Rattle.read_pieces.specs.of_table.Table.{count_of}
 use Rattle.read_pieces.specs.of_table.Event.{Event, kind_at, resolve_from}
-use Rattle.read_pieces.specs.of_text.declared.kept.Kept.{Kept}
-use Rattle.read_pieces.specs.of_text.declared.kept.Kept.TheVariants as kept
+use Rattle.read_pieces.specs.of_text.declared.kept.Unkept.{Unkept}
+use Rattle.read_pieces.specs.of_text.declared.kept.Unkept.TheVariants as kept
 use Rattle.read_pieces.specs.of_read_state.Control.{status, Mode, at, skipping, Act}
 use Rattle.read_pieces.specs.of_read_state.inside.Coded.{output_of, mode_at, act_in}
 use Rattle.read_pieces.specs.of_read_state.declared.Mode.{Mode as CodedMode}
 use Rattle.read_pieces.specs.of_read_state.declared.Mode.TheVariants.{At}
-use Rattle.read_machine.specs.of_table_events.declared.Skipped.{Skipped}
-use Rattle.read_machine.specs.of_table_events.declared.Skipped.TheVariants as skip
+use Rattle.read_pieces.specs.of_refusal.declared.Cause.{Cause}
 use Rattle.read_pieces.specs.of_read_state.declared.Output.{Output as CodedOutput}
 use Rattle.read_pieces.specs.of_read_state.declared.Act.{Act as CodedAct}
 use Rattle.read_again.specs.declared.Again.{Again}
-use Rattle.read_again.specs.declared.Turn.{Turn}
-use Rattle.read_again.specs.declared.Turn.TheVariants as turn
 use Rattle.read_again.specs.declared.Led.{Led}
 use Rattle.read_again.specs.declared.Led.TheVariants as led
 use Rattle.read_again.specs.Told.{along, told}
 
-abbrev pub put_by : Kept → Stored
-put_by (kept.Put n) = Put n
-put_by kept.Full = Full
-put_by kept.NotUtf8 = Put 0
-put_by kept.BadReference = Put 0
-put_by kept.UnknownName = Put 0
+abbrev pub put_by : Result ℕ Unkept → Option ℕ
+put_by (Ok n) = Some n
+put_by (Err kept.Full) = None
+put_by (Err kept.NotUtf8) = Some 0
+put_by (Err kept.BadReference) = Some 0
+put_by (Err kept.UnknownName) = Some 0
 
 -- where an act at a tag of that name leads
 abbrev pub Leads : Act → List ℕ → Led → Type 0
@@ -39,9 +34,9 @@ abbrev pub LedBy : CodedMode → CodedOutput → CodedAct → List ℕ → Led �
 LedBy m o a name r = Leads (act_in (mode_at m status (output_of o)) name a) name r
 
 -- behind a skip
-abbrev pub turn_behind : Skipped → CodedOutput → ℕ → Turn
-turn_behind (skip.Next j) o k = turn.Go (record { mode = At; output = o; event = j; fill = k })
-turn_behind (skip.Refused why j) o k = turn.Done
+abbrev pub turn_behind : Result ℕ (Cause × ℕ) → CodedOutput → ℕ → Option Again
+turn_behind (Ok j) o k = Some (record { mode = At; output = o; event = j; fill = k })
+turn_behind (Err (why, j)) o k = None
 
 -- the kinds of a table that 11 lets pass
 abbrev pub Known : List ℕ → Type 0
@@ -71,7 +66,8 @@ pub record Over (events source before after : List ℕ) (a : Again) : Type 0 whe
   pub over : length before - a.fill < length more
   pub area : after ≡ take a.fill before ++ laid (drop a.fill before) more
 
-abbrev pub Turned : (events source before after : List ℕ) → Again → Turn → Type 0
-Turned events source before after a (turn.Go b) = Went events source before after a b
-Turned events source before after a turn.Done = ((attributes : List ℕ) → told_from events attributes source a ≡ []) × (after ≡ before)
-Turned events source before after a turn.Full = Over events source before after a
+-- what an event comes to: where it stands behind it, none at the end; none at all where a piece has no room
+abbrev pub Turned : (events source before after : List ℕ) → Again → Option (Option Again) → Type 0
+Turned events source before after a (Some (Some b)) = Went events source before after a b
+Turned events source before after a (Some None) = ((attributes : List ℕ) → told_from events attributes source a ≡ []) × (after ≡ before)
+Turned events source before after a None = Over events source before after a

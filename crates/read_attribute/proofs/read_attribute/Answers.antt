@@ -1,13 +1,11 @@
 use Rattle.read_repeats.specs.of_read_keys.declared.Role.TheVariants as role
 use mathlib.Core.Path.{◌≡◌, sym, ap, subst, ◌∙◌}
-use denote.Enum.Declared.{tag_of}
 use native.Mathlib.Omega.{arith}
-use Rattle.read_repeats.specs.of_read_keys.contracts.Role.{the_type}
 use Rattle.read_repeats.specs.of_names.Keys.{key_of}
 use Rattle.read_repeats.specs.inside.Words.{attribute_in}
 use Rattle.read_role.specs.inside.Roles.{RoleFits}
 use Rattle.read_repeats.specs.of_read_element.Attributes.{numbered}
-use Rattle.read_attribute.proofs.Matching.{value-step, extra-step, other-role}
+use Rattle.read_attribute.proofs.Matching.{value-step, extra-step}
 use Rattle.read_repeats.proofs.Keys.{part-told}
 use Rattle.read_attribute.proofs.RoleKeys.{key-small, role-fits}
 use Rattle.read_attribute.proofs.read_attribute.Goals as goal
@@ -57,7 +55,6 @@ returns c =
     let bytes-of2 = c.bytes_of-value in
     let key-of = c.key_of-key in
     let role-of = c.role_of-role in
-    let match = c.in_default.in_default-own in
     let read-value = c.read_value in
     λ g rooms p used hd ro k.
     let s = args.source.now in

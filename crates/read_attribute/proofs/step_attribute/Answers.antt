@@ -1,3 +1,5 @@
+use Rattle.std.specs.Prelude.{Err}
+use mathlib.Core.Path.{ap}
 use Prim.Native.Nat.{◌-◌}
 use Rattle.read_repeats.specs.of_table.Event.{attributes_from}
 use Rattle.read_repeats.specs.of_read_element.inside.Held.{keys_of}
@@ -8,14 +10,14 @@ pub returns-then-words-ne0 : goal.returns-then-words-ne0
 returns-then-words-ne0 c =
     let args = c.args in
     λ g rooms p used hd ro k hi. step-faulty args.attributes.now args.source.now args.j p
-    (keys_of (attributes_from args.attributes.now args.source.now (args.j - args.range.first) args.range.first)) _ c.if-words-ne0.true c.refused_at.ensures
+    (keys_of (attributes_from args.attributes.now args.source.now (args.j - args.range.first) args.range.first)) _ c.if-words-ne0.true (ap Err c.refused_at.ensures)
 
 pub returns-then-is_repeated : goal.returns-then-is_repeated
 returns-then-is_repeated c =
     let args = c.args in
     λ g rooms p used hd ro k hi.
     step-repeated args.attributes.now args.source.now args.j p (keys_of (attributes_from args.attributes.now args.source.now (args.j - args.range.first) args.range.first))
-    c.if-words-ne0.false c.is_repeated.ensures k _ c.if-is_repeated.true c.refused_at-then-is_repeated.ensures
+    c.if-words-ne0.false c.is_repeated.ensures k _ c.if-is_repeated.true (ap Err c.refused_at-then-is_repeated.ensures)
 
 pub returns : goal.returns
 returns c =

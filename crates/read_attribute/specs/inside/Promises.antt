@@ -1,5 +1,5 @@
 -- What the calls promise. Definitions only.
-use Rattle.std.specs.Prelude.{ℕ, ◌-◌, ◌≡◌, Bool, true, false, not, length}
+use Rattle.std.specs.Prelude.{ℕ, ◌-◌, ◌≡◌, Bool, true, false, not, Result, length}
 use Rattle.read_repeats.specs.of_text.Value.{value_text}
 use Rattle.read_repeats.specs.of_refusal.Refusal.{Outcome}
 use Rattle.read_repeats.specs.of_table.Event.{Attribute, mark_at, key_at, attribute_at, attributes_from}
@@ -10,12 +10,12 @@ use Rattle.read_repeats.specs.of_read_element.inside.Refines.{Table, Areas}
 use Rattle.read_extras.specs.of_read_extra_record.declared.Given.{Given as Counted}
 use Rattle.read_extras.specs.inside.Hinted.{Hinted}
 use Rattle.read_attribute.specs.declared.Range.{Range}
-use Rattle.read_fault.specs.declared.Step.{Step}
+use Rattle.read_fault.specs.declared.Fault.{Fault}
 use Rattle.read_attribute.specs.inside.Steps.{by_key_of, Matches}
 use Rattle.read_repeats.specs.of_refusal.declared.Cause.TheVariants as cause
 
 -- reads attribute j by its key, which is good and isn't repeated
-abbrev pub ReadsAttribute : ℕ → Attribute → ℕ → ℕ → Counted → Areas → Areas → Step → Type 0
+abbrev pub ReadsAttribute : ℕ → Attribute → ℕ → ℕ → Counted → Areas → Areas → Result Counted Fault → Type 0
 ReadsAttribute kind x j hint given before after r =
     (g : Given) (rooms : Rooms) (p : Place) (used : ℕ)
     → Held before.records before.text given.extras given.fill g
@@ -36,7 +36,7 @@ step_of rooms p used kind table range j g =
     (by_key_of rooms (numbered p j) used kind (attribute_at table.attributes table.source j) g))
 
 -- reads attribute j of the range, or refuses it as faulty or repeated; `free` says that it isn't repeated
-abbrev pub StepsAttribute : ℕ → Table → Range → Bool → ℕ → ℕ → Counted → Areas → Areas → Step → Type 0
+abbrev pub StepsAttribute : ℕ → Table → Range → Bool → ℕ → ℕ → Counted → Areas → Areas → Result Counted Fault → Type 0
 StepsAttribute kind table range free hint j given before after r =
     (g : Given) (rooms : Rooms) (p : Place) (used : ℕ)
     → Held before.records before.text given.extras given.fill g

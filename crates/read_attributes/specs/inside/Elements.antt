@@ -1,5 +1,5 @@
 -- An element's answer, against the outcome of the definitions, and what the call promises. Definitions only.
-use Rattle.std.specs.Prelude.{ℕ, ◌+◌, ◌-◌, ◌*◌, ◌≤◌, ◌<◌, ◌≡◌, List, ◌∷◌, ◌++◌, false, cond, not, ◌&&◌, ◌||◌, length, take, drop, leb, eqb}
+use Rattle.std.specs.Prelude.{ℕ, ◌+◌, ◌-◌, ◌*◌, ◌≤◌, ◌<◌, ◌≡◌, List, ◌∷◌, ◌++◌, false, cond, not, ◌&&◌, ◌||◌, length, take, drop, leb, eqb, Result, Ok, Err}
 use Rattle.read_all.specs.of_area.Area.{zeros}
 use Rattle.read_all.specs.of_refusal.Refusal.{nowhere, Outcome}
 use Rattle.read_all.specs.of_refusal.declared.Cause.{Cause}
@@ -12,13 +12,12 @@ use Rattle.read_all.specs.of_read_element.inside.Held.{Held, Roomy}
 use Rattle.read_all.specs.of_read_element.inside.Refines.{Refines, Table, Areas}
 use Rattle.read_all.specs.of_read_each.inside.Promises.{attributes_in}
 use Rattle.read_all.specs.of_read_attribute.declared.Range.{Range}
+use Rattle.read_all.specs.of_read_fault.declared.Fault.{Fault}
 use Rattle.read_attributes.specs.declared.Grown.{Grown as CodedGrown}
-use Rattle.read_attributes.specs.declared.Element.{Element}
-use Rattle.read_attributes.specs.declared.Element.TheVariants as element
 use Rattle.read_all.specs.of_read_attribute.inside.Steps.{fault_at}
 
-abbrev pub fault_element : Cause → ℕ → ℕ → Element
-fault_element why key j = element.Not (record { cause = why; key = key; attribute = j })
+abbrev pub fault_element : Cause → ℕ → ℕ → Result CodedGrown Fault
+fault_element why key j = Err (record { cause = why; key = key; attribute = j })
 
 -- the code of the first attribute that is missing, or 0
 abbrev pub missing_of : ℕ → List ℕ → ℕ
@@ -52,11 +51,11 @@ pub data Grew (before : List (List ℕ)) (own text attributes source : List ℕ)
       → Grew before own text attributes source (record { records = before ++ (g.main ∷ g.extras); texts = g.texts }) e
 
 -- an element's answer and the areas are those of an outcome; `before` are the records before it
-abbrev pub Becomes : Place → List (List ℕ) → (own text attributes source : List ℕ) → Outcome Grown → Element → Type 0
-Becomes p before own text attributes source = Refines element.Is element.Not fault_at p (Grew before own text attributes source)
+abbrev pub Becomes : Place → List (List ℕ) → (own text attributes source : List ℕ) → Outcome Grown → Result CodedGrown Fault → Type 0
+Becomes p before own text attributes source = Refines Ok Err fault_at p (Grew before own text attributes source)
 
 -- reads an element of this kind with the attributes of the range, behind any records and `fill` bytes of texts
-abbrev pub ReadsElement : ℕ → Table → Range → ℕ → Areas → Areas → Element → Type 0
+abbrev pub ReadsElement : ℕ → Table → Range → ℕ → Areas → Areas → Result CodedGrown Fault → Type 0
 ReadsElement kind table range fill before after r =
     (rooms : Rooms) (p : Place) (records : List (List ℕ))
     → p.attribute ≡ nowhere

@@ -1,5 +1,5 @@
 -- What the areas hold between events, and how the code's answers are those of the definitions. Definitions only.
-use Rattle.std.specs.Prelude.{ℕ, zero, suc, ◌+◌, ◌*◌, ◌≤◌, ◌<◌, ◌≡◌, List, [], ◌∷◌, ◌++◌, Bool, true, false, not, ◌||◌, length, get_or, take, drop, leb, eqb}
+use Rattle.std.specs.Prelude.{Result, Ok, Err, ℕ, zero, suc, ◌+◌, ◌*◌, ◌≤◌, ◌<◌, ◌≡◌, List, [], ◌∷◌, ◌++◌, Bool, true, false, not, ◌||◌, length, get_or, take, drop, leb, eqb}
 use Rattle.trim.specs.of_area.Area.{zeros}
 use Rattle.trim.specs.of_utf8.Characters.{joined}
 use Rattle.trim.specs.of_refusal.Refusal.{nowhere, Outcome}
@@ -10,8 +10,6 @@ use Rattle.read_attributes.specs.of_read_attribute.inside.Steps.{fault_at}
 use Rattle.read_attributes.specs.inside.Elements.{Free}
 use Rattle.read_attributes.specs.of_read_fault.declared.Fault.{Fault}
 use Rattle.read_attributes.specs.declared.Grown.{Grown as CodedGrown}
-use Rattle.read_attributes.specs.declared.Element.{Element}
-use Rattle.read_attributes.specs.declared.Element.TheVariants as element
 use Rattle.read_place.specs.of_read_state.Control.{Level, top, suite, case, status, Mode, at, gathering, listing, skipping, finished, is_status}
 use Rattle.read_place.specs.of_read_state.declared.Act.{Act as CodedAct}
 use Rattle.read_place.specs.of_read_state.declared.Act.TheVariants as act
@@ -20,8 +18,6 @@ use Rattle.read_content.specs.Content.{Content, killed}
 use Rattle.read_attributes.specs.of_read_element.inside.Refines.{Refines}
 use Rattle.read_content.specs.declared.List.{List as CodedList}
 use Rattle.read_content.specs.declared.Content.{Content as CodedContent}
-use Rattle.read_content.specs.declared.Performed.{Performed}
-use Rattle.read_content.specs.declared.Performed.TheVariants.{To, Not}
 
 -- ---- records in their area
 -- record i changed
@@ -171,13 +167,17 @@ apt act.Missing m = true
 apt (act.Broken why) m = true
 
 -- ---- answers
+-- what an action answers: the content behind it, or its fault
+abbrev pub Performed : Type 0
+Performed = Result CodedContent Fault
+
 -- a refusal with no attribute
 abbrev pub fault_of : Cause → Fault
 fault_of why = record { cause = why; key = 0; attribute = nowhere }
 
 -- an answer and the areas are those of an outcome, and Q holds of the content
 abbrev pub Comes : (CodedContent → Content → Type 0) → Place → (words text scratch attributes source : List ℕ) → Outcome Content → Performed → Type 0
-Comes Q p words text scratch attributes source = Refines To Not fault_at p (λ s c. Holds words text scratch attributes source c s × Q c s)
+Comes Q p words text scratch attributes source = Refines Ok Err fault_at p (λ s c. Holds words text scratch attributes source c s × Q c s)
 
 -- behind an action reading goes on in that mode with those marks
 abbrev pub Performs : Mode → Marks → Place → (words text scratch attributes source : List ℕ) → Outcome Content → Performed → Type 0
@@ -218,9 +218,9 @@ added_in e c =
       free = e.free;
     }
 
-abbrev pub added_to : Element → CodedContent → Performed
-added_to (element.Is e) c = To (added_in e c)
-added_to (element.Not f) c = Not f
+abbrev pub added_to : Result CodedGrown Fault → CodedContent → Performed
+added_to (Ok e) c = Ok (added_in e c)
+added_to (Err f) c = Err f
 
 -- an element of that kind more: its record, behind it its extras, which only suites and cases have
 pub record Added (kind : ℕ) (c : CodedContent) (s : Content) (c' : CodedContent) (s' : Content) : Type 0 where

@@ -1,12 +1,8 @@
 use lib.ListN.{take}
-use Prim.Native.Nat.{◌-◌}
 use Rattle.read_each.specs.inside.Fresh.{fresh}
 use Rattle.read_each.proofs.Going.{Going}
 use Rattle.read_each.proofs.read_each.Given as goal
 
 abbrev pub invariant-loop-j : goal.invariant-loop-j
 invariant-loop-j l =
-    Going l.kind l.attributes l.source l.range.first l.end l.initial.own l.initial.text (fresh l.kind (take l.fill l.initial.text)) l.own l.text l.j l.given
-
-abbrev pub decreases-loop-j : goal.decreases-loop-j
-decreases-loop-j l = l.end - l.j
+    Going l.kind l.attributes l.source l.range.first l.range.end l.initial.own l.initial.text (fresh l.kind (take l.fill l.initial.text)) l.own l.text l.j l.given

@@ -1,5 +1,5 @@
 -- What the calls that read all attributes of an element ask and promise. Definitions only.
-use Rattle.std.specs.Prelude.{ℕ, ◌-◌, ◌*◌, ◌≤◌, List, [], length, take}
+use Rattle.std.specs.Prelude.{ℕ, ◌-◌, ◌*◌, ◌≤◌, List, [], length, take, Result}
 use Rattle.read_free.specs.of_refusal.Refusal.{Outcome}
 use Rattle.read_free.specs.of_table.Event.{Attribute, attributes_from}
 use Rattle.read_free.specs.of_read_element.Outcome.{Place, Rooms}
@@ -7,10 +7,11 @@ use Rattle.read_free.specs.of_read_element.Attributes.{Given, read_attributes}
 use Rattle.read_free.specs.of_read_element.inside.Held.{Held, Roomy}
 use Rattle.read_free.specs.of_read_element.inside.Refines.{Table, Areas}
 use Rattle.read_attribute.specs.declared.Range.{Range}
-use Rattle.read_attribute.specs.of_read_fault.declared.Step.{Step}
 use Rattle.read_attribute.specs.inside.Steps.{Matches}
 use Rattle.read_free.specs.inside.Unrepeated.{Unrepeated}
 use Rattle.read_each.specs.inside.Fresh.{fresh}
+use Rattle.read_attribute.specs.of_read_extra_record.declared.Given.{Given as Counted}
+use Rattle.read_attribute.specs.of_read_fault.declared.Fault.{Fault}
 
 -- the range lies in the table and repeats no key before number `clear`; of an element only the kind is there, and `fill` bytes of text
 abbrev pub Begins : ℕ → Table → Range → ℕ → ℕ → Areas → Type 0
@@ -30,14 +31,14 @@ abbrev pub read_from : Rooms → Place → ℕ → ℕ → Table → Range → L
 read_from rooms p used kind table range texts = read_attributes rooms p used kind [] range.first (attributes_in table range) (fresh kind texts)
 
 -- reads the attributes of the range, where no extra is there and the texts take `fill` bytes
-abbrev pub ReadsAttributes : ℕ → Table → Range → ℕ → Areas → Areas → Step → Type 0
+abbrev pub ReadsAttributes : ℕ → Table → Range → ℕ → Areas → Areas → Result Counted Fault → Type 0
 ReadsAttributes kind table range fill before after r =
     (rooms : Rooms) (p : Place) (used : ℕ)
     → Roomy rooms used (length before.records) (length before.text)
     → Matches p after.records after.text (read_from rooms p used kind table range (take fill before.text)) r
 
 -- the same in the first words of an area, where there are enough: the room is that of the whole area
-abbrev pub ReadsWithin : ℕ → Table → Range → ℕ → Areas → Areas → Step → Type 0
+abbrev pub ReadsWithin : ℕ → Table → Range → ℕ → Areas → Areas → Result Counted Fault → Type 0
 ReadsWithin kind table range fill before after r =
     (rooms : Rooms) (p : Place) (used whole : ℕ)
     → length before.records ≤ whole

@@ -4,11 +4,10 @@ use Rattle.read_extra_record.specs.of_refusal.Refusal.{longer}
 use Rattle.read_extra_record.specs.of_refusal.declared.Cause.{Cause}
 use Rattle.read_extra_record.specs.of_refusal.declared.Path.{Path}
 use Rattle.read_extra_record.specs.of_read_element.Outcome.{attribute_element}
-use Rattle.read_fault.specs.declared.Step.{Step}
-use Rattle.read_fault.specs.declared.Step.TheVariants as step
+use Rattle.read_fault.specs.declared.Fault.{Fault}
 
-abbrev pub fault_step : Cause → ℕ → ℕ → Step
-fault_step why key j = step.Not (record { cause = why; key = key; attribute = j })
+abbrev pub fault_of : Cause → ℕ → ℕ → Fault
+fault_of why key j = record { cause = why; key = key; attribute = j }
 
 -- the path with the Attribute of a key, where its code isn't 0
 abbrev pub with_attribute : Path → ℕ → Path

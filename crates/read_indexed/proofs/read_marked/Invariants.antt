@@ -1,4 +1,3 @@
-use Prim.Native.Nat.{◌-◌}
 use lib.ListN.{take}
 use Rattle.read_each.specs.inside.Fresh.{fresh}
 use Rattle.read_indexed.proofs.Indexing.{Indexing}
@@ -6,7 +5,4 @@ use Rattle.read_indexed.proofs.read_marked.Given as goal
 
 abbrev pub invariant-loop-j : goal.invariant-loop-j
 invariant-loop-j l =
-    Indexing l.kind l.attributes l.source l.range.first l.end l.k l.initial.own l.initial.text (fresh l.kind (take l.fill l.initial.text)) l.own l.text l.j l.given
-
-abbrev pub decreases-loop-j : goal.decreases-loop-j
-decreases-loop-j l = l.end - l.j
+    Indexing l.kind l.attributes l.source l.range.first l.range.end l.k l.initial.own l.initial.text (fresh l.kind (take l.fill l.initial.text)) l.own l.text l.j l.given

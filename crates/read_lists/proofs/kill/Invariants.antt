@@ -1,9 +1,5 @@
 use Rattle.read_lists.proofs.Marking.{Killing}
-use Prim.Native.Nat.{◌-◌}
 use Rattle.read_lists.proofs.kill.Given as goal
 
 abbrev pub invariant-loop-i : goal.invariant-loop-i
 invariant-loop-i l = Killing l.initial.records l.records l.first l.end l.i
-
-abbrev pub decreases-loop-i : goal.decreases-loop-i
-decreases-loop-i l = l.end - l.i

@@ -9,9 +9,8 @@ use Rattle.read_lists.specs.of_read_state.inside.Coded.{opening}
 use Rattle.read_lists.specs.of_read_place.Marks.{Marks, marks_after}
 use Rattle.read_lists.specs.of_read_content.Content.{Content, kill_all, adding, with_records, property_kind, perform}
 use Rattle.read_lists.specs.of_read_content.declared.Content.{Content as CodedContent}
-use Rattle.read_lists.specs.of_read_content.declared.Performed.{Performed}
 use Rattle.read_lists.specs.of_read_element.inside.Refines.{Table, Areas}
-use Rattle.read_lists.specs.of_read_content.inside.Holds.{Holds, Holding, Lists, Sized, Added, Comes, Performs, opens}
+use Rattle.read_lists.specs.of_read_content.inside.Holds.{Performed, Holds, Holding, Lists, Sized, Added, Comes, Performs, opens}
 
 -- the range lies in the table, there are at most 16,777,216 bytes for texts, and the areas hold some content
 abbrev pub Ready : Range → CodedContent → Table → Areas → Type 0

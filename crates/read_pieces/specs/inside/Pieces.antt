@@ -1,20 +1,17 @@
 -- A piece of text put into scratch. Definitions only.
-use Rattle.std.specs.Prelude.{ℕ, ◌+◌, List, Bool, true, false, cond, eqb}
+use Rattle.std.specs.Prelude.{Ok, Err, ℕ, ◌+◌, List, Bool, true, false, cond, eqb, Result}
 use Rattle.fronting.specs.of_area.Answer.{Answer, gives}
 use Rattle.fronting.specs.of_area.Area.{placing, laid}
 use Rattle.read_scratch.specs.of_table.Event.{PieceKind}
 use Rattle.read_scratch.specs.of_table.Event as event
 use Rattle.text_pieces.specs.Gather.{text_of, text_laid, cdata_of, cdata_laid, reference_of, reference_laid}
-use Rattle.read_scratch.specs.of_read_state.Control.{Level, top, suite, case, status}
 use Rattle.read_scratch.specs.of_read_state.declared.Mode.{Mode as CodedMode}
 use Rattle.read_scratch.specs.of_read_state.declared.Mode.TheVariants.{At, Text, List as Listing}
 use Rattle.read_scratch.specs.of_read_content.declared.Content.{Content as CodedContent}
 use Rattle.fronting.specs.of_refusal.declared.Cause.TheVariants as cause
-use Rattle.read_scratch.specs.of_read_content.declared.Performed.{Performed}
-use Rattle.read_scratch.specs.of_read_content.declared.Performed.TheVariants.{To, Not}
-use Rattle.read_scratch.specs.of_read_content.inside.Holds.{fault_of, content}
-use Rattle.text_pieces.specs.of_text.declared.kept.Kept.{Kept}
-use Rattle.text_pieces.specs.of_text.declared.kept.Kept.TheVariants as kept
+use Rattle.read_scratch.specs.of_read_content.inside.Holds.{Performed, fault_of, content}
+use Rattle.text_pieces.specs.of_text.declared.kept.Unkept.{Unkept}
+use Rattle.text_pieces.specs.of_text.declared.kept.Unkept.TheVariants as kept
 
 -- the answer and the scratch behind a piece that is put into scratch from its mark on, n bytes are left
 abbrev pub piece_answer : PieceKind → ℕ → List ℕ → Answer ℕ
@@ -55,30 +52,23 @@ joined_by Text n c = lengthened_by n c
 joined_by Listing n c = c
 
 -- what a piece comes to
-abbrev pub is_full : Kept → Bool
-is_full (kept.Put n) = false
-is_full kept.Full = true
-is_full kept.NotUtf8 = false
-is_full kept.BadReference = false
-is_full kept.UnknownName = false
+abbrev pub is_full : Result ℕ Unkept → Bool
+is_full (Ok n) = false
+is_full (Err kept.Full) = true
+is_full (Err kept.NotUtf8) = false
+is_full (Err kept.BadReference) = false
+is_full (Err kept.UnknownName) = false
 
-abbrev pub kept_length : Kept → ℕ
-kept_length (kept.Put n) = n
-kept_length kept.Full = 0
-kept_length kept.NotUtf8 = 0
-kept_length kept.BadReference = 0
-kept_length kept.UnknownName = 0
+abbrev pub kept_length : Result ℕ Unkept → ℕ
+kept_length (Ok n) = n
+kept_length (Err kept.Full) = 0
+kept_length (Err kept.NotUtf8) = 0
+kept_length (Err kept.BadReference) = 0
+kept_length (Err kept.UnknownName) = 0
 
-abbrev pub told_by : CodedMode → CodedContent → Kept → Performed
-told_by m c (kept.Put n) = To (joined_by m n c)
-told_by m c kept.Full = Not (fault_of cause.ScratchFull)
-told_by m c kept.NotUtf8 = Not (fault_of cause.NotUtf8)
-told_by m c kept.BadReference = Not (fault_of cause.BadReference)
-told_by m c kept.UnknownName = Not (fault_of cause.UnknownEntity)
-
--- an open status element gathers its description
-abbrev pub gathers_at : Level → Bool
-gathers_at top = false
-gathers_at suite = false
-gathers_at case = false
-gathers_at status = true
+abbrev pub told_by : CodedMode → CodedContent → Result ℕ Unkept → Performed
+told_by m c (Ok n) = Ok (joined_by m n c)
+told_by m c (Err kept.Full) = Err (fault_of cause.ScratchFull)
+told_by m c (Err kept.NotUtf8) = Err (fault_of cause.NotUtf8)
+told_by m c (Err kept.BadReference) = Err (fault_of cause.BadReference)
+told_by m c (Err kept.UnknownName) = Err (fault_of cause.UnknownEntity)

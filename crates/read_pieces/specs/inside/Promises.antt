@@ -9,8 +9,7 @@ use Rattle.read_scratch.specs.of_read_state.declared.Mode.{Mode as CodedMode}
 use Rattle.read_scratch.specs.of_read_place.Marks.{Marks}
 use Rattle.read_scratch.specs.of_read_content.Content.{Content, gather}
 use Rattle.read_scratch.specs.of_read_content.declared.Content.{Content as CodedContent}
-use Rattle.read_scratch.specs.of_read_content.declared.Performed.{Performed}
-use Rattle.read_scratch.specs.of_read_content.inside.Holds.{Holds, Lists, Sized, Performs}
+use Rattle.read_scratch.specs.of_read_content.inside.Holds.{Performed, Holds, Lists, Sized, Performs}
 
 -- where text is gathered, a piece of that event kind is put into scratch, as `gather` says, and reading goes on in the same mode
 abbrev pub Gathers : CodedMode → (kind : ℕ) (bytes : List ℕ) → CodedContent → (before after : List ℕ) → Performed → Type 0

@@ -1,5 +1,5 @@
 -- A value's answer, as that of the definitions, and what the call promises. Definitions only.
-use Rattle.std.specs.Prelude.{ℕ, ◌+◌, ◌<◌, ◌≡◌, List, length}
+use Rattle.std.specs.Prelude.{ℕ, ◌+◌, ◌<◌, ◌≡◌, List, Result, Ok, Err, length}
 use Rattle.read_values.specs.of_area.Answer.{Answer, gives, refuses}
 use Rattle.read_values.specs.of_table.Event.{Attribute}
 use Rattle.read_values.specs.of_read_element.Outcome.{Place, Rooms, within}
@@ -8,8 +8,7 @@ use Rattle.read_values.specs.of_read_element.inside.Held.{Held, Roomy, Meets}
 use Rattle.read_values.specs.of_read_element.inside.Refines.{Areas}
 use Rattle.read_values.specs.of_read_keys.declared.Role.{Role}
 use Rattle.read_values.specs.of_read_keys.declared.Role.TheVariants as role
-use Rattle.read_values.specs.declared.Took.{Took}
-use Rattle.read_values.specs.declared.Took.TheVariants as took
+use Rattle.read_values.specs.of_refusal.declared.Cause.{Cause}
 
 -- a role's words lie in the record
 abbrev pub RoleFits : Role → Type 0
@@ -23,12 +22,12 @@ RoleFits role.Extra = Unit {0}
 RoleFits role.Ignored = Unit {0}
 
 -- a value's answer, with the number of extras, which it leaves as it is
-abbrev pub took_given : ℕ → Took → Answer (ℕ × ℕ)
-took_given extras (took.To fill) = gives (extras, fill)
-took_given extras (took.Not why) = refuses why
+abbrev pub took_given : ℕ → Result ℕ Cause → Answer (ℕ × ℕ)
+took_given extras (Ok fill) = gives (extras, fill)
+took_given extras (Err why) = refuses why
 
 -- reads an attribute of this value by its role, which is no extra
-abbrev pub ReadsValue : Role → List ℕ → ℕ → Areas → Areas → Took → Type 0
+abbrev pub ReadsValue : Role → List ℕ → ℕ → Areas → Areas → Result ℕ Cause → Type 0
 ReadsValue q value fill before after r =
     (x : Attribute) (g : Given) (rooms : Rooms) (p : Place) (used kind key extras : ℕ)
     → (q ≡ role.Extra → ⊥) → x.value ≡ value

@@ -6,7 +6,7 @@ pub returns : goal.returns
 returns c =
     let start = c in
     let a = start.args in record {
-      by_index = λ name d. is-behind a.act name a.st d a.st.content.used c.turn.result c.marked.result
-          c.onward.result start.requires.act_value (c.turn.ensures name) (c.marked.ensures name) c.onward.ensures;
+      by_index = λ name d. is-behind a.act name a.st d a.st.content.used c.turn.result c.marked-marks.result
+          c.onward.result start.requires.act_value (c.turn.ensures name) (c.marked-marks.ensures name) c.onward.ensures;
       content_value = refl;
     }

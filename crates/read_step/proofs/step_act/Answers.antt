@@ -16,8 +16,8 @@ pub behind-requires : goal.behind-requires
 behind-requires c = let p = c.requires in
     let w = p.standing in record { low = low-weak w.event w.stands.low; few = few-more w.stands.few (omega (arith, w.event)); act_value = p.act_value }
 
-pub returns-in-To : goal.returns-in-To
-returns-in-To c =
+pub returns-in-Ok : goal.returns-in-Ok
+returns-in-Ok c =
     let at-perform = c in
     let start = at-perform in
     λ rooms d name room lo sized t.
@@ -25,15 +25,15 @@ returns-in-To c =
     let b = c.behind in
     let x =
     comes-to _ (at-perform.perform-performed.ensures rooms (act_place (act_of a.st.control name a.act) (mode_of a.st.control) (marks_of a.st.marks)) d name refl lo t.holds t.lists sized)
-    c.in-To.is in
+    c.in-Ok.is in
     act-moved _ _ _ _ _ _ _ a.act name a.st d x.0 _ start.requires.act_value t x.2 x.3 rooms _ _ _ b.ensures.by_index b.ensures.content_value x.1
 
-pub returns-in-Not : goal.returns-in-Not
-returns-in-Not c =
+pub returns-in-Err : goal.returns-in-Err
+returns-in-Err c =
     let start = c in
     let perform = c.perform-performed in
     λ rooms d name room lo sized t.
     let a = start.args in
     act-halts rooms a.act name _ _ a.st d _ room start.requires.standing.event
     (comes-not _ (perform.ensures rooms (act_place (act_of a.st.control name a.act) (mode_of a.st.control) (marks_of a.st.marks)) d name refl lo t.holds t.lists sized)
-    c.in-Not.is)
+    c.in-Err.is)

@@ -12,8 +12,8 @@ returns-then-not-is_gathering c = λ rooms words text attributes source d sized 
     piece-moved attributes source words text _ words text a.scratch.now a.st _ _ d d c.onward-marks.ensures t t.holds t.lists
     (piece-passed rooms (piece_kind a.kind) (piece_bytes a.kind a.bytes.now) (machine_of a.st d) (sym c.is_gathering.ensures ∙ c.if-not-is_gathering.true))
 
-pub returns-in-To : goal.returns-in-To
-returns-in-To c =
+pub returns-in-Ok : goal.returns-in-Ok
+returns-in-Ok c =
     let onward = c.onward-marks in
     let is-gathering = c.is_gathering in
     let if1 = c.if-not-is_gathering in
@@ -24,10 +24,10 @@ returns-in-To c =
     (piece_bytes a.kind a.bytes.now) a.st d _ (sym is-gathering.ensures ∙ if1.false)
     (gather.ensures rooms (here a.st) d (level_of a.st.control.level) (output_of a.st.control.output)
     (marks_of a.st.marks) words text attributes source refl (sym is-gathering.ensures ∙ if1.false) t.holds t.lists sized)
-    _ _ c.in-To.is onward.ensures t
+    _ _ c.in-Ok.is onward.ensures t
 
-pub returns-in-Not : goal.returns-in-Not
-returns-in-Not c =
+pub returns-in-Err : goal.returns-in-Err
+returns-in-Err c =
     let start = c in
     let is-gathering = c.is_gathering in
     let if1 = c.if-not-is_gathering in
@@ -38,4 +38,4 @@ returns-in-Not c =
     (piece_bytes a.kind a.bytes.now) a.st d _ (sym is-gathering.ensures ∙ if1.false)
     (gather.ensures rooms (here a.st) d (level_of a.st.control.level) (output_of a.st.control.output)
     (marks_of a.st.marks) words text attributes source refl (sym is-gathering.ensures ∙ if1.false) t.holds t.lists sized)
-    _ _ c.in-Not.is start.requires.event
+    _ _ c.in-Err.is start.requires.event

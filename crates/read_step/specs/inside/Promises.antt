@@ -1,5 +1,5 @@
 -- What a step's calls do. Definitions only.
-use Rattle.std.specs.Prelude.{ℕ, ◌+◌, ◌≤◌, ◌≡◌, List, [], true, ◌⊎◌, length}
+use Rattle.std.specs.Prelude.{Some, None, Ok, Err, ℕ, ◌+◌, ◌≤◌, ◌≡◌, List, [], true, ◌⊎◌, length}
 use Rattle.read_actions.specs.of_table.Event.{Piece, bytes_at, piece_kind, piece_bytes}
 use Rattle.read_actions.specs.of_read_element.Outcome.{Rooms}
 use Rattle.read_actions.specs.of_read_attribute.declared.Range.{Range}
@@ -21,9 +21,7 @@ use Rattle.read_again.specs.Told.{told}
 use Rattle.read_again.specs.inside.Turns.{rest}
 use Rattle.read_again.specs.inside.Since.{Since, first_of}
 use Rattle.read_step.specs.declared.State.{State}
-use Rattle.read_step.specs.declared.Step.{Step}
-use Rattle.read_step.specs.declared.Step.TheVariants as way
-use Rattle.read_step.specs.inside.Standing.{machine_of, run_on_of, in_skip, run_skip, Stands, Acted, Stepped}
+use Rattle.read_step.specs.inside.Standing.{Step, machine_of, run_on_of, in_skip, run_skip, Stands, Acted, Stepped}
 
 -- a whole table, and the three areas
 abbrev pub given : (events attributes source : List ℕ) → Table
@@ -91,9 +89,9 @@ StepsReady act st first range t before after r =
 
 -- behind a Start `property` that was read as an Empty one its content is passed over; a refusal stays
 abbrev pub PassesContent : Step → (start : ℕ) (events source : List ℕ) → Step → Type 0
-PassesContent (way.Go st) start events source r = StepsSkip st start events source r
-PassesContent way.Stop start events source r = r ≡ way.Stop
-PassesContent (way.Halt h) start events source r = r ≡ way.Halt h
+PassesContent (Ok (Some st)) start events source r = StepsSkip st start events source r
+PassesContent (Ok None) start events source r = r ≡ Ok None
+PassesContent (Err h) start events source r = r ≡ Err h
 
 -- with some content the areas hold that of a state, and its description is told from event `first` on
 pub record StandingSince (t : Table) (a : Areas) (first : ℕ) (st : State) : Type 0 where

@@ -1,5 +1,5 @@
 -- What holds between events, and what an event comes to. Definitions only.
-use Rattle.std.specs.Prelude.{ℕ, ◌+◌, ◌-◌, ◌*◌, ◌%◌, ◌≤◌, ◌<◌, ◌≡◌, List, [], ◌++◌, false, length}
+use Rattle.std.specs.Prelude.{Option, Some, None, Result, Ok, Err, ℕ, ◌+◌, ◌-◌, ◌*◌, ◌%◌, ◌≤◌, ◌<◌, ◌≡◌, List, [], ◌++◌, false, length}
 use Rattle.read_actions.specs.of_area.Area.{zeros}
 use Rattle.read_actions.specs.of_utf8.Characters.{joined}
 use Rattle.read_actions.specs.of_refusal.Refusal.{nowhere, Refused, Outcome, accepted, refused}
@@ -25,8 +25,6 @@ use Rattle.read_again.specs.of_read_machine.Machine.{Machine, run}
 use Rattle.read_again.specs.inside.Since.{Since, first_of}
 use Rattle.read_step.specs.declared.State.{State}
 use Rattle.read_step.specs.declared.Halt.{Halt}
-use Rattle.read_step.specs.declared.Step.{Step}
-use Rattle.read_step.specs.declared.Step.TheVariants as step
 
 -- ---- between events
 -- the machine of a state with a content
@@ -98,6 +96,10 @@ in_skip name i s =
 abbrev pub run_skip : Rooms → List ℕ → List ℕ → List ℕ → ℕ → Machine → Outcome Machine
 run_skip rooms events attributes source i s = run rooms (resolve_from events attributes source (count_of events - (i + 1)) (i + 1)) (in_skip (bytes_at events source i) (i + 1) s)
 
+-- what a step comes to: the state behind it, none at the end, or a refusal
+abbrev pub Step : Type 0
+Step = Result (Option State) Halt
+
 -- ---- refusals
 -- the refusal of a halt in a state; a skipped tag has a name
 abbrev pub refusal_at : State → Halt → List ℕ → Refused
@@ -105,7 +107,7 @@ refusal_at st h name = fault_at (record { path = path_of (act_of st.control name
 
 -- with the path of where reading stands
 abbrev pub halt_at : ℕ → Cause → Step
-halt_at event why = step.Halt (record { act = Broken why; event = event; fault = record { cause = why; key = 0; attribute = nowhere } })
+halt_at event why = Err (record { act = Broken why; event = event; fault = record { cause = why; key = 0; attribute = nowhere } })
 
 -- the path of a halt has room for an Attribute
 pub record Placed (st : State) (h : Halt) : Type 0 where
@@ -126,9 +128,9 @@ pub record Moved (attributes source words text scratch : List ℕ) (i : ℕ) (o 
   pub next : st.marks.event ≡ i + 1
 
 abbrev pub Acted : (attributes source words text scratch : List ℕ) → State → Outcome Machine → Step → Type 0
-Acted attributes source words text scratch st o (step.Go s) = Moved attributes source words text scratch st.marks.event o s
-Acted attributes source words text scratch st o step.Stop = ⊥
-Acted attributes source words text scratch st o (step.Halt h) = Refuses st h o
+Acted attributes source words text scratch st o (Ok (Some s)) = Moved attributes source words text scratch st.marks.event o s
+Acted attributes source words text scratch st o (Ok None) = ⊥
+Acted attributes source words text scratch st o (Err h) = Refuses st h o
 
 -- ---- the run, which comes to o
 -- it goes on at an event behind event i, and what machine s knew of an open description is known there
@@ -150,6 +152,6 @@ pub record Ended (words text : List ℕ) (o : Outcome Machine) : Type 0 where
   pub texts : text ≡ machine.content.texts ++ zeros left
 
 abbrev pub Stepped : (rooms : Rooms) (events attributes source words text scratch : List ℕ) → State → Machine → Outcome Machine → Step → Type 0
-Stepped rooms events attributes source words text scratch st s o (step.Go t) = Went rooms events attributes source words text scratch st.marks.event s o t
-Stepped rooms events attributes source words text scratch st s o step.Stop = Ended words text o
-Stepped rooms events attributes source words text scratch st s o (step.Halt h) = Refuses st h o
+Stepped rooms events attributes source words text scratch st s o (Ok (Some t)) = Went rooms events attributes source words text scratch st.marks.event s o t
+Stepped rooms events attributes source words text scratch st s o (Ok None) = Ended words text o
+Stepped rooms events attributes source words text scratch st s o (Err h) = Refuses st h o

@@ -3,14 +3,12 @@ use native.Mathlib.Omega.{arith}
 use mathlib.Core.Path.{refl}
 use Rattle.read_texts.proofs.kept_text.Goals as goal
 
-pub overflow_add-c : goal.overflow_add-c
-overflow_add-c c =
-    let args = c.args in
-    let pre = c.requires in
-    let h : args.content.fill + c.in-Put.n ≤ 16777216 = (rw c.in-Put.is at pre) in omega arith
+pub overflow_add-result : goal.overflow_add-result
+overflow_add-result c =
+    let h : c.args.content.fill + c.in-Some.n ≤ 16777216 = (rw c.in-Some.is at c.requires) in omega arith
 
-pub returns-in-Put : goal.returns-in-Put
-returns-in-Put c = rw c.in-Put.is refl
+pub returns : goal.returns
+returns c = rw c.in-Some.is refl
 
-pub returns-in-Full : goal.returns-in-Full
-returns-in-Full c = rw c.in-Full.is c.refused.ensures
+pub returns-in_default : goal.returns-in_default
+returns-in_default c = rw c.in_default.is c.refused.ensures

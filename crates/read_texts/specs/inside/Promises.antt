@@ -6,9 +6,8 @@ use Rattle.read_content.specs.of_read_state.Control.{Level, case, status, Output
 use Rattle.read_content.specs.of_read_place.Marks.{Marks}
 use Rattle.read_content.specs.Content.{Content, describing, outputting}
 use Rattle.read_content.specs.declared.Content.{Content as CodedContent}
-use Rattle.read_content.specs.declared.Performed.{Performed}
 use Rattle.read_content.specs.of_read_element.inside.Refines.{Areas}
-use Rattle.read_content.specs.inside.Holds.{Holds, Lists, Sized, Performs}
+use Rattle.read_content.specs.inside.Holds.{Performed, Holds, Lists, Sized, Performs}
 
 -- the open description, if no child's text was put over it, is put into record i, as `describing` says, and reading goes on in the case
 abbrev pub ClosesStatus : ℕ → CodedContent → (before after : Areas) (scratch : List ℕ) → Performed → Type 0

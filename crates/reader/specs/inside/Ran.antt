@@ -1,5 +1,5 @@
 -- What the run comes to. Definitions only.
-use Rattle.std.specs.Prelude.{ℕ, List, length}
+use Rattle.std.specs.Prelude.{Result, Ok, Err, ℕ, List, length}
 use Rattle.clearing.specs.of_refusal.Refusal.{Outcome}
 use Rattle.read_step.specs.of_table.Event.{resolve}
 use Rattle.read_step.specs.of_read_element.Outcome.{rooms_of}
@@ -9,12 +9,16 @@ use Rattle.read_step.specs.of_read_machine.Reading.{reading}
 use Rattle.read_step.specs.inside.Standing.{Refuses, Ended}
 use Rattle.reader.specs.Answer.{Leaves}
 use Rattle.reader.specs.declared.Reading.{Reading}
-use Rattle.reader.specs.declared.Run.{Run}
-use Rattle.reader.specs.declared.Run.TheVariants as ran
+use Rattle.read_step.specs.declared.State.{State}
+use Rattle.read_step.specs.declared.Halt.{Halt}
+
+-- what the run answers: at a refusal the state and what is refused
+abbrev pub Run : Type 0
+Run = Result (Unit {0}) (State × Halt)
 
 abbrev pub Ran : (words text : List ℕ) → Outcome Machine → Run → Type 0
-Ran words text o ran.Done = Ended words text o
-Ran words text o (ran.Halted st h) = Refuses st h o
+Ran words text o (Ok t) = Ended words text o
+Ran words text o (Err x) = Refuses x.0 x.1 o
 
 -- the machine runs over a whole table, with the rooms of the areas
 abbrev pub Runs : Table → (before after : Areas) → Run → Type 0

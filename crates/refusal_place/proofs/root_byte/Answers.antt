@@ -1,4 +1,3 @@
-use Prim.Native.Nat.{◌-◌}
 use mathlib.Core.Path.{◌∙◌}
 use Rattle.refusal_place.proofs.Finding.{looking-start, looking-more, looking-found, looking-none}
 use Rattle.refusal_place.proofs.root_byte.Goals as goal

@@ -99,4 +99,4 @@ returns c =
     let b = length args.bytes.now in
     let cleared = at_clear.clear_table in
     let both = whole-put o e a b (le-ltb most_cases c.args.cases if1.false) (sym exceeds-cases.ensures ∙ if2.false) cleared.ensures.events_after cleared.ensures.attributes_after cleared.ensures.bytes_after
-    at-put.put_rehearsal-k.ensures _ c.no_refusal.ensures c.in-Put.is in record { value = both.0; events_after = both.1.0; attributes_after = both.1.1.0; bytes_after = both.1.1.1 }
+    at-put.put_rehearsal-k.ensures _ c.no_refusal.ensures c.in-Some.is in record { value = both.0; events_after = both.1.0; attributes_after = both.1.1.0; bytes_after = both.1.1.1 }

@@ -28,5 +28,5 @@ returns c =
     let at-enum-told = c in
     let at_clear = at-enum-told in
     let args = at_clear.args in
-    let p = rw c.in-Put.is at put-sheet.ensures in
+    let p = rw c.in-Some.is at put-sheet.ensures in
     let both = whole-sheet (length args.out.now) args.released at-enum-told.in-Accepted.is c.no_refusal.ensures at_clear.clear.ensures p in record { value = both.0; out_after = both.1 }

@@ -2,10 +2,10 @@ use mathlib.Core.Path.{refl}
 use Rattle.start_ends.specs.inside.Ends.{with_start}
 use Rattle.start_ends.proofs.with_start.Goals as goal
 
-pub returns-then-e : goal.returns-then-e
+pub returns-in-Some : goal.returns-in-Some
 unfolding with_start
-returns-then-e c = rw (c.if-e.true, c.later.ensures, c.earlier.ensures) refl
+returns-in-Some c = rw (c.in-Some.is, c.later.ensures, c.earlier.ensures) refl
 
-pub returns : goal.returns
+pub returns-in-None : goal.returns-in-None
 unfolding with_start
-returns c = rw c.if-e.false refl
+returns-in-None c = rw c.in-None.is refl

@@ -1,5 +1,5 @@
 -- The earliest and the latest start, found by going along the records once. Definitions only.
-use Rattle.std.specs.Prelude.{ℕ, List, [], ◌∷◌, true, false, cond}
+use Rattle.std.specs.Prelude.{ℕ, List, [], ◌∷◌, cond, Option, Some, None}
 use Rattle.span.specs.of_timestamp.declared.Moment.{Moment}
 use Rattle.span.specs.of_instant.Instant.{instant_of}
 use Rattle.span.specs.of_instant.inside.Lent.{instant_by}
@@ -9,7 +9,6 @@ use Rattle.tree_stamp.specs.of_tree_report.Fields.{is_case, has_bit}
 use Rattle.tree_stamp.specs.Stamp.{cut_moment}
 use Rattle.start_ends.specs.declared.Start.{Start}
 use Rattle.start_ends.specs.declared.Ends.{Ends}
-use Rattle.start_ends.specs.Nothing.{no_moment}
 
 abbrev pub earlier : Start → Start → Start
 earlier a b = cond (sooner b.at a.at) b a
@@ -24,19 +23,17 @@ start_of m = record { moment = m; at = instant_of m }
 abbrev pub start_by : List ℕ → Moment → Start
 start_by days m = record { moment = m; at = instant_by days m }
 
-abbrev pub no_ends : Ends
-no_ends =
-    let s : Start = record { moment = no_moment; at = record { seconds = 0; nanos = 0 } } in
-    record { found = false; first = s; last = s }
+abbrev pub no_ends : Option Ends
+no_ends = None
 
-unfoldable pub with_start : Ends → Start → Ends
-with_start e s =
-    cond e.found (record { found = true; first = earlier e.first s; last = later e.last s }) (record { found = true; first = s; last = s })
+unfoldable pub with_start : Option Ends → Start → Option Ends
+with_start None s = Some (record { first = s; last = s })
+with_start (Some e) s = Some (record { first = earlier e.first s; last = later e.last s })
 
 -- by whatever gives a moment's start
-unfoldable pub with_record : (Moment → Start) → Ends → List ℕ → Ends
+unfoldable pub with_record : (Moment → Start) → Option Ends → List ℕ → Option Ends
 with_record start e r = cond (is_case r) (cond (has_bit bit.timestamp r) (with_start e (start (cut_moment r))) e) e
 
-unfoldable pub ends_from : (Moment → Start) → Ends → List (List ℕ) → Ends
+unfoldable pub ends_from : (Moment → Start) → Option Ends → List (List ℕ) → Option Ends
 ends_from start e [] = e
 ends_from start e (r ∷ rs) = ends_from start (with_record start e r) rs

@@ -1,5 +1,5 @@
 -- The answer from the earliest and the latest start of the records. Definitions only.
-use Rattle.std.specs.Prelude.{true, cond}
+use Rattle.std.specs.Prelude.{true, Option, Some, None}
 use Rattle.start_ends.specs.of_span.inside.Span.{seconds_between, nanos_between}
 use Rattle.start_ends.specs.declared.Start.{Start}
 use Rattle.start_ends.specs.declared.Ends.{Ends}
@@ -16,5 +16,6 @@ extent_of a b =
       nanos = nanos_between a.at b.at;
     }
 
-abbrev pub starts_by : Ends → Extent
-starts_by e = cond e.found (extent_of e.first e.last) not_found_of
+abbrev pub starts_by : Option Ends → Extent
+starts_by None = not_found_of
+starts_by (Some e) = extent_of e.first e.last

@@ -1,4 +1,4 @@
-use Prim.Native.Nat.{◌-◌}
+use Rattle.std.proofs.lemmas.Result.{err_from_is_err_and}
 use mathlib.Core.Path.{sym, ◌∙◌}
 use native.Mathlib.Omega.{arith}
 use Rattle.table.proofs.Walking.{walking_start, walking-more, walking-hit, walking-done, table-sized, table-missized}
@@ -12,23 +12,16 @@ returns-then-not-is_sized c = table-missized _ _ _ (sym c.is_sized.ensures ∙ c
 pub loop-i-init : goal.loop-i-init
 loop-i-init c = (walking_start _ _ _ _, bad-end _ _ 0)
 
-pub check_event-seen-requires : goal.check_event-seen-requires
-check_event-seen-requires c = let v = sizes-valid _ _ _ (sym c.is_sized.ensures ∙ c.if-not-is_sized.false) in record { i_in_bounds = omega arith; first_value = c.loop-i.invariant.1 }
+pub check_event-requires-clause-i_in_bounds : goal.check_event-requires-clause-i_in_bounds
+check_event-requires-clause-i_in_bounds c = let v = sizes-valid _ _ _ (sym c.is_sized.ensures ∙ c.if-not-is_sized.false) in omega arith
+
+pub returns-in_err-known : goal.returns-in_err-known
+returns-in_err-known c =
+    let p = err_from_is_err_and c.from_residual.result c.from_residual.ensures.1 in
+    rw (p.1, p.2) (table-sized _ _ _ (sym c.is_sized.ensures ∙ c.if-not-is_sized.false) _ (walking-hit c.loop-i.invariant.0 c.loop-i-test.true _ c.in_err-known.ensures))
 
 pub loop-i-preserved : goal.loop-i-preserved
-loop-i-preserved c =
-    let loop = c.loop-i in
-    let loop-test = c.loop-i-test in
-    (walking-more loop.invariant.0 loop-test.true (sym c.in-Good.is ∙ c.check_event-seen.ensures.found_value), c.check_event-seen.ensures.first_value_2)
-
-pub returns-in-Bad : goal.returns-in-Bad
-returns-in-Bad c =
-    let is-sized = c.is_sized in
-    let if1 = c.if-not-is_sized in
-    let loop = c.loop-i in
-    let loop-test = c.loop-i-test in
-    let check-event = c.check_event-seen in
-    table-sized _ _ _ (sym is-sized.ensures ∙ if1.false) _ (walking-hit loop.invariant.0 loop-test.true _ _ (sym c.in-Bad.is ∙ check-event.ensures.found_value))
+loop-i-preserved c = let e = c.in_ok-known.ensures in (walking-more c.loop-i.invariant.0 c.loop-i-test.true e.0, e.1)
 
 pub returns : goal.returns
 returns c = table-sized _ _ _ (sym c.is_sized.ensures ∙ c.if-not-is_sized.false) _ (walking-done c.loop-i.invariant.0 c.loop-i-test.false)

@@ -1,11 +1,7 @@
-use Prim.Native.Nat.{◌≤◌, ◌-◌}
-use lib.ListN.{length, drop}
+use lib.ListN.{drop}
 use Rattle.copying.proofs.of_area.Laying.{Laying}
 use Rattle.text_filter.specs.Filter.{filtered}
 use Rattle.text_filter.proofs.store_each.Given as goal
 
-abbrev pub invariant-loop-i : goal.invariant-loop-i
-invariant-loop-i l = (l.i ≤ length l.s) × Laying l.initial.out l.out l.k (filtered l.s) (filtered (drop l.i l.s))
-
-abbrev pub decreases-loop-i : goal.decreases-loop-i
-decreases-loop-i l = length l.s - l.i
+abbrev pub invariant-loop-b : goal.invariant-loop-b
+invariant-loop-b l = Laying l.initial.out l.out l.k (filtered l.s) (filtered (drop l.b-index l.s))

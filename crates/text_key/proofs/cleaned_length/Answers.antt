@@ -1,7 +1,6 @@
 use Rattle.text.proofs.Pieces.{piece_moves}
 use Rattle.text_key.proofs.Keys.{counting-start, counting-done, counting_more, counting-within}
 use mathlib.Core.Bool.{true}
-use Prim.Native.Nat.{◌-◌}
 use native.Mathlib.Omega.{arith}
 use Rattle.text_key.proofs.cleaned_length.Goals as goal
 

@@ -1,5 +1,5 @@
-use Prim.Native.Nat.{◌-◌}
-use mathlib.Core.Path.{ap}
+use mathlib.Core.Path.{ap, ◌∙◌}
+use Rattle.utf8_lossy.specs.of_area.Area.{stored_answer}
 use native.Mathlib.Omega.{arith}
 use Rattle.utf8_lossy.proofs.of_area.Laying.{laying-start, laying_on, laying-done}
 use Rattle.text_filter.specs.Filter.{filtered}
@@ -18,17 +18,17 @@ slice_bounds-store_part-count c = omega (arith, c.loop-i.invariant.1.fits)
 pub slice_bounds-store_part-start : goal.slice_bounds-store_part-start
 slice_bounds-store_part-start c = omega (arith, c.loop-i.invariant.1.fits)
 
-pub store_part-put-requires : goal.store_part-put-requires
-store_part-put-requires c = c.part_of-p.ensures
+pub store_part-requires : goal.store_part-requires
+store_part-requires c = c.part_of-p.ensures
 
-pub returns-in_default : goal.returns-in_default
-returns-in_default c =
+pub returns-in_err-n : goal.returns-in_err-n
+returns-in_err-n c =
     let args = c.args in
     let loop = c.loop-i in
     let loop-test = c.loop-i-test in
     let p = c.part_of-p in
-    let q = c.store_part-put in
-    let both = part-full args.s.now loop.i loop-test.true p.result p.ensures filtered filtered-append cause.TextFull loop.invariant.1 _ _ q.ensures.result_value q.ensures.out_after c.in_default.is in record { result_value = both.0; out_after = both.1 }
+    let q = c.store_part in
+    let both = part-full args.s.now loop.i loop-test.true p.result p.ensures filtered filtered-append cause.TextFull loop.invariant.1 _ _ q.ensures.result_value q.ensures.out_after c.in_err-n.was in record { result_value = ap (stored_answer cause.TextFull) c.from_residual.ensures ∙ both.0; out_after = both.1 }
 
 pub overflow_add-k : goal.overflow_add-k
 overflow_add-k c =
@@ -36,9 +36,9 @@ overflow_add-k c =
     let loop = c.loop-i in
     let loop-test = c.loop-i-test in
     let p = c.part_of-p in
-    let q = c.store_part-put in
+    let q = c.store_part in
     let h = put-room args.s.now loop.i loop-test.true p.result p.ensures filtered filtered-append
-    cause.TextFull loop.invariant.1 _ _ q.ensures.result_value q.ensures.out_after _ c.in-Put.is in
+    cause.TextFull loop.invariant.1 _ _ q.ensures.result_value q.ensures.out_after _ c.in_ok-n.was in
     omega arith
 
 pub overflow_add-i : goal.overflow_add-i
@@ -65,10 +65,10 @@ loop-i-preserved c =
     let loop = c.loop-i in
     let loop-test = c.loop-i-test in
     let p = c.part_of-p in
-    let q = c.store_part-put in (
+    let q = c.store_part in (
       part-fits args.s.now loop.i loop-test.true p.result p.ensures,
       part-put args.s.now loop.i loop-test.true p.result p.ensures filtered filtered-append
-          cause.TextFull loop.invariant.1 _ _ q.ensures.result_value q.ensures.out_after _ c.in-Put.is,
+          cause.TextFull loop.invariant.1 _ _ q.ensures.result_value q.ensures.out_after _ c.in_ok-n.was,
     )
 
 pub returns : goal.returns

@@ -26,32 +26,32 @@ returns-in_default c =
     let if1 = c.if-not-is_utf8 in
     let a = c.args in
     let n = a.name.now in
-    let e = refused (is_named n) (char_of n) cause.BadReference cause.BadReference (sym (ap named_answer c.in_default.is) ∙ c.named_by-named.ensures) in
+    let e = refused (is_named n) (char_of n) cause.BadReference cause.BadReference (sym (ap named_answer c.in_default.is) ∙ c.named_by.ensures) in
     let f = second-fails (utf8 n) (is_named n) (placing cause.ScratchFull (length a.out.now) (reference_text n)) (refuses (unnamed n))
     (refuses cause.NotUtf8) a.out.now (laid a.out.now (reference_text n)) (sym is-utf8.ensures ∙ if1.false) e in
     record { result_value = c.unnamed_by.ensures ∙ f.0; out_after = f.1 }
 
-pub slice_bounds-bytes-end : goal.slice_bounds-bytes-end
-slice_bounds-bytes-end c =
-    let d = coded-front c.in-Is.c c.encode_of-e.ensures in omega (arith, d.0, d.1)
+pub shared_ref_as_front-copy_into : goal.shared_ref_as_front-copy_into
+shared_ref_as_front-copy_into c =
+    let d = coded-front c.in-Some.c c.encode_of-e.ensures in omega (arith, d.0, d.1)
 
 pub slice_bounds-copy_into-end : goal.slice_bounds-copy_into-end
 slice_bounds-copy_into-end c =
-    let d = coded-front c.in-Is.c c.encode_of-e.ensures in
+    let d = coded-front c.in-Some.c c.encode_of-e.ensures in
     sym (length-take-le c.encode_of-e.result.n c.encode_of-e.result.bytes (omega (arith, d.0, d.1)))
 
 pub returns : goal.returns
 returns c =
     let is-utf8 = c.is_utf8 in
     let if1 = c.if-not-is_utf8 in
-    let Named-by = c.named_by-named in
+    let Named-by = c.named_by in
     let encode-of = c.encode_of-e in
     let a = c.args in
     let n = a.name.now in
     let p = c.copy_into in
     let k = c.kept_of in
-    let d = coded-front c.in-Is.c encode-of.ensures in
-    let e = given (is_named n) (char_of n) cause.BadReference c.in-Is.c (sym (ap named_answer c.in-Is.is) ∙ Named-by.ensures) in
+    let d = coded-front c.in-Some.c encode-of.ensures in
+    let e = given (is_named n) (char_of n) cause.BadReference c.in-Some.c (sym (ap named_answer c.in-Some.is) ∙ Named-by.ensures) in
     let f = d.2 ∙ ap encode e.1 in
     let both = kept-both cause.ScratchFull cause.OutputFull a.out.now p.new.out (reference_text n) p.result k.result
     (p.ensures.result_value ∙ ap (λ (l : List ℕ). placing cause.OutputFull (length a.out.now) l) f) k.ensures (utf8 n) (is_named n) (refuses (unnamed n))

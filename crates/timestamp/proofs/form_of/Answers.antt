@@ -1,64 +1,51 @@
 use Prim.Native.Nat.{◌≤◌, ◌+◌}
-use mathlib.Core.Path.{◌≡◌, sym, ap, ◌∙◌}
+use mathlib.Core.Path.{◌≡◌, ap, ◌∙◌}
 use native.Mathlib.Omega.{arith}
 use lib.ListN.{length}
+use Rattle.std.specs.Prelude.{Some}
 use Rattle.names.proofs.of_area.Parts.{rest_part}
-use Rattle.timestamp.specs.declared.parts.Fraction.TheVariants.{Of}
 use Rattle.timestamp.specs.Timestamp.{tail}
 use Rattle.timestamp.specs.inside.Leaves.{fraction_of, zone_of}
 use Rattle.timestamp.proofs.Forms.{form-short, form-date, form-clock, form-fraction, form-width, form-zone, form-right}
 use Rattle.timestamp.proofs.form_of.Goals as goal
-use Rattle.timestamp.proofs.form_of.Goals.{In-Of}
+use Rattle.timestamp.proofs.form_of.Goals.{In_ok-nanos}
 
-fraction-told : (c : In-Of) →
-    let args = c.args in
-    Of c.in-Of.nanos c.in-Of.width ≡ fraction_of (tail args.s.now)
-fraction-told c =
-    let args = c.args in
-    sym c.in-Of.is ∙ c.fraction_of.ensures ∙ ap fraction_of (rest_part args.s.now 19)
+fraction-told : (c : In_ok-nanos) → Some (c.in_ok-nanos.nanos, c.in_ok-nanos.width) ≡ fraction_of (tail c.args.s.now)
+fraction-told c = c.in_ok-nanos.ensures ∙ ap fraction_of (rest_part c.args.s.now 19)
 
-width_fits : (c : In-Of) →
-    let args = c.args in
-    19 + c.in-Of.width ≤ length args.s.now
-width_fits c =
-    let args = c.args in
-    let if1 = c.if-s-lt20 in
-    form-width args.s.now c.in-Of.nanos c.in-Of.width (fraction-told c) if1.false
+width_fits : (c : In_ok-nanos) → 19 + c.in_ok-nanos.width ≤ length c.args.s.now
+width_fits c = form-width c.args.s.now c.in_ok-nanos.nanos c.in_ok-nanos.width (fraction-told c) c.if-s-lt20.false
 
 pub returns-then-s-lt20 : goal.returns-then-s-lt20
 returns-then-s-lt20 c = form-short _ c.if-s-lt20.true
 
-pub returns-in_default : goal.returns-in_default
-returns-in_default c = form-date _ (sym c.in_default.is ∙ c.date_of.ensures)
+pub returns-in_err-year : goal.returns-in_err-year
+returns-in_err-year c = c.from_residual.ensures ∙ form-date _ c.in_err-year.ensures
 
-pub returns-in_default-clock_of : goal.returns-in_default-clock_of
-returns-in_default-clock_of c = form-clock _ (sym c.in_default-clock_of.is ∙ c.clock_of.ensures)
+pub returns-in_err-hour : goal.returns-in_err-hour
+returns-in_err-hour c = c.from_residual-in_err-hour.ensures ∙ form-clock _ c.in_err-hour.ensures
 
-pub returns-in_default-fraction_of : goal.returns-in_default-fraction_of
-returns-in_default-fraction_of c = let s = c.args.s.now in
-    form-fraction s (sym c.in_default-fraction_of.is ∙ c.fraction_of.ensures ∙ ap fraction_of (rest_part s 19))
+pub returns-in_err-nanos : goal.returns-in_err-nanos
+returns-in_err-nanos c = let s = c.args.s.now in c.from_residual-in_err-nanos.ensures ∙ form-fraction s (c.in_err-nanos.ensures ∙ ap fraction_of (rest_part s 19))
 
 pub overflow_add-at : goal.overflow_add-at
-overflow_add-at c = omega (arith, width_fits (goal.at.overflow_add-at c).In-Of)
+overflow_add-at c = omega (arith, width_fits (goal.at.overflow_add-at c).In_ok-nanos)
 
 pub slice_bounds-zone_of-count : goal.slice_bounds-zone_of-count
-slice_bounds-zone_of-count c = omega (arith, width_fits (goal.at.slice_bounds-zone_of-count c).In-Of)
+slice_bounds-zone_of-count c = omega (arith, width_fits (goal.at.slice_bounds-zone_of-count c).In_ok-nanos)
 
 pub slice_bounds-zone_of-start : goal.slice_bounds-zone_of-start
-slice_bounds-zone_of-start c = omega (arith, width_fits (goal.at.slice_bounds-zone_of-start c).In-Of)
+slice_bounds-zone_of-start c = omega (arith, width_fits (goal.at.slice_bounds-zone_of-start c).In_ok-nanos)
 
-pub returns-in_default-zone_of : goal.returns-in_default-zone_of
-returns-in_default-zone_of c =
-    let at-nanos = c in
+pub returns-in_err-offset : goal.returns-in_err-offset
+returns-in_err-offset c =
     let s = c.args.s.now in
-    form-zone s at-nanos.in-Of.nanos at-nanos.in-Of.width (fraction-told (goal.at.returns-in_default-zone_of c).In-Of) (sym c.in_default-zone_of.is ∙ c.zone_of.ensures ∙ ap zone_of (rest_part s (19 + at-nanos.in-Of.width)))
+    let told = fraction-told (goal.at.returns-in_err-offset c).In_ok-nanos in
+    c.from_residual-in_err-offset.ensures ∙ form-zone s c.in_ok-nanos.nanos c.in_ok-nanos.width told (c.in_err-offset.ensures ∙ ap zone_of (rest_part s (19 + c.in_ok-nanos.width)))
 
 pub returns : goal.returns
 returns c =
-    let if1 = c.if-s-lt20 in
-    let date-of = c.date_of in
-    let clock-of = c.clock_of in
-    let at-nanos = c in
     let s = c.args.s.now in
-    form-right s at-nanos.in-Of.nanos at-nanos.in-Of.width (fraction-told (goal.at.returns c).In-Of) c.in-On.year c.in-On.month c.in-On.day c.in-At.hour c.in-At.minute c.in-At.second c.in-East.offset if1.false
-    (sym c.in-On.is ∙ date-of.ensures) (sym c.in-At.is ∙ clock-of.ensures) (sym c.in-East.is ∙ c.zone_of.ensures ∙ ap zone_of (rest_part s (19 + at-nanos.in-Of.width)))
+    let told = fraction-told (goal.at.returns c).In_ok-nanos in
+    form-right s c.in_ok-nanos.nanos c.in_ok-nanos.width told c.in_ok-year.year c.in_ok-year.month c.in_ok-year.day c.in_ok-hour.hour c.in_ok-hour.minute c.in_ok-hour.second c.in_ok-offset.offset
+    c.if-s-lt20.false c.in_ok-year.ensures c.in_ok-hour.ensures (c.in_ok-offset.ensures ∙ ap zone_of (rest_part s (19 + c.in_ok-nanos.width)))

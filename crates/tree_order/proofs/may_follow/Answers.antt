@@ -18,11 +18,11 @@ returns-in-3 c = rw (c.in-3.is, c.may_end-done.ensures) refl
 
 pub returns-in-4 : goal.returns-in-4
 unfolding may_follow
-returns-in-4 c = rw (c.in-4.is, c.may_end-done.ensures) refl
+returns-in-4 c = rw (c.in-4.is, c.may_end-done.ensures, c.may_go_on.ensures) refl
 
 pub returns-in-5 : goal.returns-in-5
 unfolding may_follow
-returns-in-5 c = rw c.in-5.is refl
+returns-in-5 c = rw (c.in-5.is, c.may_go_on-in-5.ensures) refl
 
 pub returns-in-13 : goal.returns-in-13
 unfolding may_follow

@@ -5,10 +5,18 @@ use Rattle.tree_report.specs.of_tree_record.Record.{kind_of, has_bit}
 use Rattle.tree_report.specs.of_tree_status.Status as rule
 use Rattle.tree_report.specs.Layout.{Open, over}
 use Rattle.tree_order.specs.declared.State.{State}
+use Rattle.tree_order.specs.declared.Properties.{Properties}
+use Rattle.tree_order.specs.declared.Properties.TheVariants.{Unbegun, AtHand, Over}
+
+-- a list of properties
+abbrev pub number_of : Properties → ℕ
+number_of Unbegun = 0
+number_of AtHand = 1
+number_of Over = 2
 
 abbrev pub state_of : State → Open
 state_of s =
-    record { level = s.level; extras = s.extras; suite_list_of = s.suitelist; case_list = s.caselist; tally = s.tally; flagged = s.flagged }
+    record { level = s.level; extras = s.extras; suite_list_of = number_of s.suitelist; case_list = number_of s.caselist; tally = s.tally; flagged = s.flagged }
 
 -- just opened: no case property, no status element yet
 abbrev pub fresh_of : ℕ → Bool → ℕ → Open

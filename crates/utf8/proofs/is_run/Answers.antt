@@ -1,34 +1,16 @@
-use Prim.Native.Nat.{◌-◌}
-use mathlib.Core.Bool.{true, false}
-use mathlib.Core.Path.{refl, sym, ◌∙◌}
+use mathlib.Core.Bool.{true}
+use mathlib.Core.Path.{◌∙◌}
 use native.Mathlib.Omega.{arith}
-use Rattle.utf8.proofs.Runs.{ok_end, ok-lead, ok-ascii, ok-tail}
+use Rattle.utf8.proofs.Runs.{ok-lead, ok-ascii, ok-tail}
 use Rattle.utf8.proofs.is_run.Goals as goal
+use Rattle.utf8.proofs.is_run.Goals.{then-k-eq0+then-b-ge128, then-k-eq0+else-b-ge128, else-k-eq0+else-b-lo}
 
-pub loop-i-init : goal.loop-i-init
-loop-i-init c = (omega arith, refl)
-
-pub loop-i-preserved-then-b-ge128 : goal.loop-i-preserved-then-b-ge128
-loop-i-preserved-then-b-ge128 c =
-    let loop-test = c.loop-i-test in
-    let if1 = c.if-k-eq0 in
-    let l = c.loop-i in
-    (omega arith, l.invariant.1 ∙ ok-lead _ l.i l.k l.lo l.hi loop-test.true if1.true ∙ rw (c.need_of-k.ensures, c.low_of-lo.ensures, c.high_of-hi.ensures) refl)
-
-pub loop-i-preserved-else-b-ge128 : goal.loop-i-preserved-else-b-ge128
-loop-i-preserved-else-b-ge128 c =
-    let l = c.loop-i in
-    (omega arith, l.invariant.1 ∙ ok-ascii _ l.i l.k l.lo l.hi c.loop-i-test.true c.if-k-eq0.true c.if-b-ge128.false)
-
-pub loop-i-preserved : goal.loop-i-preserved
-loop-i-preserved c =
-    let l = c.loop-i in
-    (omega arith, l.invariant.1 ∙ ok-tail _ l.i l.k l.lo l.hi c.loop-i-test.true true (omega arith) c.if-lo-b.true)
-
-pub returns-else-lo-b : goal.returns-else-lo-b
-returns-else-lo-b c =
-    let l = c.loop-i in
-    sym (l.invariant.1 ∙ ok-tail _ l.i l.k l.lo l.hi c.loop-i-test.true false (omega arith) c.if-lo-b.false)
-
-pub returns : goal.returns
-returns c = let l = c.loop-i in sym (l.invariant.1 ∙ ok_end _ l.i l.k l.lo l.hi c.loop-i-test.false)
+pub loop-b-preserved : goal.loop-b-preserved
+loop-b-preserved c =
+    let l = c.loop-b in
+    let t = c.loop-b-test.true in
+    elim c.if-k-eq0.branch [
+      | then-k-eq0+then-b-ge128 w ↦ rw (w.k-is, w.lo-is, w.hi-is, w.need_of-k.ensures, w.low_of-lo.ensures, w.high_of-hi.ensures) (l.invariant ∙ ok-lead _ l.b-index l.k l.lo l.hi t w.if-k-eq0.true)
+      | then-k-eq0+else-b-ge128 w ↦ rw (w.k-is, w.lo-is, w.hi-is) (l.invariant ∙ ok-ascii _ l.b-index l.k l.lo l.hi t w.if-k-eq0.true w.if-b-ge128.false)
+      | else-k-eq0+else-b-lo w ↦ rw (w.k-is, w.lo-is, w.hi-is) (l.invariant ∙ ok-tail _ l.b-index l.k l.lo l.hi t true (omega arith) (search (arith, w.if-b-lo.false)))
+    ]

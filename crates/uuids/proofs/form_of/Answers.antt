@@ -1,58 +1,63 @@
+use mathlib.Core.Path.{◌∙◌}
 use native.Mathlib.Omega.{arith}
 use Rattle.fixed.proofs.Numerals.{field-most}
 use Rattle.fixed.specs.Fields.{part}
-use Rattle.uuids.proofs.Forms.{form-length, form-wrong, form-right}
+use Rattle.uuids.proofs.Forms.{form-length, form-first, form-second, form-third, form-fourth, form-fifth, form-last, form-wrong, form-right}
 use Rattle.uuids.proofs.form_of.Goals as goal
 
 pub returns-then-s-ne36 : goal.returns-then-s-ne36
 returns-then-s-ne36 c = form-length _ c.if-s-ne36.true
 
+pub returns-in_err-first : goal.returns-in_err-first
+returns-in_err-first c = c.from_residual.ensures ∙ form-first c.args.s.now c.if-s-ne36.false c.in_err-first.ensures
+
+pub returns-in_err-second : goal.returns-in_err-second
+returns-in_err-second c = c.from_residual-in_err-second.ensures ∙ form-second c.args.s.now c.if-s-ne36.false c.in_err-second.ensures
+
+pub returns-in_err-third : goal.returns-in_err-third
+returns-in_err-third c = c.from_residual-in_err-third.ensures ∙ form-third c.args.s.now c.if-s-ne36.false c.in_err-third.ensures
+
+pub returns-in_err-fourth : goal.returns-in_err-fourth
+returns-in_err-fourth c = c.from_residual-in_err-fourth.ensures ∙ form-fourth c.args.s.now c.if-s-ne36.false c.in_err-fourth.ensures
+
+pub returns-in_err-fifth : goal.returns-in_err-fifth
+returns-in_err-fifth c = c.from_residual-in_err-fifth.ensures ∙ form-fifth c.args.s.now c.if-s-ne36.false c.in_err-fifth.ensures
+
+pub returns-in_err-last : goal.returns-in_err-last
+returns-in_err-last c = c.from_residual-in_err-last.ensures ∙ form-last c.args.s.now c.if-s-ne36.false c.in_err-last.ensures
+
 pub overflow_mul-result : goal.overflow_mul-result
 overflow_mul-result c =
-    let args = c.args in
-    let x = c.hexadecimal_at-second in
-    omega (arith, field-most 16 0xFFFF (part 9 4 args.s.now) x.result x.ensures)
+    let s = c.args.s.now in
+    let x = field-most 16 0xFFFF (part 9 4 s) _ c.in_ok-second.ensures in
+    omega arith
 
 pub overflow_add-result : goal.overflow_add-result
 overflow_add-result c =
     let s = c.args.s.now in
-    let x = c.hexadecimal_at-second in
-    let y = c.hexadecimal_at-third in
-    omega (arith, field-most 16 0xFFFF (part 9 4 s) x.result x.ensures, field-most 16 0xFFFF (part 14 4 s) y.result y.ensures)
+    let x = field-most 16 0xFFFF (part 9 4 s) _ c.in_ok-second.ensures in
+    let y = field-most 16 0xFFFF (part 14 4 s) _ c.in_ok-third.ensures in
+    omega arith
 
-pub overflow_mul-result-then-hyphens-groups : goal.overflow_mul-result-then-hyphens-groups
-overflow_mul-result-then-hyphens-groups c =
-    let args =
-    c.args in
-    let x = c.hexadecimal_at-fourth in
-    omega (arith, field-most 16 0xFFFF (part 19 4 args.s.now) x.result x.ensures)
+pub overflow_mul-result-then-s : goal.overflow_mul-result-then-s
+overflow_mul-result-then-s c =
+    let s = c.args.s.now in
+    let x = field-most 16 0xFFFF (part 19 4 s) _ c.in_ok-fourth.ensures in
+    omega arith
 
-pub overflow_add-result-then-hyphens-groups : goal.overflow_add-result-then-hyphens-groups
-overflow_add-result-then-hyphens-groups c = let s = c.args.s.now in let x = c.hexadecimal_at-fourth in
-    let y = c.hexadecimal_at-fifth in
-    omega (arith, field-most 16 0xFFFF (part 19 4 s) x.result x.ensures, field-most 16 0xFFFF (part 24 4 s) y.result y.ensures)
+pub overflow_add-result-then-s : goal.overflow_add-result-then-s
+overflow_add-result-then-s c =
+    let s = c.args.s.now in
+    let x = field-most 16 0xFFFF (part 19 4 s) _ c.in_ok-fourth.ensures in
+    let y = field-most 16 0xFFFF (part 24 4 s) _ c.in_ok-fifth.ensures in
+    omega arith
 
-pub returns-then-hyphens-groups : goal.returns-then-hyphens-groups
-returns-then-hyphens-groups c =
-    let at-hexadecimal-at3 = c in
-    let at-hexadecimal-at2 = at-hexadecimal-at3 in
-    let at-hexadecimal-at = at-hexadecimal-at2 in
-    let if1 = at-hexadecimal-at.if-s-ne36 in
-    let hexadecimal-at4 = c.hexadecimal_at-fourth in
-    let hexadecimal-at5 = c.hexadecimal_at-fifth in
-    let hexadecimal-at6 = c.hexadecimal_at-last in
-    let if2 = c.if-hyphens-groups in
-    form-right _ if1.false _ _ _ _ _ _ at-hexadecimal-at.hexadecimal_at-first.ensures at-hexadecimal-at2.hexadecimal_at-second.ensures
-    at-hexadecimal-at3.hexadecimal_at-third.ensures hexadecimal-at4.ensures hexadecimal-at5.ensures hexadecimal-at6.ensures if2.true
+pub returns-then-s : goal.returns-then-s
+returns-then-s c =
+    form-right c.args.s.now c.if-s-ne36.false _ _ _ _ _ _ c.in_ok-first.ensures c.in_ok-second.ensures c.in_ok-third.ensures c.in_ok-fourth.ensures c.in_ok-fifth.ensures c.in_ok-last.ensures
+    c.if-s.true
 
 pub returns : goal.returns
 returns c =
-    let if1 = c.if-s-ne36 in
-    let hexadecimal-at = c.hexadecimal_at-first in
-    let hexadecimal-at2 = c.hexadecimal_at-second in
-    let hexadecimal-at3 = c.hexadecimal_at-third in
-    let hexadecimal-at4 = c.hexadecimal_at-fourth in
-    let hexadecimal-at5 = c.hexadecimal_at-fifth in
-    let hexadecimal-at6 = c.hexadecimal_at-last in
-    form-wrong _ if1.false _ _ _ _ _ _ hexadecimal-at.ensures hexadecimal-at2.ensures hexadecimal-at3.ensures
-    hexadecimal-at4.ensures hexadecimal-at5.ensures hexadecimal-at6.ensures c.if-hyphens-groups.false
+    form-wrong c.args.s.now c.if-s-ne36.false _ _ _ _ _ _ c.in_ok-first.ensures c.in_ok-second.ensures c.in_ok-third.ensures c.in_ok-fourth.ensures c.in_ok-fifth.ensures c.in_ok-last.ensures
+    c.if-s.false

@@ -3,27 +3,13 @@ use Rattle.write_uuid.specs.Written.{uuid_text}
 use Rattle.list_text.proofs.Putting.{full-stays, lent-put, lent-full, lent-most}
 use Rattle.write_bytes.proofs.put_uuid.Goals as goal
 
-pub returns-in_default : goal.returns-in_default
-returns-in_default c = full-stays _ _ c.in_default.is
+pub returns-in_err-used : goal.returns-in_err-used
+returns-in_err-used c = rw c.from_residual.ensures (full-stays _ _ c.in_err-used.was)
 
-pub returns-in_default-put : goal.returns-in_default-put
-returns-in_default-put c =
-    let least = c.least-from in
-    let s = c in
-    let d = c.write_uuid-put in
-    lent-full d.result s.args.out.now (uuid_text s.args.w) _ _ _ least.ensures d.ensures.out_after d.ensures.result_value c.in-Put.is c.in_default-put.is
-
-pub overflow_add-result : goal.overflow_add-result
-overflow_add-result c =
-    let least = c.least-from in
-    let s = c in
-    let d = c.write_uuid-put in
-    let h = lent-most d.result s.args.out.now (uuid_text s.args.w) _ c.in-Put.used _ least.ensures d.ensures.out_after d.ensures.result_value _ c.in-Put-put.is in
-    omega arith
+pub returns-in_err-n : goal.returns-in_err-n
+returns-in_err-n c =
+    rw c.from_residual-in_err-n.ensures
+    (lent-full _ c.args.out.now (uuid_text c.args.w) _ _ _ c.min-from.ensures c.write_uuid.ensures.out_after c.write_uuid.ensures.result_value c.in_ok-used.was c.in_err-n.was)
 
 pub returns : goal.returns
-returns c =
-    let least = c.least-from in
-    let s = c in
-    let d = c.write_uuid-put in
-    lent-put d.result s.args.out.now (uuid_text s.args.w) _ _ _ least.ensures d.ensures.out_after d.ensures.result_value _ c.in-Put.is c.in-Put-put.is
+returns c = lent-put _ c.args.out.now (uuid_text c.args.w) _ _ _ c.min-from.ensures c.write_uuid.ensures.out_after c.write_uuid.ensures.result_value _ c.in_ok-used.was c.in_ok-n.was

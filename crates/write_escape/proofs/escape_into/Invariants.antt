@@ -1,11 +1,9 @@
+use Rattle.std.specs.Slice.Iter.{chunks_rest}
 use Rattle.names.proofs.of_area.Laying.{Laying}
 use Rattle.write_escape.specs.Escape.{escaped}
-use lib.ListN.{length, drop}
-use Prim.Native.Nat.{◌-◌, ◌≤◌}
 use Rattle.write_escape.proofs.escape_into.Given as goal
 
-abbrev pub invariant-loop-i : goal.invariant-loop-i
-invariant-loop-i l = (l.i ≤ length l.s) × Laying l.initial.out l.out l.k (escaped l.s) (escaped (drop l.i l.s))
-
-abbrev pub decreases-loop-i : goal.decreases-loop-i
-decreases-loop-i l = length l.s - l.i
+abbrev pub invariant-loop-block : goal.invariant-loop-block
+invariant-loop-block l =
+    (goal.iterator-loop-block).can_next l.block-iterator × (goal.iterator-loop-block).is_finite l.block-iterator
+    × Laying l.initial.out l.out l.k (escaped l.fn.s) (escaped (chunks_rest l.block-iterator))

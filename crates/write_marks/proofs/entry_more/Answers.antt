@@ -27,4 +27,4 @@ returns c =
     let form-behind = c.form_behind-form in
     let args = c.args in
     let shallow = sym is-too-deep.ensures ∙ if1.false in
-    entry-goes args.k args.to args.kind shallow _ _ form-behind.ensures c.level_behind-level.ensures _ c.in-Put.is
+    entry-goes args.k args.to args.kind shallow _ _ form-behind.ensures c.level_behind-level.ensures _ c.in-Some.is

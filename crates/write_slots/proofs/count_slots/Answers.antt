@@ -1,26 +1,22 @@
-use Rattle.write_slots.proofs.Counting.{counting-start, counting-done, counting_more, counting-pass}
 use mathlib.Core.Path.{sym, ◌∙◌}
 use native.Mathlib.Omega.{arith}
-use Prim.Native.Nat.{◌-◌}
+use Rattle.write_slots.proofs.Counting.{counting-start, counting-done, counting_more, counting-pass}
+use Rattle.write_slots.proofs.count_slots.Goals.{then-is_present, else-is_present}
 use Rattle.write_slots.proofs.count_slots.Goals as goal
 
-pub loop-i-init : goal.loop-i-init
-loop-i-init c = counting-start _ _
+pub loop-code-init : goal.loop-code-init
+loop-code-init c = counting-start _ _
 
 pub overflow_add-n : goal.overflow_add-n
-overflow_add-n c =
-    let loop = c.loop-i in
-    omega (arith, loop.invariant.most)
+overflow_add-n c = omega (arith, c.loop-code.invariant.most)
 
-pub loop-i-preserved-then-is_present : goal.loop-i-preserved-then-is_present
-loop-i-preserved-then-is_present c =
-    let loop = c.loop-i in
-    counting_more _ _ loop.invariant c.loop-i-test.true (sym c.is_present.ensures ∙ c.if-is_present.true)
-
-pub loop-i-preserved : goal.loop-i-preserved
-loop-i-preserved c =
-    let loop = c.loop-i in
-    counting-pass _ _ loop.invariant c.loop-i-test.true (sym c.is_present.ensures ∙ c.if-is_present.false)
+pub loop-code-preserved : goal.loop-code-preserved
+loop-code-preserved c =
+    let loop = c.loop-code in
+    elim c.if-is_present.branch [
+      | then-is_present w ↦ rw w.n-is (counting_more _ _ loop.invariant c.loop-code-test.true (sym c.is_present.ensures ∙ w.if-is_present.true))
+      | else-is_present w ↦ rw w.n-is (counting-pass _ _ loop.invariant c.loop-code-test.true (sym c.is_present.ensures ∙ w.if-is_present.false))
+    ]
 
 pub returns : goal.returns
-returns c = record { value = counting-done _ _ c.loop-i.invariant c.loop-i-test.false; upper_bound = omega (arith, c.loop-i.invariant.most, c.loop-i.invariant.fits) }
+returns c = record { value = counting-done _ _ c.loop-code.invariant c.loop-code-test.false; upper_bound = omega (arith, c.loop-code.invariant.most, c.loop-code.invariant.fits) }

@@ -1,9 +1,7 @@
 -- Items put one behind the other, as far as they have room: into the three areas of a table, or into one as XML. Definitions only.
-use Rattle.std.specs.Prelude.{ℕ, ◌+◌, ◌-◌, ◌*◌, ◌≡◌, List, [], ◌∷◌, ◌++◌, Bool, cond, ◌&&◌, length, take, drop, leb, ltb, eqb}
+use Rattle.std.specs.Prelude.{ℕ, ◌+◌, ◌-◌, ◌*◌, ◌≡◌, List, [], ◌∷◌, ◌++◌, Bool, cond, ◌&&◌, length, take, drop, leb, ltb, eqb, Option, Some, None}
 use Rattle.write_spelled.specs.of_area.Area.{zeros, laid}
 use Rattle.write_spelled.specs.of_area.Limits.{most_entries, most_bytes}
-use Rattle.write_spelled.specs.of_area.declared.Stored.{Stored}
-use Rattle.write_spelled.specs.of_area.declared.Stored.TheVariants.{Put, Full}
 use Rattle.write_spelled.specs.of_table.Kinds as kind
 use Rattle.write_table.specs.Laid.{Item, entry, pair, entry_words, pair_words}
 use Rattle.write_table.specs.inside.Forms as form
@@ -105,10 +103,10 @@ put_all none (i ∷ is) = none
 put_all (some h) (i ∷ is) = put_all (put h i) is
 put_all (xml h) (i ∷ is) = put_all (spell h i) is
 
--- ---- the areas in the code's terms: the form, how many elements are open, events, attributes and bytes in use, which is Full once
+-- ---- the areas in the code's terms: the form, how many elements are open, events, attributes and bytes in use, which is None once
 -- something didn't fit
 pub record Areas : Type 0 where
-  pub mark : Stored
+  pub mark : Option ℕ
   pub form : ℕ
   pub level : ℕ
   pub events : ℕ
@@ -117,12 +115,12 @@ pub record Areas : Type 0 where
   pub attribute_area : List ℕ
   pub byte_area : List ℕ
 
-abbrev pub held_by_of : Stored → Areas → Kept
-held_by_of (Put b) t =
+abbrev pub held_by_of : Option ℕ → Areas → Kept
+held_by_of (Some b) t =
     cond (eqb t.form form.table)
     (some (record { events = t.events; attributes = t.attributes; bytes = b; event_area = t.event_area; attribute_area = t.attribute_area; byte_area = t.byte_area }))
     (xml (record { form = t.form; level = t.level; bytes = b; byte_area = t.byte_area }))
-held_by_of Full t = none
+held_by_of None t = none
 
 abbrev pub held : Areas → Kept
 held t = held_by_of t.mark t

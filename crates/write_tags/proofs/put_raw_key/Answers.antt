@@ -1,12 +1,6 @@
 use Rattle.list_values.proofs.of_list_text.Putting.{other, more}
-use Rattle.write_tags.proofs.Tags.{key-table, key-xml}
+use Rattle.write_tags.proofs.Tags.{key-xml}
 use Rattle.write_tags.proofs.put_raw_key.Goals as goal
-
-pub returns-then-form-eq-TABLE : goal.returns-then-form-eq-TABLE
-returns-then-form-eq-TABLE c =
-    let args = c.args in
-    let if1 = c.if-form-eq-TABLE in
-    other c.put.ensures (key-table args.form args.key.now if1.true)
 
 pub returns : goal.returns
 returns c =

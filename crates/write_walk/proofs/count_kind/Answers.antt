@@ -1,89 +1,40 @@
-use Rattle.write_walk.proofs.Walking.{counting-start, counting-over, counting-end, counting_more, counting-pass}
-use Rattle.list_sums.proofs.Records.{stands-room}
+use Prim.Native.Nat.{◌+◌, ◌*◌}
+use mathlib.Core.Path.{◌≡◌, sym, ◌∙◌}
 use native.Mathlib.Omega.{arith}
-use mathlib.Core.Path.{sym, ◌∙◌}
-use Prim.Native.Nat.{◌-◌}
+use Rattle.write_walk.proofs.Walking.{none-behind, goes-on, counting-start, counting-left, counting-over, counting_more, counting-pass}
+use Rattle.write_walk.proofs.count_kind.Goals.{then-is_between, else-is_between}
 use Rattle.write_walk.proofs.count_kind.Goals as goal
 
-pub loop-end-init : goal.loop-end-init
-loop-end-init c = counting-start c.args.level c.args.k c.args.k _
+pub loop-i-init : goal.loop-i-init
+loop-i-init c = counting-start c.args.level c.args.k c.args.k _
 
-pub offset_bounds-words-at : goal.offset_bounds-words-at
-offset_bounds-words-at c = omega (arith, c.loop-end.invariant.fits)
-
-pub slice_bounds-stands_here-count : goal.slice_bounds-stands_here-count
-slice_bounds-stands_here-count c = omega (arith, c.loop-end.invariant.fits)
-
-pub slice_bounds-stands_here-start : goal.slice_bounds-stands_here-start
-slice_bounds-stands_here-start c = omega (arith, c.loop-end.invariant.fits)
-
-pub overflow_add-end : goal.overflow_add-end
-overflow_add-end c =
-    let args = c.args in
-    omega (arith, stands-room args.words.now c.loop-end.at (sym c.stands_here.ensures ∙ c.loop-end-test.true))
-
-pub offset_bounds-words-at-in-loop-end : goal.offset_bounds-words-at-in-loop-end
-offset_bounds-words-at-in-loop-end c =
-    let args = c.args in
-    omega (arith, stands-room args.words.now c.loop-end.at (sym c.stands_here.ensures ∙ c.loop-end-test.true))
-
-pub slice_bounds-field-end : goal.slice_bounds-field-end
-slice_bounds-field-end c =
-    let args = c.args in
-    omega (arith, stands-room args.words.now c.loop-end.at (sym c.stands_here.ensures ∙ c.loop-end-test.true))
-
-pub returns-then-ends : goal.returns-then-ends
-returns-then-ends c =
-    let args = c.args in
-    let loop = c.loop-end in
-    let stands_here = c.stands_here in
-    let if1 = c.loop-end-test in record {
-      value = counting-end args.level args.k args.k args.words.now loop.invariant (sym stands_here.ensures ∙ if1.true)
-          (rw c.field-here.ensures at (sym c.ends.ensures ∙ c.if-ends.true));
-      result_in_bounds = omega (arith, loop.invariant.most, loop.invariant.fits);
+pub returns-then-here-ends : goal.returns-then-here-ends
+returns-then-here-ends c =
+    let a = c.args in
+    let g = c.loop-i.invariant in record {
+      value = counting-left a.level a.words.now (c.loop-i.i * 32) c.field-here.result c.ends.result (omega (arith, c.loop-i-test.true)) c.field-here.ensures c.ends.ensures
+          a.k a.k c.loop-i.n g c.if-here-ends.true;
+      result_in_bounds = omega (arith, g.most, g.fits);
     }
 
 pub overflow_add-n : goal.overflow_add-n
 overflow_add-n c =
-    let loop = c.loop-end in
-    omega (arith, loop.invariant.most, loop.invariant.fits)
+    let g = c.loop-i.invariant in omega (arith, g.most, g.fits)
 
-pub loop-end-smaller-then-is_between : goal.loop-end-smaller-then-is_between
-loop-end-smaller-then-is_between c =
-    let args = c.args in
-    let loop = c.loop-end in
-    let stands_here = c.stands_here in
-    let if1 = c.loop-end-test in
-    omega (arith, stands-room args.words.now loop.at (sym stands_here.ensures ∙ if1.true))
-
-pub loop-end-preserved-then-is_between : goal.loop-end-preserved-then-is_between
-loop-end-preserved-then-is_between c =
-    let args = c.args in
-    let loop = c.loop-end in
-    let stands_here = c.stands_here in
-    let if1 = c.loop-end-test in
-    let field = c.field-here in
-    counting_more args.level args.k args.k args.words.now loop.invariant (sym stands_here.ensures ∙ if1.true)
-    (rw field.ensures at (sym c.ends.ensures ∙ c.if-ends.false)) (rw field.ensures at (sym c.is_between.ensures ∙ c.if-is_between.true))
-
-pub loop-end-smaller : goal.loop-end-smaller
-loop-end-smaller c =
-    let args = c.args in
-    let loop = c.loop-end in
-    let stands_here = c.stands_here in
-    let if1 = c.loop-end-test in
-    omega (arith, stands-room args.words.now loop.at (sym stands_here.ensures ∙ if1.true))
-
-pub loop-end-preserved : goal.loop-end-preserved
-loop-end-preserved c =
-    let args = c.args in
-    let loop = c.loop-end in
-    let stands_here = c.stands_here in
-    let if1 = c.loop-end-test in
-    let field = c.field-here in
-    counting-pass args.level args.k args.k args.words.now loop.invariant (sym stands_here.ensures ∙ if1.true)
-    (rw field.ensures at (sym c.ends.ensures ∙ c.if-ends.false)) (rw field.ensures at (sym c.is_between.ensures ∙ c.if-is_between.false))
+pub loop-i-preserved : goal.loop-i-preserved
+loop-i-preserved c =
+    let a = c.args in
+    let there : c.loop-i.i * 32 + 32 ≡ (c.loop-i.i + 1) * 32 = omega arith in
+    let on = goes-on a.level a.words.now (c.loop-i.i * 32) c.field-here.result c.ends.result (omega (arith, c.loop-i-test.true)) c.field-here.ensures c.ends.ensures c.if-here-ends.false in
+    elim c.if-is_between.branch [
+      | then-is_between w ↦ rw (w.n-is, sym there) (counting_more a.level a.k a.k a.words.now c.loop-i.invariant on.0 (rw c.field-here.ensures at on.1)
+          (rw c.field-here.ensures at (sym c.is_between.ensures ∙ w.if-is_between.true)))
+      | else-is_between w ↦ rw (w.n-is, sym there) (counting-pass a.level a.k a.k a.words.now c.loop-i.invariant on.0 (rw c.field-here.ensures at on.1)
+          (rw c.field-here.ensures at (sym c.is_between.ensures ∙ w.if-is_between.false)))
+    ]
 
 pub returns : goal.returns
 returns c =
-    let args = c.args in record { value = counting-over args.level args.k args.k args.words.now c.loop-end.invariant (sym c.stands_here.ensures ∙ c.loop-end-test.false); result_in_bounds = omega (arith, c.loop-end.invariant.most, c.loop-end.invariant.fits) }
+    let a = c.args in
+    let g = c.loop-i.invariant in
+    record { value = counting-over a.level a.k a.k a.words.now g (none-behind a.words.now (c.loop-i.i * 32) (omega (arith, c.loop-i-test.false))); result_in_bounds = omega (arith, g.most, g.fits) }

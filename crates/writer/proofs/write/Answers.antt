@@ -85,4 +85,4 @@ returns c =
     let b = length args.bytes.now in
     let l = sym at-is-layout.is_layout.ensures ∙ if1.false in
     let both = written-whole words text e a b c.no_refusal.ensures (whole-writing words text e a b l at-clear-table.clear_table.ensures.events_after
-    at-clear-table.clear_table.ensures.attributes_after at-clear-table.clear_table.ensures.bytes_after at-put-tree.put_tree-k.ensures _ c.in-Put.is) in record { value = both.0; events_after = both.1.0; attributes_after = both.1.1.0; bytes_after = both.1.1.1 }
+    at-clear-table.clear_table.ensures.attributes_after at-clear-table.clear_table.ensures.bytes_after at-put-tree.put_tree-k.ensures _ c.in-Some.is) in record { value = both.0; events_after = both.1.0; attributes_after = both.1.1.0; bytes_after = both.1.1.1 }

@@ -8,7 +8,7 @@ returns-after-p-eq0 c =
     let p₂ = p₁ in
     let p₃ = p₂ in
     let a = p₃.args in
-    taken a.st a.b p₂.follow.ensures p₁.in-Takes.is (elim c.if-p-eq0.branch [ then-p-eq0 w ↦ when_none-left a.st.mode w.if-p-eq0.true w.s-is | else-p-eq0 w ↦ when_some-left a.st.then w.if-p-eq0.false w.s-is ])
+    taken a.st a.b p₂.follow.ensures p₁.in-Some.is (elim c.if-p-eq0.branch [ then-p-eq0 w ↦ when_none-left a.st.mode w.if-p-eq0.true w.s-is | else-p-eq0 w ↦ when_some-left a.st.then w.if-p-eq0.false w.s-is ])
 
-pub returns-in-Refuses : goal.returns-in-Refuses
-returns-in-Refuses c = untaken c.args.st c.args.b c.follow.ensures c.in-Refuses.is
+pub returns-in-None : goal.returns-in-None
+returns-in-None c = untaken c.args.st c.args.b c.follow.ensures c.in-None.is

@@ -1,3 +1,4 @@
+use mathlib.Core.Path.{◌∙◌}
 use Rattle.xml_ends.proofs.Doctype.{no-doctype, doctype}
 use Rattle.xml_ends.proofs.is_doctype.Goals as goal
 
@@ -5,6 +6,4 @@ pub returns-then-source-at : goal.returns-then-source-at
 returns-then-source-at c = no-doctype c.args.source.now c.args.at c.if-source-at.true
 
 pub returns : goal.returns
-returns c =
-    let a = c.args in
-    doctype a.source.now a.at c.if-source-at.false
+returns c = c.starts_with.ensures.value ∙ doctype c.args.source.now c.args.at

@@ -4,7 +4,7 @@ use Rattle.xml_part.proofs.lead.Goals as goal
 
 pub returns-then-b-lt224 : goal.returns-then-b-lt224
 unfolding lead_of
-returns-then-b-lt224 c = let b = c.args.b in rw (lt-ltb b 0xE0 c.if-b-lt224.true, c.less.ensures)
+returns-then-b-lt224 c = let b = c.args.b in rw (lt-ltb b 0xE0 c.if-b-lt224.true, c.saturating_sub.ensures)
 
 pub returns-then-b-lt240 : goal.returns-then-b-lt240
 unfolding lead_of

@@ -1,7 +1,6 @@
 use Rattle.xml_skip.proofs.Mild.{pass-run}
 use Rattle.xml_skip.proofs.Passing.{pass-byte, pass-then}
 use native.Mathlib.Omega.{arith}
-use Prim.Native.Nat.{◌-◌}
 use Rattle.xml_skip.proofs.skip.Goals as goal
 
 pub loop-at-init : goal.loop-at-init

@@ -1,9 +1,10 @@
 -- What the code does to its registers, on plain numbers and lists: what each contract says. Definitions only.
-use Rattle.std.specs.Prelude.{ℕ, ◌+◌, ◌-◌, ◌*◌, List, ◌∷◌, ◌++◌, cond, ltb, eqb, get_or}
+use Rattle.std.specs.Prelude.{ℕ, ◌+◌, ◌-◌, ◌*◌, List, ◌∷◌, ◌++◌, cond, ltb, eqb, get_or, Option, Some, None}
 use Rattle.xml_stack.specs.of_names.Bytes.{bytes}
 use Rattle.xml_stack.specs.of_xml_chars.Chars.{lower}
-use Rattle.xml_state.specs.declared.Followed.{Followed}
-use Rattle.xml_state.specs.declared.Followed.TheVariants.{Takes, Refuses}
+use Rattle.xml_state.specs.declared.Part.{Part}
+use Rattle.xml_state.specs.declared.class.Class.{Class}
+use Rattle.xml_state.specs.declared.class.Class.TheVariants.{Any, Start, Name}
 use Rattle.xml_state.specs.inside.Parts.{lead_of, follow_of}
 use Rattle.xml_state.specs.declared.Move.{Move}
 use Rattle.xml_state.specs.inside.Rows as row
@@ -13,9 +14,9 @@ use Rattle.xml_state.specs.declared.Step.{Step}
 use Rattle.xml_state.specs.declared.Step.TheVariants.{Go, Bad}
 
 -- ---- a further byte of a character
-abbrev pub further_by : Followed → State → Step
-further_by (Takes p) s = Go (with_part p (in_mode (cond (eqb p.left 0) s.then s.mode) s))
-further_by Refuses s = Bad
+abbrev pub further_by : Option Part → State → Step
+further_by (Some p) s = Go (with_part p (in_mode (cond (eqb p.left 0) s.then s.mode) s))
+further_by None s = Bad
 
 unfoldable pub further_of : State → ℕ → Step
 further_of s b = further_by (follow_of s.part b) s
@@ -63,7 +64,7 @@ unfoldable pub closing_of : State → ℕ → ℕ → List ℕ → State
 closing_of s m at events = with_name (get_or events (record_at s.top + 1) 0) (get_or events (record_at s.top + 2) 0) (at_mark_of (at + 1) (in_mode m s))
 
 -- ---- what has more than one byte begins
-abbrev pub led_of : State → ℕ → ℕ → ℕ → State
+abbrev pub led_of : State → ℕ → Class → ℕ → State
 led_of s m class b = with_part (lead_of class b) (to_then m (in_mode row.within s))
 
 -- where the fixed bytes of an act begin
@@ -77,10 +78,10 @@ spelling_of s m a = at_word (word_of a) (to_then m (in_mode row.spelled s))
 
 unfoldable pub opened_of : State → Move → ℕ → ℕ → State
 opened_of s m b at =
-    cond (eqb m.act row.lead_any) (led_of s m.mode 0 b)
-    (cond (eqb m.act row.lead_start) (led_of s m.mode 1 b)
-    (cond (eqb m.act row.lead_here) (led_of (at_mark_of at (in_mode m.mode s)) m.mode 1 b)
-    (cond (eqb m.act row.lead_name) (led_of s m.mode 2 b) (spelling_of s m.mode m.act))))
+    cond (eqb m.act row.lead_any) (led_of s m.mode Any b)
+    (cond (eqb m.act row.lead_start) (led_of s m.mode Start b)
+    (cond (eqb m.act row.lead_here) (led_of (at_mark_of at (in_mode m.mode s)) m.mode Start b)
+    (cond (eqb m.act row.lead_name) (led_of s m.mode Name b) (spelling_of s m.mode m.act))))
 
 -- ---- the acts that put no record
 unfoldable pub acted_of : State → Move → ℕ → ℕ → List ℕ → List ℕ → Step

@@ -1,6 +1,7 @@
 -- The code's registers with one of them changed. Definitions only.
 use Rattle.std.specs.Prelude.{ℕ}
 use Rattle.xml_state.specs.declared.Part.{Part}
+use Rattle.xml_state.specs.declared.class.Class.TheVariants.{Any}
 use Rattle.xml_state.specs.inside.Parts.{lead_of}
 use Rattle.xml_state.specs.inside.Rows as row
 use Rattle.xml_state.specs.declared.State.{State}
@@ -42,4 +43,4 @@ abbrev pub with_part : Part → State → State
 with_part p s = record { mode = s.mode; home = s.home; then = s.then; word = s.word; mark = s.mark; name = s.name; long = s.long; key = s.key; wide = s.wide; first = s.first; kept = s.kept; top = s.top; count = s.count; part = p }
 
 abbrev pub beginning : State
-beginning = record { mode = row.begin; home = row.text_before; then = 0; word = 0; mark = 0; name = 0; long = 0; key = 0; wide = 0; first = 0; kept = 0; top = 0; count = 0; part = lead_of 0 0 }
+beginning = record { mode = row.begin; home = row.text_before; then = 0; word = 0; mark = 0; name = 0; long = 0; key = 0; wide = 0; first = 0; kept = 0; top = 0; count = 0; part = lead_of Any 0 }

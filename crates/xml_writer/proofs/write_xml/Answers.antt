@@ -43,4 +43,4 @@ returns c =
     let least = c.least-used in
     let put-tree = c.put_tree-k in
     let both = written-whole args.records.now args.text.now (length args.out.now) c.no_refusal.ensures (whole-call args.records.now args.text.now (length args.out.now)
-    (sym is-layout.ensures ∙ if1.false) clear.new.out clear.ensures least.result least.ensures put-tree.ensures _ c.in-Put.is) in record { value = both.0; out_after = both.1 }
+    (sym is-layout.ensures ∙ if1.false) clear.new.out clear.ensures least.result least.ensures put-tree.ensures _ c.in-Some.is) in record { value = both.0; out_after = both.1 }

@@ -16,5 +16,5 @@ pub returns : goal.returns
 returns c =
     let write-time = c.write_time-stored in
     let b = c.args in
-    let e = sym (ap (stored_answer cause.OutputFull) c.in-Put.is) ∙ write-time.ensures.result_value in
+    let e = sym (ap (stored_answer cause.OutputFull) c.in-Some.is) ∙ write-time.ensures.result_value in
     record { value = ap count e; out_after = write-time.ensures.out_after ∙ whole-put b.out.now (written_time b.secs b.nanos) _ e }

@@ -23,29 +23,29 @@ returns-in_default c =
     let if1 = c.if-s-eq0 in
     let if2 = c.if-b-ne38 in
     let a = c.args in
-    let e = sym (ap ref_at (rest_part a.s.now 1)) ∙ sym c.ref_at-r.ensures ∙ c.in_default.is in
+    let e = sym (ap ref_at (rest_part a.s.now 1)) ∙ sym c.ref_at.ensures ∙ c.in_default.is in
     let q = piece-bad a.s.now (omega (arith, if1.false)) if2.false e in
     pieced_on c.byte_piece-in_default.ensures (sym (ap (cleaned a.clean) q.0)) (sym q.1)
 
-pub overflow_add-width : goal.overflow_add-width
-overflow_add-width c =
+pub overflow_add-result : goal.overflow_add-result
+overflow_add-result c =
     let if1 = c.if-s-eq0 in
-    let ref-at = c.ref_at-r in
+    let ref-at = c.ref_at in
     let a = c.args in
-    let e = sym (ap ref_at (rest_part a.s.now 1)) ∙ sym ref-at.ensures ∙ c.in-Is.is in
-    omega (arith, ref-room a.s.now (omega (arith, if1.false)) c.in-Is.c c.in-Is.w e)
+    let e = sym (ap ref_at (rest_part a.s.now 1)) ∙ sym ref-at.ensures ∙ c.in-Some.is in
+    omega (arith, ref-room a.s.now (omega (arith, if1.false)) c.in-Some.c c.in-Some.w e)
 
 pub returns : goal.returns
 returns c =
     let if1 = c.if-s-eq0 in
     let if2 = c.if-b-ne38 in
-    let ref-at = c.ref_at-r in
+    let ref-at = c.ref_at in
     let a = c.args in
-    let e = sym (ap ref_at (rest_part a.s.now 1)) ∙ sym ref-at.ensures ∙ c.in-Is.is in
-    let q = piece-char a.s.now (omega (arith, if1.false)) c.in-Is.c c.in-Is.w if2.false e in
-    let d = coded-front c.in-Is.c c.encode_of-e.ensures in
+    let e = sym (ap ref_at (rest_part a.s.now 1)) ∙ sym ref-at.ensures ∙ c.in-Some.is in
+    let q = piece-char a.s.now (omega (arith, if1.false)) c.in-Some.c c.in-Some.w if2.false e in
+    let d = coded-front c.in-Some.c c.encode_of-e.ensures in
     record {
       fits = omega (arith, d.0, d.1);
-      front = d.2 ∙ sym (ap (cleaned a.clean) q.0 ∙ cleaned-encode a.clean c.in-Is.c (ref-found _ c.in-Is.c c.in-Is.w e).char);
+      front = d.2 ∙ sym (ap (cleaned a.clean) q.0 ∙ cleaned-encode a.clean c.in-Some.c (ref-found _ c.in-Some.c c.in-Some.w e).char);
       takes = sym q.1;
     }

@@ -2,7 +2,7 @@ use Prim.Native.Nat.{◌+◌}
 use Rattle.timestamp.proofs.Fractions.{point-run, fraction-none, fraction-empty, fraction-long, fraction-small, fraction-right}
 use Rattle.timestamp.specs.Timestamp.{digit_run}
 use Rattle.names.proofs.of_area.Parts.{rest_part}
-use mathlib.Core.Path.{ap, sym, ◌∙◌}
+use mathlib.Core.Path.{ap, ◌∙◌}
 use native.Mathlib.Omega.{arith}
 use Rattle.timestamp.proofs.parts.fraction_of.Goals as goal
 
@@ -21,19 +21,19 @@ pub slice_bounds-billionths_of-end : goal.slice_bounds-billionths_of-end
 slice_bounds-billionths_of-end c = let t = c.args.t.now in
     omega (arith, c.digit_run-n.ensures ∙ ap digit_run (rest_part t 1), point-run t c.if-t-ne46.false)
 
-pub returns-in_default : goal.returns-in_default
-returns-in_default c =
+pub returns-in_err-nanos : goal.returns-in_err-nanos
+returns-in_err-nanos c =
     let if1 = c.if-t-ne46 in
     let digit-run = c.digit_run-n in
-    let t = c.args.t.now in fraction-long t if1.false _
-    (digit-run.ensures ∙ ap digit_run (rest_part t 1)) (digit-run.result + 1) (omega arith) (sym c.in_default.is ∙ c.billionths_of-f.ensures)
+    let t = c.args.t.now in c.from_residual.ensures ∙ fraction-long t if1.false _
+    (digit-run.ensures ∙ ap digit_run (rest_part t 1)) (digit-run.result + 1) (omega arith) c.in_err-nanos.ensures
 
 pub overflow_cast-result : goal.overflow_cast-result
 overflow_cast-result c =
     let if1 = c.if-t-ne46 in
     let digit-run = c.digit_run-n in
     let t = c.args.t.now in let k = fraction-small t if1.false _
-    (digit-run.ensures ∙ ap digit_run (rest_part t 1)) (digit-run.result + 1) (omega arith) _ (sym c.in-Is.is ∙ c.billionths_of-f.ensures) in omega arith
+    (digit-run.ensures ∙ ap digit_run (rest_part t 1)) (digit-run.result + 1) (omega arith) _ c.in_ok-nanos.ensures in omega arith
 
 pub returns : goal.returns
 returns c =
@@ -41,4 +41,4 @@ returns c =
     let digit-run = c.digit_run-n in
     let if2 = c.if-n-lt1 in
     let t = c.args.t.now in fraction-right t if1.false _
-    (digit-run.ensures ∙ ap digit_run (rest_part t 1)) (digit-run.result + 1) (omega arith) _ (sym c.in-Is.is ∙ c.billionths_of-f.ensures) if2.false
+    (digit-run.ensures ∙ ap digit_run (rest_part t 1)) (digit-run.result + 1) (omega arith) _ c.in_ok-nanos.ensures if2.false

@@ -1,5 +1,0 @@
-use mathlib.Core.Path.{refl}
-use Rattle.build_fields.proofs.has_outputs.Goals as goal
-
-pub returns : goal.returns
-returns c = rw c.is_run.ensures refl

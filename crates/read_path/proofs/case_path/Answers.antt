@@ -1,6 +1,0 @@
-use native.Mathlib.Omega.{arith}
-use Rattle.read_path.proofs.Leading.{leads-with}
-use Rattle.read_path.proofs.case_path.Goals as goal
-
-pub returns : goal.returns
-returns c = leads-with c.suite_path.ensures c.with.ensures c.element_of.ensures (omega arith)

@@ -1,7 +1,0 @@
-use Rattle.read_place.specs.Marks.{marks_after}
-use mathlib.Core.Path.{refl}
-use Rattle.read_place.proofs.at_case.Goals as goal
-
-pub returns : goal.returns
-unfolding marks_after
-returns c = rw c.more.ensures refl
