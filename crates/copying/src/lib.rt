@@ -1,4 +1,5 @@
-// Texts put at the front of an area in runs of sixteen, eight or four bytes: a copy whose length the compiler knows is no call.
+// Texts put at the front of an area in runs. Sixteen, eight or four bytes go by way of an array of their own, which nothing else can
+// reach: so the compiler moves them at once, where it can't know that two slices don't overlap.
 #![tactic(auto)]
 
 ghost use Rattle.std.specs.Prelude.{◌≡◌, ◌+◌, ◌≤◌, length, take};
@@ -16,12 +17,14 @@ fn copy_each(out: &mut [u8], s: &[u8])
     }
 }
 
-// The first N bytes, which the compiler moves at once.
+// The first N bytes.
 fn copy_first<const N: usize>(out: &mut [u8], s: &[u8])
     requires { (N ≤ length s.now) × (N ≤ length out.old) }
     ensures { out.new ≡ laid out.old (take N s.now) }
 {
-    out[..N].copy_from_slice(&s[..N]);
+    let mut room = [0u8; N];
+    room.copy_from_slice(&s[..N]);
+    out[..N].copy_from_slice(&room);
 }
 
 // The first N bytes and the last N, which together are all.
