@@ -2,6 +2,7 @@
 use Prim.Native.Nat.{ℕ, zero, suc, ◌+◌, ◌≤◌, ◌<◌, min}
 use mathlib.Core.Path.{◌≡◌, refl, sym, ap, ◌∙◌}
 use mathlib.Core.List.{List, [], ◌∷◌, ◌++◌, append_assoc}
+use mathlib.Core.Bool.{Bool, true, false, not, ◌&&◌, true≢false}
 use native.Mathlib.Decide.{dec_le}
 use native.Mathlib.Nat.{min-eq_left, min-eq_right, min-le_right}
 use native.Mathlib.Numerals.{add-one}
@@ -14,8 +15,8 @@ use Rattle.explain_element.specs.of_refusal.Refusal.{filler}
 use Rattle.explain_element.specs.of_refusal.declared.PathElement.{PathElement}
 use Rattle.explain_element.specs.of_refusal.declared.Path.{Path}
 use Rattle.explain_element.specs.of_names.Bytes.{bytes}
-use Rattle.explain_element.specs.of_list_text.inside.Behind.{filled, Puts}
-use Rattle.explain_element.proofs.of_list_text.Putting.{Coming, coming-start, coming_on, coming_puts, coming-done}
+use Rattle.explain_element.specs.of_list_text.inside.Behind.{filled, is_full, Puts}
+use Rattle.explain_element.proofs.of_list_text.Putting.{Coming, coming-start, coming_on, coming_puts, coming-done, coming-stop}
 use Rattle.explain_element.specs.of_explain_text.Explanation.{six, element_text, elements_text, path_text}
 use Rattle.explain_place.specs.inside.Marks.{mark_at}
 
@@ -91,6 +92,10 @@ module _ (events attributes source : List ℕ) where
     rest_over : n ≤ i → rest es n i ≡ []
     unfolding elements_text
     rest_over h = ap (elements_text events attributes source (mark_at i)) (over es n m i h)
+
+    -- there is no room for more
+    pub walking-full : (a : Bool) → a ≡ not (is_full k) → a ≡ false → Puts (filled k₀ out₀) (rest es n 0) (filled k out)
+    walking-full a p e = coming-stop k true g.coming (ap (λ (x : Bool). x && true) (sym p ∙ e)) (λ z. absurd (true≢false z))
 
     pub walking-done : n ≤ i → Puts (filled k₀ out₀) (rest es n 0) (filled k out)
     walking-done h = coming-done (coming_on g.coming (rest_over h))

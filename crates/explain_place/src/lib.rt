@@ -8,7 +8,7 @@ ghost use Rattle.explain_place.specs.inside.Marks.{mark_at};
 
 use explain_element::put_element;
 use explain_element::the_area::least;
-use explain_element::the_list_text::{put, put_decimal};
+use explain_element::the_list_text::{is_open, put, put_decimal};
 use explain_element::the_refusal::{NOWHERE, Path, PathElement};
 
 // The element with i before it.
@@ -46,6 +46,9 @@ pub fn put_path(
     let n = least(path.len, 6);
     let mut mark = k;
     for i in 0..n {
+        if !is_open(mark) {
+            return mark;
+        }
         mark = put_step(out, mark, events, attributes, source, i, elements[i]);
     }
     mark

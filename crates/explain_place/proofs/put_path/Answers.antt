@@ -1,5 +1,5 @@
 use Rattle.explain_element.proofs.of_list_text.Putting.{other}
-use Rattle.explain_place.proofs.Walking.{at_most, walking_start, walking-more, walking-done, whole-path}
+use Rattle.explain_place.proofs.Walking.{at_most, walking_start, walking-more, walking-full, walking-done, whole-path}
 use Rattle.explain_place.proofs.put_path.Goals as goal
 
 pub loop-i-init : goal.loop-i-init
@@ -11,6 +11,12 @@ pub loop-i-preserved : goal.loop-i-preserved
 loop-i-preserved c =
     let args = c.args in
     walking-more args.events.now args.attributes.now args.source.now c.loop-i.invariant (at_most args.path.len c.least-n.result c.least-n.ensures) c.loop-i-test.true c.put_step-mark.ensures
+
+pub returns-then-not-is_open : goal.returns-then-not-is_open
+returns-then-not-is_open c =
+    let args = c.args in
+    other (walking-full args.events.now args.attributes.now args.source.now c.loop-i.invariant (at_most args.path.len c.least-n.result c.least-n.ensures) c.is_open.result c.is_open.ensures c.if-not-is_open.true)
+    (whole-path args.events.now args.attributes.now args.source.now args.path c.least-n.result c.least-n.ensures)
 
 pub returns : goal.returns
 returns c =
