@@ -18,7 +18,7 @@ use Rattle.tree_counts.proofs.Adding.{Within, within as is_Within, within-counts
 use Rattle.tree_counts.proofs.Order.{disabled-added}
 use Rattle.sheet_sums.specs.Sheet.{no_counts, sum_of, sheet_of, release_sheet}
 use Rattle.sheet_sums.specs.declared.Sheet.{Sheet}
-use Rattle.std.specs.Prelude.{Option, Some, None}
+use Rattle.std.specs.Prelude.{Result, Ok, Err}
 use Rattle.sheet_sums.specs.inside.Running.{taken_of, begun, step_of, totalled, onward, within, finished}
 
 -- ---- a step of the code
@@ -26,29 +26,35 @@ abbrev is_ok : Verdict → ℕ
 is_ok Accepted = 1
 is_ok Refused = 0
 
-steps_on : (s : Counts) (a : Outcome Counts) (d : Counted) → d ≡ counted_from s a → d.verdict ≡ Accepted → Some d.counts ≡ step_of a
-steps_on s (accepted n) d e v = ap (λ (x : Counted). Some x.counts) e
+abbrev ok_of : Counted → Result Counts Counts
+ok_of d = Ok d.counts
+
+abbrev err_of : Counted → Result Counts Counts
+err_of d = Err d.counts
+
+steps_on : (s : Counts) (a : Outcome Counts) (d : Counted) → d ≡ counted_from s a → d.verdict ≡ Accepted → ◌≡◌ {A = Result Counts Counts} (Ok d.counts) (step_of s a)
+steps_on s (accepted n) d e v = ap ok_of e
 steps_on s (refused r) d e v = absurd (omega (arith, ap is_ok (sym (ap (λ (x : Counted). x.verdict) e) ∙ v)))
 
-steps-out : (s : Counts) (a : Outcome Counts) (d : Counted) → d ≡ counted_from s a → d.verdict ≡ Refused → ◌≡◌ {A = Option Counts} None (step_of a)
-steps-out s (refused r) d e v = refl
+steps-out : (s : Counts) (a : Outcome Counts) (d : Counted) → d ≡ counted_from s a → d.verdict ≡ Refused → ◌≡◌ {A = Result Counts Counts} (Err d.counts) (step_of s a)
+steps-out s (refused r) d e v = ap err_of e
 steps-out s (accepted n) d e v = absurd (omega (arith, ap is_ok (sym (ap (λ (x : Counted). x.verdict) e) ∙ v)))
 
-module _ (t : Option Counts) (s c : Counts) (d : Counted) (f : t ≡ Some s) (e : d ≡ counted_from s (with_suite s c)) where
-  pub added-on : d.verdict ≡ Accepted → Some d.counts ≡ totalled t c
+module _ (t : Result Counts Counts) (s c : Counts) (d : Counted) (f : t ≡ Ok s) (e : d ≡ counted_from s (with_suite s c)) where
+  pub added-on : d.verdict ≡ Accepted → ok_of d ≡ totalled t c
   unfolding totalled
   added-on v = rw f (steps_on s (with_suite s c) d e v)
 
-  pub added_out : d.verdict ≡ Refused → None ≡ totalled t c
+  pub added_out : d.verdict ≡ Refused → err_of d ≡ totalled t c
   unfolding totalled
   added_out v = rw f (steps-out s (with_suite s c) d e v)
 
-pub added_none : (t : Option Counts) (c : Counts) → t ≡ None → None ≡ totalled t c
+pub added_none : (t : Result Counts Counts) (s c : Counts) → t ≡ Err s → ◌≡◌ {A = Result Counts Counts} (Err s) (totalled t c)
 unfolding totalled
-added_none t c f = rw f refl
+added_none t s c f = rw f refl
 
 -- ---- one report more
-pub one_more : (t : Option Counts) (cs : List Counts) (i : ℕ) → i < length cs → onward t (take (suc i) cs) ≡ totalled (onward t (take i cs)) (get_or cs i no_counts)
+pub one_more : (t : Result Counts Counts) (cs : List Counts) (i : ℕ) → i < length cs → onward t (take (suc i) cs) ≡ totalled (onward t (take i cs)) (get_or cs i no_counts)
 one_more t [] i l = absurd (not-suc-le-zero l)
 one_more t (c ∷ cs) zero l = refl
 one_more t (c ∷ cs) (suc i) l = one_more (totalled t c) cs i (le_of_suc-le-suc l)
@@ -85,10 +91,10 @@ less-from : (s : Counts) (cs : List Counts) → Kept s → Within (sum_from s cs
 less-from s [] k w = w
 less-from s (c ∷ cs) k w = less s c k (less-from (added s c) cs (added-kept s c) w)
 
-stuck : (cs : List Counts) → onward None cs ≡ None
+stuck : (s : Counts) (cs : List Counts) → onward (Err s) cs ≡ Err s
 unfolding totalled
-stuck [] = refl
-stuck (c ∷ cs) = stuck cs
+stuck s [] = refl
+stuck s (c ∷ cs) = stuck s cs
 
 abbrev pub limited : Counts → Outcome Sheet
 limited s = cond (are_counts s) (accepted (sheet_of s)) (refused (late cause.CountLimit))
@@ -98,13 +104,13 @@ past s true e f = absurd (f (is_Within s e))
 past s false e f = ap (λ (b : Bool). cond b (accepted (sheet_of s)) (refused (late cause.CountLimit))) (sym e)
 
 -- one step from sums that fit
-first_on : (s c : Counts) → are_counts (added s c) ≡ true → totalled (Some s) c ≡ Some (added s c)
+first_on : (s c : Counts) → are_counts (added s c) ≡ true → totalled (Ok s) c ≡ Ok (added s c)
 unfolding totalled
-first_on s c e = ap step_of (adding s c e)
+first_on s c e = ap (step_of s) (adding s c e)
 
-first_out : (s c : Counts) → are_counts (added s c) ≡ false → totalled (Some s) c ≡ None
+first_out : (s c : Counts) → are_counts (added s c) ≡ false → totalled (Ok s) c ≡ Err s
 unfolding totalled
-first_out s c e = ap step_of (refusing s c e)
+first_out s c e = ap (step_of s) (refusing s c e)
 
 abbrev of_bool : Bool → ℕ
 of_bool true = 1
@@ -113,15 +119,15 @@ of_bool false = 0
 not_within : (s : Counts) → are_counts s ≡ false → Within s → ⊥
 not_within s e w = absurd (omega (arith, ap of_bool (sym (within-counts s w) ∙ e)))
 
-summed : (s : Counts) (cs : List Counts) → Kept s → Within s → within (onward (Some s) cs) ≡ limited (sum_from s cs)
+summed : (s : Counts) (cs : List Counts) → Kept s → Within s → within (onward (Ok s) cs) ≡ limited (sum_from s cs)
 summed s [] k w = rw (within-counts s w) refl
 summed s (c ∷ cs) k w = go (are_counts (added s c)) refl (summed (added s c) cs (added-kept s c))
   where
-    go : (b : Bool) → are_counts (added s c) ≡ b → (Within (added s c) → within (onward (Some (added s c)) cs) ≡ limited (sum_from (added s c) cs))
-        → within (onward (totalled (Some s) c) cs) ≡ limited (sum_from (added s c) cs)
-    go true e ih = ap (λ (t : Option Counts). within (onward t cs)) (first_on s c e) ∙ ih (is_Within (added s c) e)
+    go : (b : Bool) → are_counts (added s c) ≡ b → (Within (added s c) → within (onward (Ok (added s c)) cs) ≡ limited (sum_from (added s c) cs))
+        → within (onward (totalled (Ok s) c) cs) ≡ limited (sum_from (added s c) cs)
+    go true e ih = ap (λ (t : Result Counts Counts). within (onward t cs)) (first_on s c e) ∙ ih (is_Within (added s c) e)
     go false e ih =
-        ap (λ (t : Option Counts). within (onward t cs)) (first_out s c e) ∙ ap within (stuck cs)
+        ap (λ (t : Result Counts Counts). within (onward t cs)) (first_out s c e) ∙ ap within (stuck s cs)
         ∙ past (sum_from (added s c) cs) (are_counts (sum_from (added s c) cs)) refl (λ v. not_within (added s c) e (less-from (added s c) cs (added-kept s c) v))
 
 -- ---- the sums from nothing on are the sums

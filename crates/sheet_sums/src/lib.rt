@@ -52,21 +52,21 @@ fn no_counts() -> Counts
     }
 }
 
-// The sums so far; None once one is past the limit of a count.
-pub fn begin() -> Option<Counts>
+// The sums so far; Err has them as they were before one of them passed the limit of a count.
+pub fn begin() -> Result<Counts, Counts>
     ensures { result ≡ begun }
 {
-    Some(no_counts())
+    Ok(no_counts())
 }
 
-// One report more (rule C5).
-pub fn add(t: Option<Counts>, c: Counts) -> Option<Counts>
+// One report more; past the limit the sums stay (rule C5).
+pub fn add(t: Result<Counts, Counts>, c: Counts) -> Result<Counts, Counts>
     ensures { result ≡ totalled t c }
 {
     let counted = t?.add_test_suite(c);
     match counted.verdict {
-        Verdict::Accepted => Some(counted.counts),
-        Verdict::Refused => None,
+        Verdict::Accepted => Ok(counted.counts),
+        Verdict::Refused => Err(counted.counts),
     }
 }
 
@@ -94,13 +94,13 @@ fn refuse(cause: Cause) -> Released
 }
 
 // The sheet of n counts with these sums: 11 comes before 17 (rule C9).
-pub fn finish(n: usize, t: Option<Counts>) -> Released
+pub fn finish(n: usize, t: Result<Counts, Counts>) -> Released
     ensures { result ≡ released_from (finished n t) }
 {
     if MOST_REPORTS < n {
         return refuse(Cause::TooManyReports);
     }
-    let Some(sums) = t else {
+    let Ok(sums) = t else {
         return refuse(Cause::CountLimit);
     };
     Released {
