@@ -1,7 +1,7 @@
 // The order of the live records: docs/TREE.md.
 #![tactic(auto)]
 
-ghost use Rattle.std.specs.Prelude.{◌≡◌, ◌≤◌, ◌&&◌, length, leb};
+ghost use Rattle.std.specs.Prelude.{◌≡◌, ◌≤◌, ◌&&◌, length, leb, min};
 ghost use Rattle.tree_report.specs.of_tree_status.Status.{Few};
 ghost use Rattle.tree_report.specs.Layout as tree;
 ghost use Rattle.tree_order.specs.inside.Open.{number_of, state_of, fresh_of, status_behind};
@@ -15,6 +15,19 @@ pub enum Properties {
     Unbegun,
     AtHand,
     Over,
+}
+
+// Each number is one of the three: all above 1 are a list that is over.
+impl From<u32> for Properties {
+    fn from(n: u32) -> Properties
+        ensures { number_of result ≡ min n 2 }
+    {
+        match n {
+            0 => Properties::Unbegun,
+            1 => Properties::AtHand,
+            _ => Properties::Over,
+        }
+    }
 }
 
 // What is open behind a record: `level` elements, a report, a suite and a case.
