@@ -17,7 +17,17 @@ use area::least;
 pub fn same(a: &[u8], b: &[u8]) -> bool
     ensures { result ≡ same_bytes a.now b.now }
 {
-    a == b
+    if a.len() != b.len() {
+        return false;
+    }
+    // Not `==`: the compiler makes of it some sixteen instructions for each name of a table where fewer than four bytes are looked for, of this
+    // one branch for the whole table.
+    for i in 0..a.len() {
+        if a[i] != b[i] {
+            return false;
+        }
+    }
+    true
 }
 
 // The place of s, from 1, among the names that stand one behind the other in names, or 0.
