@@ -20,7 +20,10 @@ fn copy_words(out: &mut [u32], t: &[u32]) -> Option<usize>
     ensures out_after { out.new ≡ laid out.old t.now }
 {
     let n = t.len().min(out.len());
-    out[..n].copy_from_slice(&t[..n]);
+    // As `area::copy_into`.
+    for i in 0..n {
+        out[i] = t[i];
+    }
     if n < t.len() {
         return None;
     }
